@@ -52,7 +52,7 @@ abbrev pub is_iso_time : List ℕ → Bool
 is_iso_time text =
     is_time (up_to 32 text) && (slice_index_or text 10 0 == 84 && length (after 32 text) == 0)
 
--- the caller in brackets and a space: `[    T1] `, `[    C0] `
+-- the caller in brackets and a space: `[ T4711] `, `[    C0] `
 abbrev pub is_caller : List ℕ → Bool
 is_caller text =
     let caller = without_spaces (drop 1 text) in
@@ -64,7 +64,7 @@ abbrev pub is_after_brackets : List ℕ → Bool
 is_after_brackets text =
     bytes_eq text (codes " ") || (is_caller text || begins text (codes " ") && is_caller (drop 1 text))
 
--- a text in brackets with a digit in it, and a space: `[   12.500001] `, `[   12.500001][    T1] `,
+-- a text in brackets with a digit in it, and a space: `[   12.500001] `, `[   12.500001][ T4711] `,
 -- `[Sun Nov 29 13:36:01 2026] `
 abbrev pub is_bracketed : List ℕ → Bool
 is_bracketed text =

@@ -2,7 +2,6 @@
 -- more.
 use Rattle.std.proofs.Common.{◌≡◌, ℕ, List, [], ◌∷◌, ◌++◌, Result, Ok, Err, OnOk, OnErr, ap, sym, ◌∙◌}
 use Rattle.std.proofs.lemmas.List.{map_push}
-use Rattle.std.specs.declared.alloc.AllocError.{AllocError}
 use Rattle.erst_store.specs.Device.{Device}
 use Rattle.board_core.specs.declared.board.FileNo.{FileNo}
 use Rattle.board_core.specs.declared.board.FileNo.TheVariants.{Zero, One}
@@ -21,7 +20,7 @@ module _ (file0 file1 : List ℕ) (device : Device) (out : List ℕ) (events mor
   same : more ≡ events → after_changes (changes_of more) first ≡ held_with file0 file1 device out
   same is = ap (λ xs. after_changes (changes_of xs) first) is ∙ so_far
 
-  pub wrote_zero : (r : Result (Unit {0}) AllocError) (file : FileNo) (place : ℕ) (bytes new : List ℕ) → file ≡ Zero
+  pub wrote_zero : {E : Type 0} (r : Result (Unit {0}) E) (file : FileNo) (place : ℕ) (bytes new : List ℕ) → file ≡ Zero
       → OnOk r (new ≡ overlay place bytes file0) → OnOk r (changes_of more ≡ changes_of events ++ wrote file place bytes ∷ [])
       → OnErr r (new ≡ file0) → OnErr r (more ≡ events) → after_changes (changes_of more) first ≡ held_with new file1 device out
   wrote_zero (Ok done) file place bytes new is_zero written is none nothing =
@@ -29,7 +28,7 @@ module _ (file0 file1 : List ℕ) (device : Device) (out : List ℕ) (events mor
       ∙ ap (λ xs. held_with xs file1 device out) (sym written)
   wrote_zero (Err error) file place bytes new is_zero written is none nothing = same nothing ∙ ap (λ xs. held_with xs file1 device out) (sym none)
 
-  pub wrote_one : (r : Result (Unit {0}) AllocError) (file : FileNo) (place : ℕ) (bytes new : List ℕ) → file ≡ One
+  pub wrote_one : {E : Type 0} (r : Result (Unit {0}) E) (file : FileNo) (place : ℕ) (bytes new : List ℕ) → file ≡ One
       → OnOk r (new ≡ overlay place bytes file1) → OnOk r (changes_of more ≡ changes_of events ++ wrote file place bytes ∷ [])
       → OnErr r (new ≡ file1) → OnErr r (more ≡ events) → after_changes (changes_of more) first ≡ held_with file0 new device out
   wrote_one (Ok done) file place bytes new is_one written is none nothing =
@@ -37,7 +36,7 @@ module _ (file0 file1 : List ℕ) (device : Device) (out : List ℕ) (events mor
       ∙ ap (λ xs. held_with file0 xs device out) (sym written)
   wrote_one (Err error) file place bytes new is_one written is none nothing = same nothing ∙ ap (λ xs. held_with file0 xs device out) (sym none)
 
-  pub printed_out : (r : Result (Unit {0}) AllocError) (bytes new : List ℕ)
+  pub printed_out : {E : Type 0} (r : Result (Unit {0}) E) (bytes new : List ℕ)
       → OnOk r (new ≡ out ++ bytes) → OnOk r (changes_of more ≡ changes_of events ++ printed bytes ∷ [])
       → OnErr r (new ≡ out) → OnErr r (more ≡ events) → after_changes (changes_of more) first ≡ held_with file0 file1 device new
   printed_out (Ok done) bytes new appended is none nothing =

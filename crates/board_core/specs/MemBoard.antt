@@ -1,13 +1,14 @@
 -- What a board in memory is: what was done to it since it was new, and which calls fail.
-use Rattle.std.specs.Prelude.{◌≡◌, ℕ, ◌-◌, ◌^◌, ◌<◌, ◌≤◌, ◌⊎◌, Bool, ◌||◌, List, [], ◌∷◌, ◌++◌, length, IsTrue, ltb, Result, Ok, Err, IsErr}
+use Rattle.std.specs.Prelude.{◌≡◌, ℕ, ◌-◌, ◌^◌, ◌≤◌, ◌⊎◌, Bool, true, false, ◌||◌, List, [], ◌∷◌, ◌++◌, length, ltb, Result, Ok, Err}
 use Rattle.erst_store.specs.Store.{Stored}
 use Rattle.erst_store.specs.Device.{Device, Volatile, device_with, volatile_of, new_device}
 use Rattle.board_core.specs.declared.board.Access.{Access}
-use Rattle.board_core.specs.declared.board.Access.TheVariants.{Read}
 use Rattle.board_core.specs.declared.board.DiskCall.{DiskCall}
 use Rattle.board_core.specs.declared.board.FileNo.{FileNo}
 use Rattle.board_core.specs.declared.board.Reg.{Reg}
-use Rattle.board_core.specs.Cause.{Rose, Faults, Kind, FailsAs}
+use Rattle.board_core.specs.declared.mem_board.BoardCall.{BoardCall}
+use Rattle.board_core.specs.declared.mem_board.BoardCall.TheVariants.{Disk as OnDisk, Device as OnDevice, Put, Print}
+use Rattle.board_core.specs.Cause.{Faults, Kind, disk_call, device_call, print_call, count_of, with_count}
 use Rattle.board_core.specs.Clock.{Clock}
 use Rattle.board_core.specs.DiskModel.{Disk, DiskFile, Call, writes, syncs, stores, prints, after_all, disk_clock}
 use Rattle.board_core.specs.MemSource.{next_count, is_chosen}
@@ -153,53 +154,55 @@ new_board file0 file1 store slow = record {
   faults = no_faults;
 }
 
+-- ---- a call
+
 -- whether the next call was chosen to fail, by its number or since it comes past the last
 abbrev pub fails_next : State → Bool
 fails_next s = is_chosen (next_count s.made) s.fails || ltb s.allowed (next_count s.made)
 
--- A call fails exactly if its number was chosen, or it was refused a growth.
-pub record FailsAsChosen {T E : Type 0} (old new : State) (result : Result T E) : Type 0 where
-  pub only : IsErr result → IsTrue (fails_next old) ⊎ Rose old.starved new.starved
-  pub chosen : IsTrue (fails_next old) → IsErr result
-  pub starved : old.starved < new.starved → IsErr result
+abbrev pub call_kind : BoardCall → Kind
+call_kind (OnDisk call) = disk_call
+call_kind (OnDevice access) = device_call
+call_kind Put = device_call
+call_kind Print = print_call
 
--- The calls are numbered on, the chosen ones stay, and the number of refused growths never falls.
-pub record CountsCall (old new : State) : Type 0 where
-  pub made : new.made ≡ next_count old.made
-  pub fails : new.fails ≡ old.fails
-  pub allowed : new.allowed ≡ old.allowed
-  pub starved : old.starved ≤ new.starved
+-- the lists with a call more
+abbrev pub with_disk_call : BoardCall → List DiskCall → List DiskCall
+with_disk_call (OnDisk call) calls = calls ++ call ∷ []
+with_disk_call other calls = calls
 
--- A call was made: this is the past after it, the calls are numbered on, and it failed exactly
--- where it was to, with the count of its kind.
-pub record Performs {T E : Type 0} (kind : Kind) (past : Past) (old new : State) (result : Result T E) : Type 0 where
-  pub past_is : new.past ≡ past
-  pub counted : CountsCall old new
-  pub exact : FailsAsChosen old new result
-  pub cause : FailsAs kind old.faults new.faults result
+abbrev pub with_device_call : BoardCall → List Access → List Access
+with_device_call (OnDevice access) accesses = accesses ++ access ∷ []
+with_device_call other accesses = accesses
 
--- A list with one call more. Only one that failed for a refused growth may be left out, and not one
--- that was chosen to fail.
-abbrev pub IsListed : {T E X : Type 0} → Result T E → X → List X → List X → Type 0 → Type 0
-IsListed (Ok value) call old new starved = new ≡ old ++ call ∷ []
-IsListed (Err error) call old new starved = (new ≡ old ++ call ∷ []) ⊎ ((new ≡ old) × starved)
+-- a board that has counted a call, and one that has listed it
+abbrev pub counted : State → State
+counted s = record s { made = next_count s.made }
 
--- a disk call is listed, and no access
-pub record ListsCall {T E : Type 0} (call : DiskCall) (old new : State) (result : Result T E) : Type 0 where
-  pub disk_calls : IsListed result call old.disk_calls new.disk_calls (Rose old.starved new.starved)
-  pub accesses : new.accesses ≡ old.accesses
+abbrev pub listed : BoardCall → State → State
+listed call s = record s {
+  disk_calls = with_disk_call call s.disk_calls;
+  accesses = with_device_call call s.accesses;
+}
 
--- an access is listed, and no disk call
-pub record ListsAccess {T E : Type 0} (access : Access) (old new : State) (result : Result T E) : Type 0 where
-  pub disk_calls : new.disk_calls ≡ old.disk_calls
-  pub accesses : IsListed result access old.accesses new.accesses (Rose old.starved new.starved)
+-- A fault of the call's kind more: its count never falls.
+pub record Faulted (call : BoardCall) (old new : State) : Type 0 where
+  pub is : new ≡ record old { faults = with_count (call_kind call) (next_count (count_of (call_kind call) old.faults)) old.faults }
+  pub later : count_of (call_kind call) old.faults ≤ count_of (call_kind call) new.faults
 
--- nothing is listed
-pub record ListsNone (old new : State) : Type 0 where
-  pub disk_calls : new.disk_calls ≡ old.disk_calls
-  pub accesses : new.accesses ≡ old.accesses
+-- a board with a refused growth more
+abbrev pub with_refusal : State → State
+with_refusal s = record s { starved = next_count s.starved }
 
--- an access as it is listed if it failed: a read gave no number
-abbrev pub failed_access : Access → Access
-failed_access (Read reg value) = Read reg 0
-failed_access access = access
+-- A call was refused a growth: of its list, so that it isn't listed, or of what it changes.
+abbrev pub IsRefused : BoardCall → State → State → Type 0
+IsRefused call old new = Faulted call (with_refusal old) new ⊎ Faulted call (with_refusal (listed call old)) new
+
+-- A call was made, and is counted. Either it went well: then it wasn't to fail, is listed, and this
+-- is the past after it. Or it failed: then it was to and is listed, or it was refused a growth, and
+-- nothing else changed but the count of its faults.
+abbrev pub Performs : {T E : Type 0} → BoardCall → Past → State → State → Result T E → Type 0
+Performs call past old new (Ok value) =
+    (fails_next old ≡ false) × (new ≡ record (listed call (counted old)) { past = past })
+Performs call past old new (Err error) =
+    ((fails_next old ≡ true) × Faulted call (listed call (counted old)) new) ⊎ IsRefused call (counted old) new

@@ -6,7 +6,8 @@ ghost use Rattle.board_core.specs.Told.{overlay};
 
 use crate::FileNo;
 use crate::history::{MemChange, MemFile};
-use std::alloc::{AllocError, Global};
+use ras_base::NoMemory;
+use std::alloc::Global;
 
 /// Keeps the bytes and what the file began with, and writes them.
 pub fn write(
@@ -16,7 +17,7 @@ pub fn write(
     number: FileNo,
     place: u64,
     bytes: &[u8],
-) -> Result<(), AllocError>
+) -> Result<(), NoMemory>
     requires { place ≤ length file.old.bytes.items }
     ensures file { OnOk result (file.new.bytes.items ≡ overlay place bytes.now file.old.bytes.items) }
     ensures events { OnOk result (changes_of events.new.items
@@ -34,7 +35,7 @@ pub fn write(
 }
 
 // Keeps what the file began with, unless it was kept before.
-fn keep_first(alloc: Global, file: &mut MemFile) -> Result<(), AllocError>
+fn keep_first(alloc: Global, file: &mut MemFile) -> Result<(), NoMemory>
     ensures bytes { file.new.bytes ≡ file.old.bytes }
     ensures first { first_bytes file.new ≡ first_bytes file.old }
     ensures kept { OnOk result (IsSome file.new.first) }
@@ -51,7 +52,7 @@ pub fn print(
     out: &mut Vec<u8>,
     events: &mut Vec<MemChange>,
     bytes: &[u8],
-) -> Result<(), AllocError>
+) -> Result<(), NoMemory>
     ensures out { OnOk result (out.new.items ≡ out.old.items ++ bytes.now) }
     ensures events { OnOk result (changes_of events.new.items
         ≡ changes_of events.old.items ++ printed bytes.now ∷ []) }
@@ -66,7 +67,7 @@ pub fn print(
 }
 
 /// Writes bytes over what is there and past the end, in place.
-pub fn overlay_bytes(file: &mut Vec<u8>, place: usize, bytes: &[u8]) -> Result<(), AllocError>
+pub fn overlay_bytes(file: &mut Vec<u8>, place: usize, bytes: &[u8]) -> Result<(), NoMemory>
     requires { place ≤ length file.old.items }
     ensures ok { OnOk result (file.new.items ≡ overlay place bytes.now file.old.items) }
     ensures err { OnErr result (file.new.items ≡ file.old.items) }

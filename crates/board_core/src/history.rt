@@ -7,14 +7,14 @@ ghost use Rattle.erst_store.specs.Store.{refusal_of, AnswersRefusal};
 ghost use Rattle.board_core.specs.MemBoard.{Past, new_past, new_held, with_change, past_after, wrote, synced, acted, printed, wrote_register, wrote_range, put_record, device_in, disk_of, held_of};
 ghost use Rattle.board_core.specs.Pick.{IsPicked};
 ghost use Rattle.board_core.specs.Stop.{file_in, with_file_in};
-ghost use Rattle.board_core.specs.Told.{register_in, after_reg_write};
+ghost use Rattle.board_core.specs.Told.{register_in};
 
 use crate::events::{print, write};
 use crate::leaving::picked_bytes;
 use crate::{FileNo, Pick, Reg};
 use erst_store::{Dev, PutRefused, Store};
 use ras_base::NoMemory;
-use std::alloc::{AllocError, Global};
+use std::alloc::Global;
 use std::marker::Model;
 
 /// Two files, a device and an output in memory, with a record of all that was done to them.
@@ -85,9 +85,8 @@ impl History {
         store: Store,
         slow: u64,
     ) -> Result<History, NoMemory>
-        ensures new { IfOk result (λ history. history
+        ensures { IfOk result (λ history. history
             ≡ new_past (new_held file0.items file1.items store slow)) }
-        ensures device { IfOk result (λ history. IsDevice (device_in (held_of history))) }
     {
         let first_store = store.copy(alloc)?;
         Ok(History {
@@ -141,7 +140,8 @@ impl History {
 
     /// The record store.
     pub fn store(&self) -> &Store
-        ensures { result.now ≡ (held_of self.now).here.store }
+        ensures same { result.now ≡ (held_of self.now).here.store }
+        ensures device { IsDevice (device_in (held_of self.now)) }
     {
         self.device.store()
     }
@@ -166,7 +166,7 @@ impl History {
     }
 
     /// Writes bytes at a place of a file that is at most its length.
-    pub fn write(&mut self, file: FileNo, place: u64, bytes: &[u8]) -> Result<(), AllocError>
+    pub fn write(&mut self, file: FileNo, place: u64, bytes: &[u8]) -> Result<(), NoMemory>
         requires { place ≤ length (file_in file (held_of self.old).here) }
         ensures ok { OnOk result (self.new ≡ with_change (wrote file place bytes.now) self.old) }
         ensures err { OnErr result (self.new ≡ self.old) }
@@ -192,7 +192,7 @@ impl History {
     }
 
     /// Notes that a file is settled as it is.
-    pub fn sync(&mut self, file: FileNo) -> Result<(), AllocError>
+    pub fn sync(&mut self, file: FileNo) -> Result<(), NoMemory>
         ensures ok { OnOk result (self.new ≡ with_change (synced file) self.old) }
         ensures err { OnErr result (self.new ≡ self.old) }
     {
@@ -201,19 +201,22 @@ impl History {
     }
 
     /// Writes a number to a register of the device.
-    pub fn write_register(&mut self, reg: Reg, value: u64) -> Result<(), AllocError>
+    pub fn write_register(&mut self, reg: Reg, value: u64) -> Result<(), NoMemory>
         ensures ok { OnOk result (self.new
             ≡ with_change (acted (wrote_register reg value)) self.old) }
         ensures err { OnErr result (self.new ≡ self.old) }
     {
         self.events.reserve(1)?;
-        write_register(&mut self.device, reg, value)?;
+        match reg {
+            Reg::Action => self.device.write_action(value)?,
+            Reg::Value => self.device.write_value(value),
+        }
         self.events.push(MemChange::WroteRegister(reg, value))?;
         Ok(())
     }
 
     /// Writes bytes into the device's range from a place on.
-    pub fn range_write(&mut self, place: u32, bytes: &[u8]) -> Result<(), AllocError>
+    pub fn range_write(&mut self, place: u32, bytes: &[u8]) -> Result<(), NoMemory>
         requires { place + length bytes.now ≤ range_length }
         ensures ok { OnOk result (self.new
             ≡ with_change (acted (wrote_range place bytes.now)) self.old) }
@@ -227,7 +230,7 @@ impl History {
 
     /// Puts a record into the store, and answers what the store answers, unless the record of the
     /// put can't be kept.
-    pub fn put(&mut self, id: u64, bytes: &[u8]) -> Result<Result<(), PutRefused>, AllocError>
+    pub fn put(&mut self, id: u64, bytes: &[u8]) -> Result<Result<(), PutRefused>, NoMemory>
         ensures past { IfOk result (λ put. self.new
             ≡ past_after put (acted (put_record id bytes.now)) self.old) }
         ensures answers { IfOk result
@@ -246,7 +249,7 @@ impl History {
     }
 
     /// Appends bytes to the output.
-    pub fn print(&mut self, bytes: &[u8]) -> Result<(), AllocError>
+    pub fn print(&mut self, bytes: &[u8]) -> Result<(), NoMemory>
         ensures ok { OnOk result (self.new ≡ with_change (printed bytes.now) self.old) }
         ensures err { OnErr result (self.new ≡ self.old) }
     {
@@ -254,7 +257,7 @@ impl History {
     }
 
     /// Both files as they are picked, and the store.
-    pub fn into_left(self, pick: Pick) -> Result<(Vec<u8>, Vec<u8>, Store, u64), AllocError>
+    pub fn into_left(self, pick: Pick) -> Result<(Vec<u8>, Vec<u8>, Store, u64), NoMemory>
         ensures zero { IfOk result
             (λ left. IsPicked pick (disk_of self).zero (held_of self).here.file0 left.0.items) }
         ensures one { IfOk result
@@ -273,22 +276,5 @@ impl History {
         let file0 = picked_bytes(zero, &events, FileNo::Zero, pick)?;
         let file1 = picked_bytes(one, &events, FileNo::One, pick)?;
         Ok((file0, file1, device.into_store(), slow))
-    }
-}
-
-// Writes a number to a register of a device.
-fn write_register(device: &mut Dev, reg: Reg, value: u64) -> Result<(), AllocError>
-    ensures ok { OnOk result (device.new ≡ after_reg_write reg value device.old) }
-    ensures err { OnErr result (device.new ≡ device.old) }
-{
-    match reg {
-        Reg::Action => match device.write_action(value) {
-            Ok(()) => Ok(()),
-            Err(NoMemory) => Err(AllocError),
-        },
-        Reg::Value => {
-            device.write_value(value);
-            Ok(())
-        }
     }
 }

@@ -8,7 +8,7 @@ ghost use Rattle.board_core.specs.Pick.{IsFilled, IsPicked};
 use crate::events::overlay_bytes;
 use crate::history::{MemChange, MemFile};
 use crate::{FileNo, Pick};
-use std::alloc::AllocError;
+use ras_base::NoMemory;
 
 /// The file of this number as it is picked, if these events made it what it is.
 pub fn picked_bytes(
@@ -16,7 +16,7 @@ pub fn picked_bytes(
     events: &[MemChange],
     number: FileNo,
     pick: Pick,
-) -> Result<Vec<u8>, AllocError>
+) -> Result<Vec<u8>, NoMemory>
     ensures { IfOk result (λ taken. IsPicked pick
         (disk_after_all number (changes_of events.now) (first_bytes file)
         (settled_file (first_bytes file))) file.bytes.items taken.items) }
@@ -62,7 +62,7 @@ fn syncs(event: &MemChange, number: FileNo) -> bool
 }
 
 // Writes again what these events wrote into a file.
-fn repeat(bytes: &mut Vec<u8>, events: &[MemChange], number: FileNo) -> Result<(), AllocError>
+fn repeat(bytes: &mut Vec<u8>, events: &[MemChange], number: FileNo) -> Result<(), NoMemory>
     ensures { OnOk result (bytes.new.items ≡ bytes_after_all number (changes_of events.now)
         bytes.old.items) }
 {
@@ -73,7 +73,7 @@ fn repeat(bytes: &mut Vec<u8>, events: &[MemChange], number: FileNo) -> Result<(
 }
 
 // No write began past the file's end.
-fn repeat_one(bytes: &mut Vec<u8>, event: &MemChange, number: FileNo) -> Result<(), AllocError>
+fn repeat_one(bytes: &mut Vec<u8>, event: &MemChange, number: FileNo) -> Result<(), NoMemory>
     ensures { OnOk result (bytes.new.items ≡ bytes_after number (change_of event.now) bytes.old.items) }
 {
     match event {

@@ -1,20 +1,20 @@
 -- What a topology keeps as rows are added.
-use Rattle.std.proofs.Common.{◌≡◌, ℕ, ◌≤◌, ◌<◌, Bool, true, false, ◌&&◌, ◌||◌, Option, Some, None, Result, List, [], ◌∷◌, ◌++◌, length, refl, ◌∙◌, arith, filter, length-append, append-nil}
-use Rattle.std.specs.Prelude.{OnOk, OnErr, Ok, Err, nat_le, nat_eq, max, IsSome, if◌then◌else◌}
+use Rattle.std.proofs.Common.{◌≡◌, ℕ, ◌≤◌, ◌<◌, Bool, true, false, ◌&&◌, ◌||◌, Some, Result, List, [], ◌∷◌, ◌++◌, length, refl, ◌∙◌, arith, length-append}
+use Rattle.std.specs.Prelude.{OnOk, OnErr, Ok, Err, nat_le, nat_eq, max, IsSome}
 use Rattle.std.proofs.lemmas.Grind.{common_steps}
 use Rattle.std.proofs.lemmas.Bool.Decides.{nat_tests}
 use Rattle.std.proofs.lemmas.List.Folds.{list_any-append, list_all-append}
-use Rattle.std.proofs.lemmas.List.Elements.{filter-append, filter_map-append}
-use Rattle.std.specs.List.{list_any, list_all, filter_map, last_or}
+use Rattle.std.specs.List.{list_any, list_all}
 use Rattle.dimm_topology.specs.Labels.{Bytes}
 use Rattle.dimm_topology.specs.declared.row.Row.{Row}
 use Rattle.dimm_topology.specs.declared.row.Row.TheVariants.{Cpu, Module, Range, Place}
 use Rattle.dimm_topology.specs.declared.topology.TopologyRefused.{TopologyRefused}
-use Rattle.dimm_topology.specs.Rows.{is_range_over, overlap, names_module, is_labelled, is_module_of, socket_of}
+use Rattle.dimm_topology.specs.Rows.{is_range_over, overlap, names_module, is_labelled, is_module_of}
 use Rattle.dimm_topology.specs.Owners.{owner_of_address, socket_by_rows}
 use Rattle.dimm_topology.specs.Refusals.{SharesAddress, AnswersRow, row_refusal}
 use Rattle.dimm_topology.specs.Topology.{IsApart, IsTopology, is_upright}
 use Rattle.dimm_topology.proofs.OwnerLemmas.{overlap_at, none_over}
+use Rattle.dimm_topology.proofs.TableLemmas.{same_owner, socket_more}
 
 -- which of two rows is named first says nothing
 overlap_turned : (one other : Row) → overlap one other ≡ overlap other one
@@ -61,22 +61,11 @@ topology_more rows row topology named free upright labelled small = record {
   small = grind (arith, common_steps, length-append rows (row ∷ []));
 }
 
--- the rows after a push that may have found no memory
-pub pushed : (b : Bool) (rows new : List Row) (row : Row) → new ≡ (if b then rows ++ row ∷ [] else rows) → IsTopology rows → IsTopology (rows ++ row ∷ []) → IsTopology new
-pushed true rows new row e old more = rw e more
-pushed false rows new row e old more = rw e old
-
 -- a row that is no range over an address leaves its owner
 pub other_row : (result : Result (Unit {0}) TopologyRefused) (old new : List Row) (row : Row) → ((address : ℕ) → is_range_over address row ≡ false)
     → OnOk result (new ≡ old ++ row ∷ []) → OnErr result (new ≡ old) → (address : ℕ) → owner_of_address new address ≡ owner_of_address old address
-other_row result old new row other ok err address = by result ok err
-  where
-    more : filter (is_range_over address) (old ++ row ∷ []) ≡ filter (is_range_over address) old
-    more = filter-append (is_range_over address) old (row ∷ []) ∙ rw (other address) (append-nil (filter (is_range_over address) old))
-
-    by : (result : Result (Unit {0}) TopologyRefused) → OnOk result (new ≡ old ++ row ∷ []) → OnErr result (new ≡ old) → owner_of_address new address ≡ owner_of_address old address
-    by (Ok done) ok err = rw (ok, more) refl
-    by (Err refused) ok err = rw err refl
+other_row (Ok done) old new row other ok err address = rw ok (same_owner old row address (other address))
+other_row (Err refused) old new row other ok err address = rw err refl
 
 -- a range shares an address with a held one that it overlaps
 pub shares : (label : Bytes) (first last : ℕ) (rows : List Row) → first ≤ last → list_all is_upright rows ≡ true
@@ -100,18 +89,12 @@ overlaps_at label first last address (row ∷ rows) low high held =
     let over : is_range_over address (Range label first last) ≡ true = grind (arith, nat_tests) in
     grind (arith, common_steps, overlap_at address (Range label first last) row over, overlaps_at label first last address rows low high)
 
-last_added : (xs : List ℕ) (first : Option ℕ) (x : ℕ) → last_or first (xs ++ x ∷ []) ≡ Some x
-last_added [] first x = refl
-last_added (y ∷ xs) first x = last_added xs (Some y) x
-
 -- a CPU row that is added gives the CPU its socket
 pub last_socket : (result : Result (Unit {0}) TopologyRefused) (old new : List Row) (cpu socket : ℕ) → OnOk result (new ≡ old ++ Cpu cpu socket ∷ []) → OnOk result (socket_by_rows new cpu ≡ Some socket)
 last_socket (Err refused) old new cpu socket ok = tt
 last_socket (Ok done) old new cpu socket ok =
     let own : nat_eq cpu cpu ≡ true = grind (arith, nat_tests) in
-    let more : filter_map (socket_of cpu) (old ++ Cpu cpu socket ∷ []) ≡ filter_map (socket_of cpu) old ++ socket ∷ [] =
-    filter_map-append (socket_of cpu) old (Cpu cpu socket ∷ []) ∙ rw own refl in
-    rw (ok, more) (last_added (filter_map (socket_of cpu) old) None socket)
+    rw ok (socket_more old cpu socket cpu ∙ rw own refl)
 
 -- where an address is in a range, a row that overlaps none doesn't hold it
 not_over : (address : ℕ) (row : Row) (rows : List Row) → list_any (overlap row) rows ≡ false → IsSome (owner_of_address rows address) → is_range_over address row ≡ false
@@ -127,6 +110,4 @@ pub range_keeps : (result : Result (Unit {0}) TopologyRefused) (old new : List R
 range_keeps (Err refused) old new row answer ok err address owned = rw err refl
 range_keeps (Ok done) old new row answer ok err address owned =
     let free : list_any (overlap row) old ≡ false = grind (arith, common_steps, answer) in
-    let more : filter (is_range_over address) (old ++ row ∷ []) ≡ filter (is_range_over address) old =
-    filter-append (is_range_over address) old (row ∷ []) ∙ rw (not_over address row old free owned) (append-nil (filter (is_range_over address) old)) in
-    rw (ok, more) refl
+    rw ok (same_owner old row address (not_over address row old free owned))

@@ -40,10 +40,6 @@ is_at (Numbers node card module') (Module label socket bank channel) = false
 is_at (Numbers node card module') (Place label node' card' module'') =
     nat_eq node node' && nat_eq card card' && nat_eq module' module''
 
--- whether a row names this label
-abbrev pub names : Bytes → Row → Bool
-names label row = option_map_or (same_label label) (label_in row) false
-
 -- whether a row is a range that holds an address; both ends belong to a range
 abbrev pub is_range_over : ℕ → Row → Bool
 is_range_over address (Range label first last) = nat_le first address && nat_le address last

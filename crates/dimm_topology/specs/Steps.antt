@@ -1,3 +1,5 @@
 -- What only proofs use: no public clause comes to it.
 pub mod LabelRoom
 pub mod LabelLemmas
+pub mod Ranges
+pub mod Tables

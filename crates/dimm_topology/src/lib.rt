@@ -7,7 +7,9 @@
 
 mod label;
 mod laws;
+mod ranges;
 mod row;
+mod tables;
 mod topology;
 
 pub use label::{Label, LabelRefused, MOST_LABEL_BYTES};

@@ -2,12 +2,12 @@
 
 ghost use Rattle.std.specs.Prelude.{◌≡◌, IsTrue, Option};
 ghost use Rattle.std.specs.Option.{option_copied};
-ghost use Rattle.dimm_topology.specs.Rows.{socket_of, label_in, is_labelled, is_at, names, is_range_over, is_module_of, overlap};
+ghost use Rattle.dimm_topology.specs.Rows.{label_in, is_labelled};
 
 use crate::Label;
 
 /// Where a report says that an error is, besides its address.
-#[derive(Clone, Copy, Debug, PartialEq, Eq)]
+#[derive(Clone, Copy, Debug, PartialEq, Eq, Hash)]
 pub enum Location {
     /// A memory channel, of a machine-check bank in a socket.
     Channel { socket: u8, bank: u8, channel: u8 },
@@ -47,16 +47,6 @@ pub enum Row {
 }
 
 impl Row {
-    // The socket that a CPU row gives this CPU.
-    pub(crate) fn socket_of(&self, cpu: u16) -> Option<u8>
-        ensures { result ≡ socket_of cpu self.now }
-    {
-        match self {
-            Row::Cpu { cpu: held, socket } if *held == cpu => Some(*socket),
-            _ => None,
-        }
-    }
-
     // The label that the row names.
     pub(crate) fn label(&self) -> Option<&Label>
         ensures label { option_copied result ≡ label_in self.now }
@@ -69,90 +59,6 @@ impl Row {
                 let _ = label.bytes();
                 Some(label)
             }
-        }
-    }
-
-    // Whether this row says which module is at this location.
-    pub(crate) fn is_at(&self, location: Location) -> bool
-        ensures { result ≡ is_at location self.now }
-    {
-        match (self, location) {
-            (
-                Row::Module {
-                    label: _,
-                    socket,
-                    bank,
-                    channel,
-                },
-                Location::Channel {
-                    socket: s,
-                    bank: b,
-                    channel: c,
-                },
-            ) => (s, b, c) == (*socket, *bank, *channel),
-            (
-                Row::Place {
-                    label: _,
-                    node,
-                    card,
-                    module,
-                },
-                Location::Numbers {
-                    node: n,
-                    card: c,
-                    module: m,
-                },
-            ) => (n, c, m) == (*node, *card, *module),
-            _ => false,
-        }
-    }
-
-    // Whether this row names this label.
-    pub(crate) fn names(&self, label: &Label) -> bool
-        ensures { result ≡ names label.now self.now }
-    {
-        match self {
-            Row::Cpu { .. } => false,
-            Row::Module { label: held, .. }
-            | Row::Range { label: held, .. }
-            | Row::Place { label: held, .. } => label == held,
-        }
-    }
-
-    // Whether this is a range that holds this address.
-    pub(crate) fn is_range_over(&self, address: u64) -> bool
-        ensures { result ≡ is_range_over address self.now }
-    {
-        match self {
-            Row::Range { first, last, .. } => (*first..=*last).contains(&address),
-            _ => false,
-        }
-    }
-
-    // Whether this is a module row of this label.
-    pub(crate) fn is_module_of(&self, label: &Label) -> bool
-        ensures { result ≡ is_module_of label.now self.now }
-    {
-        match self {
-            Row::Module { label: held, .. } => label == held,
-            _ => false,
-        }
-    }
-
-    // Whether this and another row are ranges with an address in common.
-    pub(crate) fn overlaps(&self, other: &Row) -> bool
-        ensures { result ≡ overlap self.now other.now }
-    {
-        match (self, other) {
-            (
-                Row::Range { first, last, .. },
-                Row::Range {
-                    first: other_first,
-                    last: other_last,
-                    ..
-                },
-            ) => first <= other_last && other_first <= last,
-            _ => false,
         }
     }
 }

@@ -1,19 +1,22 @@
 //! The rows of a machine, and the owners of errors by them.
 
-ghost use Rattle.std.specs.Prelude.{◌≡◌, ◌≤◌, ◌↔◌, ℕ, List, [], ◌∷◌, ◌++◌, length, Option, Some, IsTrue, IfSome, IsSome, OnOk, OnErr, filter, slice_get};
-ghost use Rattle.std.specs.List.{list_any, list_all, find};
+ghost use Rattle.std.specs.Prelude.{◌≡◌, ◌≤◌, ◌<◌, ◌↔◌, ℕ, List, [], ◌∷◌, ◌++◌, length, Option, Some, IsTrue, IfSome, IsSome, OnOk, OnErr};
+ghost use Rattle.std.specs.Bool.{IsFalse};
+ghost use Rattle.std.specs.List.{list_any};
 ghost use Rattle.std.specs.Option.{option_copied};
 ghost use Rattle.dimm_topology.specs.declared.row.Row.{Row};
 ghost use Rattle.dimm_topology.specs.Labels.{is_label_or_none};
-ghost use Rattle.dimm_topology.specs.Rows.{names_module, labels_of_rows, overlap, is_at, names, is_range_over, is_module_label};
+ghost use Rattle.dimm_topology.specs.Rows.{names_module, overlap, is_module_label};
 ghost use Rattle.dimm_topology.specs.Refusals.{row_refusal, topology_number, AnswersRow, SharesAddress};
 ghost use Rattle.dimm_topology.specs.Owners.{owner_by_rows, owner_of_address, owner_at, socket_by_rows, channel_of, bank_location, section_location, ranges_over};
-ghost use Rattle.dimm_topology.specs.Topology.{is_upright, IsApart, IsTopology};
+ghost use Rattle.dimm_topology.specs.Topology.{is_upright, IsTopology};
 
 use crate::Label;
 use crate::row::{Location, Row};
+use crate::tables::Tables;
 use cper_sections::MemSection;
 use mca_codes::Code;
+use ras_base::NoMemory;
 use std::alloc::Global;
 use std::marker::Model;
 use thiserror::Error;
@@ -28,18 +31,22 @@ pub const MOST_ROWS: usize = 4_096;
 #[derive(Debug, Drop)]
 pub struct Topology {
     rows: Vec<Row>,
+
+    // What the rows tell.
+    tables: Tables,
 }
 
 impl Model for Topology {
     ghost use Rattle.std.specs.Prelude.{List};
     ghost use Rattle.dimm_topology.specs.declared.row.Row.{Row};
     ghost use Rattle.dimm_topology.specs.Topology.{IsTopology};
+    ghost use Rattle.dimm_topology.specs.Steps.Tables.{Tells};
 
     ghost Value = { List Row };
 
     ghost view = { λ a. a.rows.items };
 
-    ghost invariant = { λ a. IsTopology a.rows.items };
+    ghost invariant = { λ a. IsTopology a.rows.items × Tells a.rows.items a.tables };
 }
 
 /// Why a topology doesn't take a row. If several apply, the first of them is answered.
@@ -80,6 +87,7 @@ impl Topology {
     {
         Topology {
             rows: Vec::new(alloc),
+            tables: Tables::new(alloc),
         }
     }
 
@@ -231,11 +239,9 @@ impl Topology {
     // The owner of an error: that of its address, else that of its location.
     fn owner(&self, address: Option<u64>, location: Option<Location>) -> Option<&Label>
         ensures owner { option_copied result ≡ owner_by_rows self.now address location }
-        ensures one_range { (held : ℕ) → length (ranges_over self.now held) ≤ 1 }
-        ensures named { IfSome result (λ label. IsTrue (is_module_label self.now label.now)) }
-        ensures valid { IfSome result (λ label. IsTrue (is_label_or_none label.now)) }
+        ensures topology { IsTopology self.now }
     {
-        // So that the clauses above can tell what holds of every topology.
+        // So that the clause above can tell what holds of every topology.
         let _ = &self.rows;
         match address.and_then(|address| self.owner_of_address(address)) {
             Some(label) => Some(label),
@@ -265,12 +271,27 @@ impl Topology {
         if self.rows.len() >= MOST_ROWS {
             return Err(TopologyRefused::Full);
         }
+        match self.hold(row) {
+            Ok(()) => Ok(()),
+            Err(NoMemory) => Err(TopologyRefused::NoMemory),
+        }
+    }
+
+    // Holds a row that is fit to come after the others.
+    fn hold(&mut self, row: Row) -> Result<(), NoMemory>
+        requires upright { IsTrue (is_upright row) }
+        requires named { IsTrue (names_module self.old row) }
+        requires apart { IsFalse (list_any (overlap row) self.old) }
+        requires small { length self.old < 4096 }
+        ensures ok { OnOk result (self.new ≡ self.old ++ row ∷ []) }
+        ensures err { OnErr result (self.new ≡ self.old) }
+    {
         // So that the rows are known to name labels alone.
         let _ = row.label();
-        match self.rows.push(row) {
-            Ok(()) => Ok(()),
-            Err(_) => Err(TopologyRefused::NoMemory),
-        }
+        self.rows.reserve(1)?;
+        self.tables.take(&row)?;
+        self.rows.push(row)?;
+        Ok(())
     }
 
     // Whether a row names a module that the rows have, as a range and a place must.
@@ -287,29 +308,23 @@ impl Topology {
     fn is_module_label(&self, label: &Label) -> bool
         ensures { result ≡ is_module_label self.now label.now }
     {
-        self.rows.iter().any(|row| row.is_module_of(label))
+        self.tables.modules.contains(label)
     }
 
     // Whether a row is a range that has an address in common with one that is held.
     fn has_overlap(&self, row: &Row) -> bool
+        requires { IsTrue (is_upright row.now) }
         ensures { result ≡ list_any (overlap row.now) self.now }
     {
-        self.rows.iter().any(|held| row.overlaps(held))
+        self.tables.meets_one(row)
     }
 
     // The label of the range that holds an address.
     fn owner_of_address(&self, address: u64) -> Option<&Label>
         ensures { option_copied result ≡ owner_of_address self.now address }
     {
-        self.range_over(address)?.label()
-    }
-
-    // The range that holds an address.
-    fn range_over(&self, address: u64) -> Option<&Row>
-        ensures row { option_copied result ≡ find (is_range_over address) self.now }
-        ensures apart { IsApart self.now }
-    {
-        self.rows.iter().find(|row| row.is_range_over(address))
+        let range = self.tables.ranges.meeting(address, address)?;
+        Some(&range.label)
     }
 
     // The location of an error in a bank.
@@ -329,39 +344,14 @@ impl Topology {
     fn socket(&self, cpu: u16) -> Option<u8>
         ensures { result ≡ socket_by_rows self.now cpu }
     {
-        self.rows.iter().filter_map(|row| row.socket_of(cpu)).last()
+        self.tables.sockets.get(&cpu).copied()
     }
 
     // The one label that the rows of a location name.
     fn owner_at(&self, location: Location) -> Option<&Label>
         ensures { option_copied result ≡ owner_at self.now location }
     {
-        let owner = self.label_at(location)?;
-        self.all_name(owner, location).then_some(owner)
-    }
-
-    // The label of the first row of a location.
-    fn label_at(&self, location: Location) -> Option<&Label>
-        ensures { option_copied result ≡ slice_get (labels_of_rows (filter (is_at location) self.now)) 0 }
-    {
-        self.row_at(location)?.label()
-    }
-
-    // The first row of a location.
-    fn row_at(&self, location: Location) -> Option<&Row>
-        ensures { option_copied result ≡ find (is_at location) self.now }
-    {
-        self.rows.iter().find(|row| row.is_at(location))
-    }
-
-    // Whether all rows of a location name this label.
-    fn all_name(&self, label: &Label, location: Location) -> bool
-        ensures { result ≡ list_all (names label.now) (filter (is_at location) self.now) }
-    {
-        self.rows
-            .iter()
-            .filter(|row| row.is_at(location))
-            .all(|row| row.names(label))
+        self.tables.owners.get(&location)?.as_ref()
     }
 }
 

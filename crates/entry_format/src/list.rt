@@ -34,7 +34,8 @@ fn whole_list(
     count: u32,
     bytes: &[u8],
 ) -> Result<Vec<Entry>, EntryRefused>
-    ensures { ReadsUnlessMemory (λ entries. entries.items) result (whole_at (many_at (entry_at version) count) bytes.now) }
+    ensures { ReadsUnlessMemory (λ entries. entries.items) result
+        (whole_at (many_at (entry_at version) count) bytes.now) }
 {
     let (entries, rest) = many_entries_at(alloc, version, count, bytes)?;
     if rest.is_empty() {

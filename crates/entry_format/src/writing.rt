@@ -25,11 +25,14 @@ pub fn push_name(bytes: &mut Vec<u8>, name: &Name) -> Result<(), NoMemory>
             bank,
             tsc,
         } => {
-            bytes.push(BANK)?;
-            push_u64(bytes, *boot)?;
-            push_u16(bytes, *cpu)?;
-            bytes.push(*bank)?;
-            push_u64(bytes, *tsc)
+            let [b0, b1, b2, b3, b4, b5, b6, b7] = boot.to_le_bytes();
+            let [c0, c1] = cpu.to_le_bytes();
+            let [t0, t1, t2, t3, t4, t5, t6, t7] = tsc.to_le_bytes();
+            let spelled = [
+                BANK, b0, b1, b2, b3, b4, b5, b6, b7, c0, c1, *bank, t0, t1, t2, t3, t4, t5, t6, t7,
+            ];
+            bytes.extend_from_slice(&spelled)?;
+            Ok(())
         }
         Name::Record { id } => {
             bytes.push(RECORD)?;

@@ -1,6 +1,8 @@
 -- What is read is spelled so, and what is spelled so is read.
 use Rattle.std.proofs.Common.{◌≡◌, ℕ, zero, suc, ◌+◌, ◌-◌, ◌^◌, ◌<◌, ◌≤◌, Bool, true, false, cond, nat_eq, nat_lt, if◌then◌else◌, List, [], ◌∷◌, ◌++◌, length, take, drop, None, Some, ◌||◌, refl, sym, ap, subst, ◌∙◌, arith, append_assoc, add-one}
-use Rattle.std.specs.Prelude.{codes, slice_get, Result, Ok, Err}
+use Rattle.std.specs.Prelude.{codes, slice_get, Result, Ok, Err, Option, map, not, ◌&&◌}
+use Rattle.std.specs.Option.{is_none}
+use Rattle.std.specs.Result.{result_unwrap_or}
 use Rattle.std.specs.List.{AllByRecursion, IsDistinct, list_any, flat_map}
 use Rattle.std.specs.Cmp.Lexicographic.{pointwise, same_text}
 use Rattle.std.proofs.lemmas.Bool.{ltb-false, le-ltb, eqb-true}
@@ -10,12 +12,15 @@ use Rattle.std.proofs.lemmas.List.Concat.{flat_map-cons}
 use Rattle.std.proofs.lemmas.Map.Keys.{IsDistinct-head, IsDistinct-tail}
 use Rattle.ras_base.specs.Chaining.{◌>>=◌}
 use Rattle.ras_base.specs.LittleEndian.{AreBytes, u32_bytes, u64_bytes, number_at}
-use Rattle.ras_base.specs.Steps.LittleEndianLemmas.{AreBytes-drop, length-u32_bytes, length-u64_bytes, u32_bytes-number_at, u64_bytes-number_at, number_at-u32_bytes, number_at-u64_bytes}
+use Rattle.ras_base.specs.Steps.LittleEndianLemmas.{AreBytes-drop, AreBytes-take, number_at-lt, length-u32_bytes, length-u64_bytes, u32_bytes-number_at, u64_bytes-number_at, number_at-u32_bytes, number_at-u64_bytes}
 use Rattle.erst_store.specs.declared.reading.StoreRefused.{StoreRefused}
 use Rattle.erst_store.specs.declared.reading.StoreRefused.TheVariants.{Malformed, NoMemory}
-use Rattle.erst_store.specs.Store.{Stored, Fits, IsStore, most_records, most_bytes, all_ones, is_reserved, ids, contents, holds, refusal_of}
+use Rattle.erst_store.specs.Store.{Stored, Fits, IsStore, most_records, most_bytes, all_ones, is_reserved, ids, contents, holds, refusal_of, record_after_put}
+use Rattle.erst_store.specs.declared.store.PutRefused.{PutRefused}
+use Rattle.erst_store.specs.Steps.StoreLemmas.{IsStore-nil}
+use Rattle.erst_store.specs.Steps.KeptLemmas.{unrefused, IsStore-unrefused}
 use Rattle.erst_store.specs.StoreFile.{record_bytes, heading, store_bytes, ReadsStore, ReadsBack}
-use Rattle.erst_store.specs.Steps.StoreReading.{FailsStore, GivesStore, front_number, front_record, may_follow, with_next, records_at, count_at, file_at}
+use Rattle.erst_store.specs.StoreReading.{FailsStore, GivesStore, front_number, front_record, may_follow, with_next, records_at, count_at, file_at, store_at}
 
 -- ---- steps that gave a value
 
@@ -79,7 +84,11 @@ u64_again n rest lt =
 
 -- ---- a record
 
-record_takes : (bytes : List ℕ) (x : Stored × List ℕ) → AreBytes bytes → front_record bytes ≡ Ok x → Takes bytes (record_bytes x.0) x.1
+-- a record was taken from the front, of an identifier of 64 bits and of bytes
+abbrev TakesRecord : List ℕ → Stored × List ℕ → Type 0
+TakesRecord bytes x = Takes bytes (record_bytes x.0) x.1 × (x.0.id < 2 ^ 64) × AreBytes x.0.bytes
+
+record_takes : (bytes : List ℕ) (x : Stored × List ℕ) → AreBytes bytes → front_record bytes ≡ Ok x → TakesRecord bytes x
 unfolding front_record
 record_takes bytes x fits e =
     let a = bind_ok (front_number 8 bytes) (λ id. front_number 4 id.1 >>= λ n. if nat_lt (length n.1) n.0 then Err Malformed else Ok (record { id = id.0; bytes = take n.0 n.1 }, drop n.0 n.1)) x e in
@@ -94,7 +103,9 @@ record_takes bytes x fits e =
     let t01 = Takes-then bytes (u64_bytes a.0.0) a.0.1 (u32_bytes n.0) n.1 t0 t1 in
     let t012 = Takes-then bytes (u64_bytes a.0.0 ++ u32_bytes n.0) n.1 (take n.0 n.1) (drop n.0 n.1) t01 t2 in
     let whole : Takes bytes (record_bytes made.0) made.1 = subst (λ (k : ℕ). Takes bytes (u64_bytes a.0.0 ++ u32_bytes k ++ take n.0 n.1) (drop n.0 n.1)) (sym len) t012 in
-    subst (λ (y : Stored × List ℕ). Takes bytes (record_bytes y.0) y.1) g.1 whole
+    let id_is : number_at 0 8 bytes ≡ a.0.0 = ap (λ (p : ℕ × List ℕ). p.0) (guard_ok (nat_lt (length bytes) 8) (number_at 0 8 bytes, drop 8 bytes) a.0 a.1).1 in
+    let fits_id : a.0.0 < 2 ^ 64 = subst (λ (n : ℕ). n < 2 ^ 64) id_is (number_at-lt 0 8 bytes fits) in
+    subst (TakesRecord bytes) g.1 (whole, fits_id, AreBytes-take n.0 n.1 t1.rest_fits)
 
 record_again : (r : Stored) (rest : List ℕ) → Fits r → front_record (record_bytes r ++ rest) ≡ Ok (r, rest)
 unfolding front_record
@@ -137,6 +148,16 @@ follows before r later kept =
     let unrefused : refusal_of r.id r.bytes before ≡ None = rw (good, short, room) refl in
     rw (unrefused, new) refl
 
+may_kept : (r : Stored) (before : List Stored) → IsStore before → r.id < 2 ^ 64 → AreBytes r.bytes → may_follow r before ≡ true → IsStore (before ++ r ∷ [])
+may_kept r before kept fits are may = by (holds r.id before) (refusal_of r.id r.bytes before) refl refl may
+  where
+    by : (there : Bool) (refusal : Option PutRefused) → holds r.id before ≡ there → refusal_of r.id r.bytes before ≡ refusal → (not there && is_none refusal) ≡ true → IsStore (before ++ r ∷ [])
+    by true refusal new free follows = absurd cc
+    by false (Some cause) new free follows = absurd cc
+    by false None new free follows =
+        subst (λ b. IsStore (if b then map (record_after_put r.id r.bytes) before else before ++ r ∷ [])) new
+        (IsStore-unrefused r.id r.bytes before kept fits are (unrefused r.id r.bytes before free))
+
 -- ---- all records
 
 pub record TakesAll (count : ℕ) (before : List Stored) (bytes : List ℕ) (all : List Stored) : Type 0 where
@@ -144,6 +165,7 @@ pub record TakesAll (count : ℕ) (before : List Stored) (bytes : List ℕ) (all
   pub all_is : all ≡ before ++ later
   pub count_is : length later ≡ count
   pub bytes_are : bytes ≡ flat_map record_bytes later
+  pub kept : IsStore before → IsStore all
 
 records_take : (count : ℕ) (before : List Stored) (bytes : List ℕ) (all : List Stored) → AreBytes bytes → records_at count before bytes ≡ Ok all → TakesAll count before bytes all
 unfolding records_at
@@ -154,18 +176,21 @@ records_take zero before bytes all fits is =
       all_is = sym (append-nil before ∙ ok_is before all ended.1);
       count_is = refl;
       bytes_are = nil_from_length bytes (eqb-true _ _ ended.0);
+      kept = λ was. subst IsStore (ok_is before all ended.1) was;
     }
 records_take (suc count) before bytes all fits is =
     let first = bind_ok (front_record bytes) (λ r. with_next r.0 before >>= λ new. records_at count new r.1) all is in
     let second = bind_ok (with_next first.0.0 before) (λ new. records_at count new first.0.1) all first.2 in
-    let new_is : before ++ first.0.0 ∷ [] ≡ second.0 = ok_is _ _ (chosen_ok (may_follow first.0.0 before) (Ok (before ++ first.0.0 ∷ [])) second.0 second.1).1 in
+    let next = chosen_ok (may_follow first.0.0 before) (Ok (before ++ first.0.0 ∷ [])) second.0 second.1 in
+    let new_is : before ++ first.0.0 ∷ [] ≡ second.0 = ok_is _ _ next.1 in
     let taken = record_takes bytes first.0 fits first.1 in
-    let others = records_take count second.0 first.0.1 all taken.rest_fits second.2 in
+    let others = records_take count second.0 first.0.1 all taken.0.rest_fits second.2 in
     record {
       later = first.0.0 ∷ others.later;
       all_is = others.all_is ∙ ap (λ (rs : List Stored). rs ++ others.later) (sym new_is) ∙ append_assoc before (first.0.0 ∷ []) others.later;
       count_is = ap suc others.count_is;
-      bytes_are = taken.parts ∙ ap (λ (back : List ℕ). record_bytes first.0.0 ++ back) others.bytes_are ∙ sym (flat_map-cons record_bytes first.0.0 others.later);
+      bytes_are = taken.0.parts ∙ ap (λ (back : List ℕ). record_bytes first.0.0 ++ back) others.bytes_are ∙ sym (flat_map-cons record_bytes first.0.0 others.later);
+      kept = λ was. others.kept (subst IsStore new_is (may_kept first.0.0 before was taken.1 taken.2 next.0));
     }
 
 records_again : (before later : List Stored) → IsStore (before ++ later) → records_at (length later) before (flat_map record_bytes later) ≡ Ok (before ++ later)
@@ -217,18 +242,27 @@ is_done count i before bytes total le so_far =
 
 -- ---- whole files
 
-pub file_takes : (bytes : List ℕ) (all : List Stored) → AreBytes bytes → file_at bytes ≡ Ok all → bytes ≡ store_bytes all
+pub file_takes : (bytes : List ℕ) (all : List Stored) → AreBytes bytes → file_at bytes ≡ Ok all → (bytes ≡ store_bytes all) × IsStore all
 unfolding file_at count_at
 file_takes bytes all fits e =
     let a = bind_ok (count_at bytes) (λ n. records_at n.0 [] n.1) all e in
     let begins = chosen_ok (pointwise nat_eq (take 8 bytes) (codes "RASERST1")) (front_number 4 (drop 8 bytes)) a.0 a.1 in
     let magic : take 8 bytes ≡ codes "RASERST1" = same_text (take 8 bytes) (codes "RASERST1") (sym begins.0) in
     let counted = u32_takes (drop 8 bytes) a.0.0 a.0.1 (AreBytes-drop 8 bytes fits) begins.1 in
-    let others = records_take a.0.0 [] a.0.1 all counted.rest_fits a.2 in
-    sym (take-append-drop 8 bytes)
-    ∙ ap (λ (front : List ℕ). front ++ drop 8 bytes) magic
-    ∙ ap (λ (back : List ℕ). codes "RASERST1" ++ back) (counted.parts ∙ ap (λ (back : List ℕ). u32_bytes a.0.0 ++ back) others.bytes_are ∙ ap (λ (n : ℕ). u32_bytes n ++ flat_map record_bytes others.later) (sym others.count_is))
-    ∙ ap store_bytes (sym others.all_is)
+    let others = records_take a.0.0 [] a.0.1 all counted.rest_fits a.2 in (
+      sym (take-append-drop 8 bytes)
+          ∙ ap (λ (front : List ℕ). front ++ drop 8 bytes) magic
+          ∙ ap (λ (back : List ℕ). codes "RASERST1" ++ back) (counted.parts ∙ ap (λ (back : List ℕ). u32_bytes a.0.0 ++ back) others.bytes_are ∙ ap (λ (n : ℕ). u32_bytes n ++ flat_map record_bytes others.later) (sym others.count_is))
+          ∙ ap store_bytes (sym others.all_is),
+      others.kept IsStore-nil,
+    )
+
+pub store_at-kept : (bytes : List ℕ) → AreBytes bytes → IsStore (store_at bytes)
+store_at-kept bytes fits = by (file_at bytes) refl
+  where
+    by : (r : Result (List Stored) StoreRefused) → file_at bytes ≡ r → IsStore (result_unwrap_or r [])
+    by (Ok all) is = (file_takes bytes all fits is).1
+    by (Err e) is = IsStore-nil
 
 pub file_again : (records : List Stored) → IsStore records → file_at (store_bytes records) ≡ Ok records
 unfolding file_at count_at
@@ -236,7 +270,7 @@ file_again records kept =
     rw (u32_again (length records) (flat_map record_bytes records) (omega (arith, kept.count))) (records_again [] records kept)
 
 pub is_read : (bytes : List ℕ) (r : Result (List Stored) StoreRefused) → AreBytes bytes → GivesStore (λ s. s) r (file_at bytes) → ReadsStore bytes r
-is_read bytes (Ok all) fits given = file_takes bytes all fits given
+is_read bytes (Ok all) fits given = (file_takes bytes all fits given).0
 is_read bytes (Err NoMemory) fits given = tt
 is_read bytes (Err Malformed) fits given = λ records kept is.
     let found : file_at bytes ≡ Ok records = ap file_at is ∙ file_again records kept in

@@ -1,5 +1,4 @@
 -- What only proofs use: no public clause comes to it.
-pub mod StoreReading
 pub mod View
 pub mod DeviceView
 pub mod StoreLemmas

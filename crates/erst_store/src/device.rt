@@ -128,8 +128,7 @@ impl Dev {
     /// A device over this store, with no command, all numbers 0 and a range of zeros. Each EXECUTE
     /// is followed by `slow` busy answers.
     pub fn new(alloc: Global, store: Store, slow: u64) -> Result<Dev, NoMemory>
-        ensures new { IfOk result (λ device. device ≡ new_device store slow) }
-        ensures kept { IfOk result IsDevice }
+        ensures { IfOk result (λ device. device ≡ new_device store slow) }
     {
         let mut range = Vec::new(alloc);
         range.resize(RANGE_LENGTH, 0)?;
@@ -148,6 +147,17 @@ impl Dev {
         })
     }
 
+    /// The device as it is, once more.
+    pub fn copy(&self, alloc: Global) -> Result<Dev, NoMemory>
+        ensures { IfOk result (λ device. device ≡ self.now) }
+    {
+        Ok(Dev {
+            store: self.store.copy(alloc)?,
+            range: Vec::from_slice(alloc, &self.range)?,
+            ..*self
+        })
+    }
+
     /// Writes a number to the Action register, which does the action of that number (ACPI 6.5,
     /// 18.5.1.1).
     ///
@@ -158,7 +168,6 @@ impl Dev {
         ensures err { OnErr result (self.new ≡ self.old) }
         ensures memory { OnErr result ((action ≡ execute_operation)
             × (self.old.command ≡ Some Write)) }
-        ensures kept { IsDevice self.new }
     {
         if action == EXECUTE_OPERATION {
             return self.execute();
@@ -169,24 +178,21 @@ impl Dev {
 
     /// Writes a number to the Value register.
     pub fn write_value(&mut self, value: u64)
-        ensures value { self.new ≡ record self.old { value = value } }
-        ensures kept { IsDevice self.new }
+        ensures { self.new ≡ record self.old { value = value } }
     {
         self.value = value;
     }
 
     /// Reads the Value register.
     pub fn read_value(&self) -> u64
-        ensures value { result ≡ self.now.value }
-        ensures kept { IsDevice self.now }
+        ensures { result ≡ self.now.value }
     {
         self.value
     }
 
     /// Reads the Action register: the number last written to it.
     pub fn read_action(&self) -> u64
-        ensures action { result ≡ self.now.action }
-        ensures kept { IsDevice self.now }
+        ensures { result ≡ self.now.action }
     {
         self.action
     }
@@ -201,8 +207,7 @@ impl Dev {
     /// Copies the bytes of the range from a place on into a buffer, all of it.
     pub fn range_read(&self, place: u32, buf: &mut [u8])
         requires { place + length buf.old ≤ range_length }
-        ensures read { buf.new ≡ take (length buf.old) (drop place self.now.range) }
-        ensures kept { IsDevice self.now }
+        ensures { buf.new ≡ take (length buf.old) (drop place self.now.range) }
     {
         let start = place as usize;
         buf.copy_from_slice(&self.range[start..start + buf.len()]);
@@ -212,9 +217,8 @@ impl Dev {
     #[tactic(auto, unfolding(crate::specs::Device::range_with))]
     pub fn range_write(&mut self, place: u32, bytes: &[u8])
         requires { place + length bytes.now ≤ range_length }
-        ensures range { self.new
+        ensures { self.new
             ≡ record self.old { range = range_with place bytes.now self.old.range } }
-        ensures kept { IsDevice self.new }
     {
         let start = place as usize;
         self.range[start..start + bytes.len()].copy_from_slice(bytes);
@@ -230,8 +234,7 @@ impl Dev {
 
     /// The store behind the device, which is given up.
     pub fn into_store(self) -> Store
-        ensures same { result ≡ self.store }
-        ensures kept { IsDevice self }
+        ensures { result ≡ self.store }
     {
         self.store
     }
@@ -245,7 +248,6 @@ impl Dev {
         ensures ok { OnOk result (self.new ≡ with_put id bytes.now self.old) }
         ensures err { OnErr result (self.new ≡ self.old) }
         ensures refused { AnswersRefusal result (refusal_of id bytes.now self.old.store) }
-        ensures kept { IsDevice self.new }
     {
         self.store.put(id, bytes)?;
         self.cursor = 0;
@@ -256,8 +258,7 @@ impl Dev {
     #[tactic(auto, unfolding(crate::specs::Device::act))]
     fn act(&mut self, action: u64)
         requires { action ≢ execute_operation }
-        ensures does { self.new ≡ act action self.old }
-        ensures kept { IsDevice self.new }
+        ensures { self.new ≡ act action self.old }
     {
         self.action = action;
         match action {
@@ -293,8 +294,7 @@ impl Dev {
 
     // Answers the identifier at the cursor and moves on, or ends the list and begins it again.
     fn list_id(&mut self)
-        ensures lists { self.new ≡ after_listing self.old }
-        ensures kept { IsDevice self.new }
+        ensures { self.new ≡ after_listing self.old }
     {
         if self.cursor < self.store.len() {
             self.value = self.store.id(self.cursor);
@@ -311,7 +311,6 @@ impl Dev {
         ensures ok { OnOk result (self.new ≡ act execute_operation self.old) }
         ensures err { OnErr result (self.new ≡ self.old) }
         ensures memory { OnErr result (self.old.command ≡ Some Write) }
-        ensures kept { IsDevice self.new }
     {
         let command = self.command;
         self.status = self.carry_out(command)?;

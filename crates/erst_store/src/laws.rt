@@ -1,8 +1,10 @@
 //! What the device's actions keep, in other words.
-ghost use Rattle.std.specs.Prelude.{◌≡◌, ◌≢◌, ℕ, ◌+◌, ◌^◌, ◌<◌, ◌≤◌, ◌++◌, [], ◌∷◌, List, false, length, drop, None, Some};
+ghost use Rattle.std.specs.Prelude.{◌≡◌, ◌≢◌, ℕ, ◌+◌, ◌^◌, ◌<◌, ◌≤◌, ◌++◌, [], ◌∷◌, List, false, length, drop, None, Some, Ok};
 ghost use Rattle.ras_base.specs.LittleEndian.{AreBytes, number_at};
 ghost use Rattle.erst_store.specs.Actions.{execute_operation, check_busy_status, get_command_status, get_record_identifier, get_record_count, range_length};
 ghost use Rattle.erst_store.specs.Store.{Stored, SameBut, IsStore, all_ones, ids, bytes_under, refusal_of, with_record};
+ghost use Rattle.erst_store.specs.StoreFile.{store_bytes};
+ghost use Rattle.erst_store.specs.StoreReading.{file_at, store_at};
 ghost use Rattle.erst_store.specs.Device.{Device, act, with_put, range_with, new_device, id_at, length_at, record_at, is_record_out, id_place, length_place};
 ghost use Rattle.erst_store.specs.DeviceLaws.{IsDevice, MayChange, id_changed, listing, after_listings, left_to_list, listed_to_end};
 
@@ -49,6 +51,15 @@ pub fn store_laws()
         → bytes_under id (with_record id bytes records) ≡ Some bytes }
     ensures others { (id other : ℕ) (bytes : List ℕ) (records : List Stored) → id ≢ other
         → bytes_under other (with_record id bytes records) ≡ bytes_under other records }
+{}
+
+/// The laws of a store's file. The function does nothing: its clauses are what it is for.
+pub fn file_laws()
+    // The bytes of a store are read as that store.
+    ensures again { (records : List Stored) → IsStore records
+        → file_at (store_bytes records) ≡ Ok records }
+    // What any bytes are read as is a store, which holds nothing if they are no store file.
+    ensures store { (bytes : List ℕ) → AreBytes bytes → IsStore (store_at bytes) }
 {}
 
 /// The numbers that bound a store and its device. The function does nothing: its clauses are what

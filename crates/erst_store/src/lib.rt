@@ -13,6 +13,6 @@ mod store;
 
 pub use actions::RANGE_LENGTH;
 pub use device::{Command, CommandStatus, Dev};
-pub use laws::{action_laws, device_laws, numbers_in_digits, store_laws};
+pub use laws::{action_laws, device_laws, file_laws, numbers_in_digits, store_laws};
 pub use reading::StoreRefused;
 pub use store::{MOST_BYTES, MOST_RECORDS, PutRefused, Store};

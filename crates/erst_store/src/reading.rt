@@ -2,7 +2,7 @@
 ghost use Rattle.std.specs.Prelude.{◌≡◌, ◌≤◌, List, [], ◌++◌, length, IfOk, OnOk};
 ghost use Rattle.erst_store.specs.Store.{Stored, IsStore};
 ghost use Rattle.erst_store.specs.StoreFile.{record_bytes, store_bytes, ReadsStore, ReadsBack};
-ghost use Rattle.erst_store.specs.Steps.StoreReading.{GivesStore, front_number, front_record, with_next, records_at, count_at, file_at};
+ghost use Rattle.erst_store.specs.StoreReading.{GivesStore, front_number, front_record, with_next, records_at, count_at, file_at};
 
 use crate::store::{PutRefused, Store};
 use ras_base::NoMemory;
@@ -24,6 +24,11 @@ pub enum StoreRefused {
 // What a store file begins with.
 const MAGIC: &[u8; 8] = b"RASERST1";
 
+// How many bytes stand before all records, and before the bytes of each.
+const HEADING_LENGTH: usize = 12;
+
+const RECORD_HEADING_LENGTH: usize = 12;
+
 impl Store {
     /// The bytes of the store's file: eight letters, the number of records in 4 bytes, and for each
     /// record its identifier in 8 bytes, its length in 4 and its bytes. All numbers are
@@ -31,7 +36,8 @@ impl Store {
     pub fn to_bytes(&self, alloc: Global) -> Result<Vec<u8>, NoMemory>
         ensures { IfOk result (λ v. v.items ≡ store_bytes self.now) }
     {
-        let mut out = Vec::from_slice(alloc, MAGIC)?;
+        let mut out = Vec::with_capacity(alloc, self.file_length())?;
+        out.extend_from_slice(MAGIC)?;
         push_u32(&mut out, self.len() as u32)?;
         for i in 0..self.len() {
             push_record(&mut out, self.id(i), self.bytes(i))?;
@@ -44,11 +50,21 @@ impl Store {
     /// `Malformed` comes exactly if the bytes are no store file, and nothing but memory keeps a
     /// store file from being read.
     pub fn from_bytes(alloc: Global, bytes: &[u8]) -> Result<Store, StoreRefused>
+        ensures gives { GivesStore (λ store. store) result (file_at bytes.now) }
         ensures read { ReadsStore bytes.now result }
         ensures back { (records : List Stored) → IsStore records → bytes.now ≡ store_bytes records
             → ReadsBack records result }
     {
         read_all(alloc, bytes)
+    }
+
+    // How many bytes the store's file has.
+    fn file_length(&self) -> usize {
+        let mut length = HEADING_LENGTH;
+        for i in 0..self.len() {
+            length = length.saturating_add(RECORD_HEADING_LENGTH + self.bytes(i).len());
+        }
+        length
     }
 
     // Puts a record after all others, if it may stand there.
@@ -102,7 +118,7 @@ fn front_u64(bytes: &[u8]) -> Result<(u64, &[u8]), StoreRefused>
 }
 
 // The number of records that a file tells, and the bytes after it.
-#[tactic(auto, unfolding(crate::specs::Steps::StoreReading::count_at))]
+#[tactic(auto, unfolding(crate::specs::StoreReading::count_at))]
 fn count_of(bytes: &[u8]) -> Result<(u32, &[u8]), StoreRefused>
     ensures { GivesStore (λ x. (x.0, x.1.now)) result (count_at bytes.now) }
 {
@@ -113,7 +129,7 @@ fn count_of(bytes: &[u8]) -> Result<(u32, &[u8]), StoreRefused>
 }
 
 // The first record of these bytes, and the bytes after it.
-#[tactic(auto, unfolding(crate::specs::Steps::StoreReading::front_record))]
+#[tactic(auto, unfolding(crate::specs::StoreReading::front_record))]
 fn front_record(bytes: &[u8]) -> Result<(u64, &[u8], &[u8]), StoreRefused>
     ensures { GivesStore (λ x. (record { id = x.0; bytes = x.1.now }, x.2.now)) result (front_record bytes.now) }
 {
@@ -145,7 +161,7 @@ fn records_of(alloc: Global, count: u32, bytes: &[u8]) -> Result<Store, StoreRef
 }
 
 // The store whose file these bytes are, all of them.
-#[tactic(auto, unfolding(crate::specs::Steps::StoreReading::file_at))]
+#[tactic(auto, unfolding(crate::specs::StoreReading::file_at))]
 fn read_all(alloc: Global, bytes: &[u8]) -> Result<Store, StoreRefused>
     ensures { GivesStore (λ s. s) result (file_at bytes.now) }
 {

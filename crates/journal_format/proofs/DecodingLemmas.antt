@@ -127,9 +127,16 @@ page_put start now new row before put =
 
 -- ---- a list after its number
 
-pub listed : {A : Type 0} (r : Reader A) (bytes : List ℕ) (count : ℕ) (rest : List ℕ) → u64_at bytes ≡ Ok (count, rest) → list_at r bytes ≡ many_at r count rest
+with_none : {A : Type 0} (read : Result (List A × List ℕ) EntryRefused) → with_front [] read ≡ read
+with_none (Ok x) = refl
+with_none (Err e) = refl
+
+pub list_begins : {A : Type 0} (r : Reader A) (held : List A) (bytes : List ℕ) (count : ℕ) (rest : List ℕ) → held ≡ [] → u64_at bytes ≡ Ok (count, rest)
+    → with_front held (many_at r (count - 0) rest) ≡ list_at r bytes
 unfolding list_at
-listed r bytes count rest read = ap (λ n. n >>= λ m. many_at r m.0 m.1) read
+list_begins r held bytes count rest none read =
+    let all : count - 0 ≡ count = omega arith in
+    rw (none, all) (with_none (many_at r count rest)) ∙ sym (ap (λ n. n >>= λ m. many_at r m.0 m.1) read)
 
 pub unlisted : {A : Type 0} (r : Reader A) (bytes : List ℕ) (refused : EntryRefused) → RefusesExactly refused (u64_at bytes) → FailsUnlessMemory refused (list_at r bytes)
 unfolding list_at

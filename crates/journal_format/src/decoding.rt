@@ -3,35 +3,34 @@ ghost use Rattle.std.specs.Prelude.{◌≡◌, ◌≢◌, ◌≤◌, ◌∷◌, 
 ghost use Rattle.dimm_topology.specs.Labels.{Bytes};
 ghost use Rattle.page_policy.specs.declared.rows.PageRow.{PageRow};
 ghost use Rattle.ras_facts.specs.declared.name.Name.{Name};
-ghost use Rattle.page_policy.specs.Buckets.{most_count};
+ghost use Rattle.page_policy.specs.Buckets.{IsLimit, most_count};
 ghost use Rattle.ras_facts.specs.Valid.{IsPage};
 ghost use Rattle.ras_account.specs.Accounts.{IsModuleRow};
+ghost use Rattle.ras_account.specs.declared.limits.TheConstants.{MOST_ENTRIES};
 ghost use Rattle.ras_account.specs.Modules.{Module};
 ghost use Rattle.ras_account.specs.Account.{State, weight_in};
 ghost use Rattle.ras_account.specs.Rows.{row_of, with_name, with_module, with_page};
 ghost use Rattle.ras_account.specs.View.{nothing};
-ghost use Rattle.entry_format.specs.Reading.{many_at, name_at};
+ghost use Rattle.entry_format.specs.Reading.{name_at};
 ghost use Rattle.journal_format.specs.Checkpoints.{IsCheckpoint};
 ghost use Rattle.journal_format.specs.CheckpointReading.{list_at, module_at, page_row_at, checkpoint_in};
-ghost use Rattle.journal_format.specs.Steps.Decoding.{AreNames, AreModules, ArePages, Holds, AreTaken, with_rows_of};
+ghost use Rattle.journal_format.specs.Steps.Decoding.{AreNames, AreModules, ArePages, Holds, AreTaken, account_with, with_rows_of};
 
 use crate::CheckpointRefused;
-use crate::row_reading::{floor_in, front_at, module_at, page_row_at};
+use crate::row_reading::{CheckpointFront, floor_in, front_at, module_at, page_row_at};
 use entry_format::{EntryRefused, Version, name_at, u64_at};
 use page_policy::{Bucket, PageState, RowRefused};
-use ras_account::{Account, ModuleRow, PushRefused};
+use ras_account::{Account, ModuleRow, PushRefused, Rebuilt};
 use ras_facts::Name;
 use std::alloc::Global;
 
 // Puts a name after those of an account that has no floor. `Bad` comes exactly if it is there
 // or the account is full.
-fn put_name(account: &mut Account, name: Name) -> Result<(), EntryRefused>
-    requires waiting { account.old.waiting ≡ nothing }
-    requires floor { account.old.state.floor ≡ 0 }
-    ensures waiting { account.new.waiting ≡ nothing }
-    ensures ok { OnOk result (account.new.state ≡ with_name account.old.state name) }
+fn put_name(account: &mut Rebuilt, name: Name) -> Result<(), EntryRefused>
+    requires floor { account.old.floor ≡ 0 }
+    ensures ok { OnOk result (account.new ≡ with_name account.old name) }
     ensures bad { result ≡ Err EntryRefused.Bad → (later : List Name)
-        → ¬ AreNames (account.old.state.names ++ name ∷ later) }
+        → ¬ AreNames (account.old.names ++ name ∷ later) }
 {
     match account.push_name(name) {
         Ok(()) => Ok(()),
@@ -41,25 +40,22 @@ fn put_name(account: &mut Account, name: Name) -> Result<(), EntryRefused>
     }
 }
 
-// Puts this many names at the front of the bytes into an account that has none and no floor. The
-// answer is the bytes after them.
-fn many_names_at<'a>(
-    account: &mut Account,
-    count: u64,
-    bytes: &'a [u8],
-) -> Result<&'a [u8], EntryRefused>
-    requires waiting { account.old.waiting ≡ nothing }
-    requires none { account.old.state.names ≡ [] }
-    requires floor { account.old.state.floor ≡ 0 }
-    ensures waiting { account.new.waiting ≡ nothing }
-    ensures read { IfOk result (λ rest. many_at name_at count bytes.now
-        ≡ Ok (account.new.state.names, rest.now)) }
-    ensures state { OnOk result (account.new.state
-        ≡ record account.old.state { names = account.new.state.names }) }
+// Puts the names at the front of the bytes into an account that has none and no floor. The answer
+// is the bytes after them.
+fn names_at<'a>(account: &mut Rebuilt, bytes: &'a [u8]) -> Result<&'a [u8], EntryRefused>
+    requires none { account.old.names ≡ [] }
+    requires floor { account.old.floor ≡ 0 }
+    ensures read { IfOk result (λ rest. list_at name_at bytes.now
+        ≡ Ok (account.new.names, rest.now)) }
+    ensures state { OnOk result (account.new
+        ≡ record account.old { names = account.new.names }) }
     ensures bad { result ≡ Err EntryRefused.Bad → (names : List Name) (rest : List ℕ)
-        → many_at name_at count bytes.now ≡ Ok (names, rest) → ¬ AreNames names }
+        → list_at name_at bytes.now ≡ Ok (names, rest) → ¬ AreNames names }
 {
-    let mut rest = bytes;
+    let (count, mut rest) = match u64_at(bytes) {
+        Ok(found) => found,
+        Err(refused) => return Err(refused),
+    };
     for _ in 0..count {
         let (name, after) = match name_at(rest) {
             Ok(found) => found,
@@ -73,37 +69,14 @@ fn many_names_at<'a>(
     Ok(rest)
 }
 
-// Puts the names at the front of the bytes into an account that has none and no floor. The answer
-// is the bytes after them.
-fn names_at<'a>(account: &mut Account, bytes: &'a [u8]) -> Result<&'a [u8], EntryRefused>
-    requires waiting { account.old.waiting ≡ nothing }
-    requires none { account.old.state.names ≡ [] }
-    requires floor { account.old.state.floor ≡ 0 }
-    ensures waiting { account.new.waiting ≡ nothing }
-    ensures read { IfOk result (λ rest. list_at name_at bytes.now
-        ≡ Ok (account.new.state.names, rest.now)) }
-    ensures state { OnOk result (account.new.state
-        ≡ record account.old.state { names = account.new.state.names }) }
-    ensures bad { result ≡ Err EntryRefused.Bad → (names : List Name) (rest : List ℕ)
-        → list_at name_at bytes.now ≡ Ok (names, rest) → ¬ AreNames names }
-{
-    match u64_at(bytes) {
-        Ok((count, rest)) => many_names_at(account, count, rest),
-        Err(refused) => Err(refused),
-    }
-}
-
 // Puts a module's row after those of an account. `Bad` comes exactly if its label has a row or
 // the account is full.
-fn put_module(account: &mut Account, row: ModuleRow) -> Result<(), EntryRefused>
-    requires waiting { account.old.waiting ≡ nothing }
+fn put_module(account: &mut Rebuilt, row: ModuleRow) -> Result<(), EntryRefused>
     requires row { IsModuleRow (row_of row) }
-    ensures waiting { account.new.waiting ≡ nothing }
-    ensures ok { OnOk result (account.new.state ≡ with_module account.old.state (row_of row)) }
+    ensures ok { OnOk result (account.new ≡ with_module account.old (row_of row)) }
     ensures bad { result ≡ Err EntryRefused.Bad → (later : List (Bytes × Module))
-        → ¬ AreModules (account.old.state.modules ++ row_of row ∷ later) }
+        → ¬ AreModules (account.old.modules ++ row_of row ∷ later) }
 {
-    let _ = account.total();
     match account.push_module(row) {
         Ok(()) => Ok(()),
         Err(PushRefused::Repeated) => Err(EntryRefused::Bad),
@@ -112,26 +85,26 @@ fn put_module(account: &mut Account, row: ModuleRow) -> Result<(), EntryRefused>
     }
 }
 
-// Puts this many rows of modules at the front of the bytes into an account that has none. The
-// answer is the bytes after them.
-fn many_modules_at<'a>(
+// Puts the rows of modules at the front of the bytes into an account that has none. The answer is
+// the bytes after them.
+fn modules_at<'a>(
     alloc: Global,
     version: Version,
-    account: &mut Account,
-    count: u64,
+    account: &mut Rebuilt,
     bytes: &'a [u8],
 ) -> Result<&'a [u8], EntryRefused>
-    requires waiting { account.old.waiting ≡ nothing }
-    requires none { account.old.state.modules ≡ [] }
-    ensures waiting { account.new.waiting ≡ nothing }
-    ensures read { IfOk result (λ rest. many_at (module_at version) count bytes.now
-        ≡ Ok (account.new.state.modules, rest.now)) }
-    ensures state { OnOk result (account.new.state
-        ≡ record account.old.state { modules = account.new.state.modules; total = account.new.state.total }) }
+    requires { account.old.modules ≡ [] }
+    ensures read { IfOk result (λ rest. list_at (module_at version) bytes.now
+        ≡ Ok (account.new.modules, rest.now)) }
+    ensures state { OnOk result (account.new
+        ≡ record account.old { modules = account.new.modules; total = account.new.total }) }
     ensures bad { result ≡ Err EntryRefused.Bad → (rows : List (Bytes × Module)) (rest : List ℕ)
-        → many_at (module_at version) count bytes.now ≡ Ok (rows, rest) → ¬ AreModules rows }
+        → list_at (module_at version) bytes.now ≡ Ok (rows, rest) → ¬ AreModules rows }
 {
-    let mut rest = bytes;
+    let (count, mut rest) = match u64_at(bytes) {
+        Ok(found) => found,
+        Err(refused) => return Err(refused),
+    };
     for _ in 0..count {
         let (row, after) = match module_at(alloc, version, rest) {
             Ok(found) => found,
@@ -145,45 +118,19 @@ fn many_modules_at<'a>(
     Ok(rest)
 }
 
-// Puts the rows of modules at the front of the bytes into an account that has none. The answer is
-// the bytes after them.
-fn modules_at<'a>(
-    alloc: Global,
-    version: Version,
-    account: &mut Account,
-    bytes: &'a [u8],
-) -> Result<&'a [u8], EntryRefused>
-    requires waiting { account.old.waiting ≡ nothing }
-    requires none { account.old.state.modules ≡ [] }
-    ensures waiting { account.new.waiting ≡ nothing }
-    ensures read { IfOk result (λ rest. list_at (module_at version) bytes.now
-        ≡ Ok (account.new.state.modules, rest.now)) }
-    ensures state { OnOk result (account.new.state
-        ≡ record account.old.state { modules = account.new.state.modules; total = account.new.state.total }) }
-    ensures bad { result ≡ Err EntryRefused.Bad → (rows : List (Bytes × Module)) (rest : List ℕ)
-        → list_at (module_at version) bytes.now ≡ Ok (rows, rest) → ¬ AreModules rows }
-{
-    match u64_at(bytes) {
-        Ok((count, rest)) => many_modules_at(alloc, version, account, count, rest),
-        Err(refused) => Err(refused),
-    }
-}
-
 // Puts a page's row after those of an account. `Bad` comes exactly if the page has a row.
 fn put_page(
-    account: &mut Account,
+    account: &mut Rebuilt,
     page: u64,
     bucket: Bucket,
     state: PageState,
 ) -> Result<(), EntryRefused>
-    requires waiting { account.old.waiting ≡ nothing }
     requires page { IsPage page }
     requires count { bucket.count ≤ most_count }
-    ensures waiting { account.new.waiting ≡ nothing }
-    ensures ok { OnOk result (account.new.state
-        ≡ with_page account.old.state (page, record { bucket = bucket; state = state })) }
+    ensures ok { OnOk result (account.new
+        ≡ with_page account.old (page, record { bucket = bucket; state = state })) }
     ensures bad { result ≡ Err EntryRefused.Bad → (later : List (ℕ × PageRow))
-        → ¬ ArePages (account.old.state.pages
+        → ¬ ArePages (account.old.pages
         ++ (page, record { bucket = bucket; state = state }) ∷ later) }
 {
     match account.push_page(page, bucket, state) {
@@ -193,24 +140,21 @@ fn put_page(
     }
 }
 
-// Puts this many rows of pages at the front of the bytes into an account that has none. The answer
-// is the bytes after them.
-fn many_pages_at<'a>(
-    account: &mut Account,
-    count: u64,
-    bytes: &'a [u8],
-) -> Result<&'a [u8], EntryRefused>
-    requires waiting { account.old.waiting ≡ nothing }
-    requires none { account.old.state.pages ≡ [] }
-    ensures waiting { account.new.waiting ≡ nothing }
-    ensures read { IfOk result (λ rest. many_at page_row_at count bytes.now
-        ≡ Ok (account.new.state.pages, rest.now)) }
-    ensures state { OnOk result (account.new.state
-        ≡ record account.old.state { pages = account.new.state.pages }) }
+// Puts the rows of pages at the front of the bytes into an account that has none. The answer is the
+// bytes after them.
+fn pages_at<'a>(account: &mut Rebuilt, bytes: &'a [u8]) -> Result<&'a [u8], EntryRefused>
+    requires { account.old.pages ≡ [] }
+    ensures read { IfOk result (λ rest. list_at page_row_at bytes.now
+        ≡ Ok (account.new.pages, rest.now)) }
+    ensures state { OnOk result (account.new
+        ≡ record account.old { pages = account.new.pages }) }
     ensures bad { result ≡ Err EntryRefused.Bad → (rows : List (ℕ × PageRow)) (rest : List ℕ)
-        → many_at page_row_at count bytes.now ≡ Ok (rows, rest) → ¬ ArePages rows }
+        → list_at page_row_at bytes.now ≡ Ok (rows, rest) → ¬ ArePages rows }
 {
-    let mut rest = bytes;
+    let (count, mut rest) = match u64_at(bytes) {
+        Ok(found) => found,
+        Err(refused) => return Err(refused),
+    };
     for _ in 0..count {
         let ((page, bucket, state), after) = match page_row_at(rest) {
             Ok(found) => found,
@@ -224,52 +168,29 @@ fn many_pages_at<'a>(
     Ok(rest)
 }
 
-// Puts the rows of pages at the front of the bytes into an account that has none. The answer is the
-// bytes after them.
-fn pages_at<'a>(account: &mut Account, bytes: &'a [u8]) -> Result<&'a [u8], EntryRefused>
-    requires waiting { account.old.waiting ≡ nothing }
-    requires none { account.old.state.pages ≡ [] }
-    ensures waiting { account.new.waiting ≡ nothing }
-    ensures read { IfOk result (λ rest. list_at page_row_at bytes.now
-        ≡ Ok (account.new.state.pages, rest.now)) }
-    ensures state { OnOk result (account.new.state
-        ≡ record account.old.state { pages = account.new.state.pages }) }
-    ensures bad { result ≡ Err EntryRefused.Bad → (rows : List (ℕ × PageRow)) (rest : List ℕ)
-        → list_at page_row_at bytes.now ≡ Ok (rows, rest) → ¬ ArePages rows }
-{
-    match u64_at(bytes) {
-        Ok((count, rest)) => many_pages_at(account, count, rest),
-        Err(refused) => Err(refused),
-    }
-}
-
-// Puts what stands after the numbers at the front into an account that has no names, no rows and
-// no floor.
-fn fill(
+// The account with these numbers at its front and what stands after them.
+fn filled(
     alloc: Global,
     version: Version,
-    floor: u64,
-    account: &mut Account,
+    front: CheckpointFront,
     bytes: &[u8],
-) -> Result<(), EntryRefused>
-    requires waiting { account.old.waiting ≡ nothing }
-    requires names { account.old.state.names ≡ [] }
-    requires modules { account.old.state.modules ≡ [] }
-    requires pages { account.old.state.pages ≡ [] }
-    requires floor { account.old.state.floor ≡ 0 }
-    ensures waiting { account.new.waiting ≡ nothing }
-    ensures holds { OnOk result (Holds version floor bytes.now account.new.state) }
-    ensures state { OnOk result (account.new.state
-        ≡ with_rows_of account.old.state account.new.state) }
-    ensures bad { result ≡ Err EntryRefused.Bad → (a : State) → Holds version floor bytes.now a
-        → ¬ AreTaken a }
+) -> Result<Rebuilt, EntryRefused>
+    requires limit { IsLimit front.limit }
+    requires module_limit { IsLimit front.module_limit }
+    requires entries { front.entries ≤ MOST_ENTRIES }
+    ensures holds { IfOk result (λ account. Holds version front.floor bytes.now account) }
+    ensures state { IfOk result (λ account. account
+        ≡ with_rows_of (account_with front.limit front.module_limit front.entries) account) }
+    ensures bad { result ≡ Err EntryRefused.Bad → (a : State)
+        → Holds version front.floor bytes.now a → ¬ AreTaken a }
 {
-    let rest = names_at(account, bytes)?;
-    let rest = modules_at(alloc, version, account, rest)?;
-    let rest = pages_at(account, rest)?;
-    let floor = floor_in(version, floor, rest)?;
+    let mut account = Rebuilt::new(alloc, front.limit, front.module_limit, front.entries);
+    let rest = names_at(&mut account, bytes)?;
+    let rest = modules_at(alloc, version, &mut account, rest)?;
+    let rest = pages_at(&mut account, rest)?;
+    let floor = floor_in(version, front.floor, rest)?;
     if account.set_floor(floor) {
-        Ok(())
+        Ok(account)
     } else {
         Err(EntryRefused::Bad)
     }
@@ -283,14 +204,8 @@ fn account_at(alloc: Global, version: Version, bytes: &[u8]) -> Result<Account, 
         → checkpoint_in version bytes.now ≢ Ok a }
 {
     let (front, rest) = front_at(version, bytes)?;
-    let mut account = Account::new(alloc);
-    account.set_base(front.limit, front.entries);
-    account.set_module_limit(front.module_limit);
-    match fill(alloc, version, front.floor, &mut account, rest) {
-        Ok(()) => {
-            let _ = account.entries();
-            Ok(account)
-        }
+    match filled(alloc, version, front, rest) {
+        Ok(account) => Ok(account.into_account()),
         Err(refused) => Err(refused),
     }
 }

@@ -1,18 +1,16 @@
 //! Accounts as checkpoints.
-ghost use Rattle.std.specs.Prelude.{◌≡◌, ◌<◌, ◌^◌, ◌++◌, length, IfOk, OnOk};
+ghost use Rattle.std.specs.Prelude.{◌≡◌, ◌<◌, ◌^◌, ◌++◌, length, OnOk};
 ghost use Rattle.std.specs.List.{flat_map};
 ghost use Rattle.entry_format.specs.declared.version.Version.TheVariants.{Two};
 ghost use Rattle.entry_format.specs.Spelling.{name_bytes};
 ghost use Rattle.ras_account.specs.Accounts.{IsAccount};
 ghost use Rattle.journal_format.specs.Checkpoints.{list_bytes, module_bytes, page_row_bytes, front_bytes, checkpoint_bytes, IsCheckpoint};
 
-use crate::checkpoint_len;
 use crate::rows::{push_module, push_page_row};
 use entry_format::{push_limit, push_name};
 use ras_account::Account;
 use ras_base::NoMemory;
 use ras_base::little_endian::push_u64;
-use std::alloc::Global;
 
 // Adds the numbers at the front.
 #[tactic(auto, unfolding(crate::specs::Checkpoints::front_bytes))]
@@ -66,19 +64,6 @@ fn push_pages(bytes: &mut Vec<u8>, account: &Account) -> Result<(), NoMemory>
     Ok(())
 }
 
-// The spelling of an account.
-#[tactic(auto, unfolding(crate::specs::Checkpoints::checkpoint_bytes, crate::specs::Checkpoints::end_bytes))]
-fn spelled(alloc: Global, account: &Account) -> Result<Vec<u8>, NoMemory>
-    ensures { IfOk result (λ bytes. bytes.items ≡ checkpoint_bytes Two account.now.state) }
-{
-    let mut bytes = Vec::with_capacity(alloc, checkpoint_len(account) as usize)?;
-    push_front(&mut bytes, account)?;
-    push_names(&mut bytes, account)?;
-    push_modules(&mut bytes, account)?;
-    push_pages(&mut bytes, account)?;
-    Ok(bytes)
-}
-
 // So that a clause can tell that an account is one, and that its numbers of rows fit their fields.
 fn tell_account(account: &Account)
     ensures account { IsAccount account.now.state }
@@ -90,11 +75,18 @@ fn tell_account(account: &Account)
     let _ = account.pages().len();
 }
 
-/// The checkpoint of an account, in version 2. Its bytes are written once, into a vector that has
-/// room for all of them.
-pub fn encode_checkpoint(alloc: Global, account: &Account) -> Result<Vec<u8>, NoMemory>
-    ensures { IfOk result (λ bytes. IsCheckpoint Two account.now.state bytes.items) }
+/// Adds the checkpoint of an account, in version 2, which has as many bytes as
+/// [`crate::checkpoint_len`] says. If memory runs out, some of its bytes may have been added.
+#[tactic(auto, unfolding(crate::specs::Checkpoints::checkpoint_bytes, crate::specs::Checkpoints::end_bytes))]
+pub fn push_checkpoint(bytes: &mut Vec<u8>, account: &Account) -> Result<(), NoMemory>
+    ensures bytes { OnOk result (bytes.new.items
+        ≡ bytes.old.items ++ checkpoint_bytes Two account.now.state) }
+    ensures account { OnOk result (IsCheckpoint Two account.now.state
+        (checkpoint_bytes Two account.now.state)) }
 {
     tell_account(account);
-    spelled(alloc, account)
+    push_front(bytes, account)?;
+    push_names(bytes, account)?;
+    push_modules(bytes, account)?;
+    push_pages(bytes, account)
 }

@@ -16,7 +16,7 @@ mod rows;
 mod sizes;
 
 pub use decoding::read_checkpoint;
-pub use encoding::encode_checkpoint;
+pub use encoding::push_checkpoint;
 pub use laws::{checkpoint_laws, link_laws, numbers_in_digits};
 pub use link::{Link, MOST_LINK_ENTRIES, MOST_PAYLOAD};
 pub use links::{encode_link, read_link};

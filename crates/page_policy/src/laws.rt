@@ -7,8 +7,10 @@ ghost use Rattle.page_policy.specs.declared.buckets.Limit.{Limit};
 ghost use Rattle.page_policy.specs.declared.buckets.Bucket.{Bucket};
 ghost use Rattle.page_policy.specs.declared.rows.Order.{Order};
 ghost use Rattle.page_policy.specs.Buckets.{IsLimit, aged_bucket, most_count};
-ghost use Rattle.page_policy.specs.Rows.{PageReport};
-ghost use Rattle.page_policy.specs.Histories.{page_rows_of, pages_named, orders_of, order_behind, state_in, state_under, AreOnceInOrder, AreSingle};
+ghost use Rattle.page_policy.specs.declared.rows.PageState.TheVariants.{Kept};
+ghost use Rattle.page_policy.specs.Rows.{CallsForHard, PageReport};
+ghost use Rattle.page_policy.specs.Histories.{page_rows_of, pages_named, orders_of, order_at, order_behind, order_in, rows_after};
+ghost use Rattle.page_policy.specs.Histories.{state_in, state_under, AreOnceInOrder, AreSingle, NeverFalls, OthersStay};
 ghost use Rattle.page_policy.specs.Pages.{AreReservedFor};
 ghost use Rattle.page_policy.specs.declared.rows.PageRow.{PageRow};
 ghost use Rattle.row_tables.specs.Held.{Held, is_ready};
@@ -48,6 +50,32 @@ pub fn page_laws()
     // If the pages of a list of reports wait, a report of the first can be taken.
     ensures ready { (pages : Held ℕ PageRow) (first : ℕ) (more : List ℕ)
         → AreReservedFor pages (first ∷ more) → IsTrue (is_ready nat_eq pages first) }
+{}
+
+/// What one more report does. The function does nothing: its clauses are what it is for.
+pub fn report_laws()
+    // The rows of a history become those of the history with this report, and the order is the
+    // one there.
+    ensures history { (history : List PageReport) (r : PageReport)
+        → rows_after (page_rows_of history) r ≡ page_rows_of (history ++ r ∷ []) }
+    ensures order { (history : List PageReport) (r : PageReport)
+        → order_at r.page (page_rows_of history) (page_rows_of (history ++ r ∷ []))
+        ≡ order_in history r }
+
+    // Soft is ordered of a page that is Kept alone, and Hard only if the class calls for it,
+    // whatever the bucket says.
+    ensures soft { (rows : List (ℕ × PageRow)) (r : PageReport)
+        → order_at r.page rows (rows_after rows r) ≡ Some (Order.Soft r.page)
+        → state_in rows r.page ≡ Kept }
+    ensures hard { (rows : List (ℕ × PageRow)) (r : PageReport)
+        → order_at r.page rows (rows_after rows r) ≡ Some (Order.Hard r.page)
+        → CallsForHard r.class }
+
+    // No state falls, and no other page's row changes.
+    ensures never_falls { (rows : List (ℕ × PageRow)) (r : PageReport)
+        → NeverFalls rows (rows_after rows r) }
+    ensures others { (rows : List (ℕ × PageRow)) (r : PageReport)
+        → OthersStay r.page rows (rows_after rows r) }
 {}
 
 /// The numbers that the definitions cite by name. The function does nothing: its clauses are what

@@ -12,7 +12,7 @@ mod pages;
 mod rows;
 
 pub use buckets::{Bucket, Limit, MOST_CAPACITY, MOST_PERIOD};
-pub use laws::{numbers_in_digits, page_laws};
+pub use laws::{numbers_in_digits, page_laws, report_laws};
 pub use pages::Pages;
 pub use row_tables::RowRefused;
 pub use rows::{Order, PageRow, PageState, is_corrected};

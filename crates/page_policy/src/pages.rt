@@ -4,9 +4,8 @@ ghost use Rattle.std.specs.Prelude.{◌≡◌, ℕ, ◌↔◌, ◌≤◌, ◌<�
 ghost use Rattle.row_tables.specs.Held.{is_held, is_ready, new_keys};
 ghost use Rattle.row_tables.specs.declared.row_table.RowRefused.TheVariants.{Repeated};
 ghost use Rattle.page_policy.specs.Buckets.{IsLimit, most_count};
-ghost use Rattle.page_policy.specs.declared.rows.PageState.TheVariants.{Kept};
-ghost use Rattle.page_policy.specs.Rows.{PageReport, report, CallsForHard};
-ghost use Rattle.page_policy.specs.Histories.{page_rows_of, state_in, order_at, order_in, NeverFalls, OthersStay};
+ghost use Rattle.page_policy.specs.Rows.{report};
+ghost use Rattle.page_policy.specs.Histories.{page_rows_of, order_at};
 ghost use Rattle.page_policy.specs.Pages.{pages_after, page_entry, AreReservedFor};
 
 use crate::rows::order_for;
@@ -77,7 +76,8 @@ impl Pages {
     /// bucket, and lead to Soft if it trips. Ucna leads to Soft; Srao, Srar, Uc, Recoverable and
     /// Fatal lead to Hard; Odd and Informational lead to nothing. A state only rises, and an order
     /// comes exactly if it rose: a bucket that trips at a page that is Soft or Hard is emptied,
-    /// and no order comes.
+    /// and no order comes. What this makes of the reports of a history stands at
+    /// [`crate::report_laws`].
     pub fn account(
         &mut self,
         page: u64,
@@ -90,27 +90,9 @@ impl Pages {
         requires limit { IsLimit limit }
         ensures pages { self.new ≡ pages_after self.old (report page class seconds weight limit) }
         ensures order { result ≡ order_at page self.old.rows self.new.rows }
-
-        // Soft is ordered of a page that is Kept alone, and Hard only if the class calls for it,
-        // whatever the bucket says.
-        ensures soft { result ≡ Some (Order.Soft page) → state_in self.old.rows page ≡ Kept }
-        ensures hard { result ≡ Some (Order.Hard page) → CallsForHard class }
-
-        // No state falls, and no other page's row changes.
-        ensures never_falls { NeverFalls self.old.rows self.new.rows }
-        ensures others { OthersStay page self.old.rows self.new.rows }
-
         // If the pages of a list of reports wait, the reports can be taken in turn.
         ensures in_turn { (pages : List ℕ) → AreReservedFor self.old (page ∷ pages)
             → AreReservedFor self.new pages }
-
-        // The rows of a history become those of the history with this report, and the order is the
-        // one there.
-        ensures history { (history : List PageReport) → self.old.rows ≡ page_rows_of history
-            → self.new.rows
-            ≡ page_rows_of (history ++ report page class seconds weight limit ∷ []) }
-        ensures history_order { (history : List PageReport) → self.old.rows ≡ page_rows_of history
-            → result ≡ order_in history (report page class seconds weight limit) }
     {
         let (place, known) = self.table.find(&page);
         let before = known.unwrap_or(PageRow::new(seconds));

@@ -8,8 +8,7 @@ use Rattle.ras_account.specs.Sightings.{sightings_in}
 use Rattle.ras_account.specs.Account.{State}
 use Rattle.ras_account.specs.Continued.{is_fresh_in, account_after_fresh, account_with_count, account_after}
 use Rattle.ras_account.specs.Numbers.{AreWithin, are_past, IsWithin, numbers_with}
-use Rattle.ras_account.specs.View.{Waiting, WaitsFirst, nothing, then_waits}
-use Rattle.ras_account.proofs.EntryLemmas.{left_waits}
+use Rattle.ras_account.specs.View.{Waiting, WaitsFirst, nothing}
 use Rattle.ras_account.proofs.ItemLemmas.{names-items, entries-items, total-items}
 use Rattle.ras_account.proofs.NumberLemmas.{past-within, stays-within, with_fresh_ones}
 
@@ -34,14 +33,6 @@ single-within a e now later = by (is_fresh_in a e) later
 -- one entry alone passes the numbers only where the account after it does
 pub single-past : (a : State) (e : Entry) → IsWithin a → are_past (numbers_with a (e ∷ [])) ≡ true → IsWithin (account_after a e) → ⊥
 single-past a e now past later = true≢false (sym past ∙ (past-within (numbers_with a (e ∷ []))).1 (single-within a e now later))
-
--- once what waits is taken, nothing waits
-pub nothing_left : (front rest : Waiting) → front ≡ then_waits front rest → rest ≡ nothing
-nothing_left front rest is = left_waits front rest nothing (sym is ∙ (λ i. record {
-  names = sym (append-nil front.names) i;
-  labels = sym (append-nil front.labels) i;
-  pages = sym (append-nil front.pages) i;
-}))
 
 -- what waits alone waits first
 pub waits_alone : (front all : Waiting) → all ≡ front → WaitsFirst front all

@@ -1,94 +1,107 @@
--- The whole pass over the entries that are noted: at its beginning, after one entry more, and at
--- its end.
-use Rattle.std.proofs.Common.{◌≡◌, ◌<◌, ◌≤◌, ◌+◌, ℕ, true, ◌||◌, List, [], ◌∷◌, ◌++◌, length, take, get_or, sym, ap, subst, ◌∙◌, arith, append-nil, length-append}
-use Rattle.std.specs.Map.{keys_of}
+-- The whole pass over the entries of a tally: at its beginning, after one entry more, and at its
+-- end.
+use Rattle.std.proofs.Common.{◌≡◌, ◌<◌, ◌≤◌, ◌+◌, ℕ, Bool, true, false, not, ◌||◌, min, List, [], ◌∷◌, ◌++◌, length, refl, sym, ap, subst, ◌∙◌, arith, append-nil, length-append}
+use Rattle.std.specs.List.{list_any}
 use Rattle.std.proofs.lemmas.Bool.Decides.{nat_tests}
-use Rattle.std.proofs.lemmas.List.{take_more}
-use Rattle.row_tables.specs.Held.{Held}
-use Rattle.page_policy.specs.declared.rows.PageRow.{PageRow}
+use Rattle.dimm_topology.specs.Labels.{Bytes}
+use Rattle.row_tables.specs.Tables.{added_keys}
+use Rattle.ras_facts.specs.declared.name.Name.{Name}
+use Rattle.ras_facts.specs.declared.fact.Fact.{Fact as Told}
 use Rattle.ras_facts.specs.declared.entry.Entry.{Entry}
+use Rattle.ras_facts.specs.declared.entry.Entry.TheVariants.{Fact}
+use Rattle.ras_facts.specs.Names.{same_name}
 use Rattle.ras_account.specs.declared.limits.TheConstants.{MOST_NAMES, MOST_ENTRIES, MOST_TOTAL}
 use Rattle.ras_account.specs.declared.in_force.InForce.{InForce}
 use Rattle.ras_account.specs.declared.reserve.Tally.{Tally}
-use Rattle.ras_account.specs.History.{is_retired}
 use Rattle.ras_account.specs.Fresh.{is_among}
+use Rattle.ras_account.specs.History.{is_retired}
 use Rattle.ras_account.specs.Account.{State, names_of}
-use Rattle.ras_account.specs.Continued.{account_after, account_after_all}
+use Rattle.ras_account.specs.Modules.{Module}
+use Rattle.ras_account.specs.Continued.{is_fresh_in, account_after, account_after_all}
 use Rattle.ras_account.specs.Numbers.{fresh_entries_in, numbers_with, AreWithin, are_past}
 use Rattle.ras_account.specs.View.{View, Waiting, nothing}
-use Rattle.ras_account.specs.Accounts.{IsAccount}
+use Rattle.ras_account.specs.Tallies.{greatest, Tallies, IsTallyOf}
 use Rattle.ras_account.specs.Steps.Parts.{NameList, ModuleList}
-use Rattle.ras_account.specs.Steps.Reserving.{with_fresh, Shadows, Noted, IsNoting}
-use Rattle.ras_account.proofs.StateLemmas.{of_parts, view_of_parts}
-use Rattle.ras_account.proofs.ReserveLemmas.{fresh-snoc, after-snoc}
+use Rattle.ras_account.specs.Steps.Taking.{is_news}
+use Rattle.ras_account.specs.Steps.Reserving.{in_force_after, NotesItems}
+use Rattle.ras_account.proofs.ReserveLemmas.{Tells, tells-old, tells-known, tells-fact, tells-setting, fresh-snoc, after-snoc}
 
-module _ (v : View) (names : NameList) (in_force : InForce) (entries total : ℕ) (modules : ModuleList) (pages : Held ℕ PageRow) (tally : Tally) where
-  abbrev here : State
-  here = of_parts names.held in_force.floor in_force.limit in_force.module_limit entries total modules.rows pages.rows
+-- nothing waits, and a tally has what is in force and the numbers of the account
+pub tally-none : (a : State) (tally : Tally) → tally.in_force ≡ record { floor = a.floor; limit = a.limit; module_limit = a.module_limit }
+    → tally.entries ≡ a.entries → tally.total ≡ a.total → tally.pages.items ≡ [] → IsTallyOf (record { state = a; waiting = nothing }) tally []
+tally-none a tally force entries total none = record {
+  names = refl;
+  labels = refl;
+  none = refl;
+  pages = none;
+  known = λ name. (λ i. is_among (sym (append-nil a.names) i) name || is_retired (sym force i).floor name);
+  floor = ap (λ (f : InForce). f.floor) force;
+  limit = ap (λ (f : InForce). f.limit) force;
+  module_limit = ap (λ (f : InForce). f.module_limit) force;
+  entries = omega (arith, entries);
+  total = omega (arith, total);
+}
 
-  pub noting-start : view_of_parts here names.waiting modules.waiting pages.waiting ≡ v → v.waiting ≡ nothing → IsAccount here
-      → tally.in_force ≡ in_force → tally.entries ≡ entries → tally.total ≡ total → tally.pages.items ≡ [] → IsNoting v names in_force entries total modules pages tally []
-  noting-start is none account force counts weights unnamed =
-      let state : here ≡ v.state = ap (λ (w : View). w.state) is in
-      let waiting : (view_of_parts here names.waiting modules.waiting pages.waiting).waiting ≡ nothing = ap (λ (w : View). w.waiting) is ∙ none in
-      record {
-        account = account;
-        state = state;
-        pages_wait = ap (λ (w : Waiting). w.pages) waiting;
-        shadows = record {
-          keys = ap (λ (a : State). keys_of a.modules) state;
-          names_are = ap (λ (w : Waiting). w.names) waiting;
-          labels = ap (λ (w : Waiting). w.labels) waiting;
-          pages = unnamed;
-          knows_them = λ name.
-              ap (λ (a : State). is_among a.names name || is_retired a.floor name) (sym state)
-              ∙ (λ i. is_among (sym (ap (λ ns. names.held ++ ns) (ap (λ (w : Waiting). w.names) waiting) ∙ append-nil names.held) i) name || is_retired (sym force i).floor name);
-          floor = ap (λ (f : InForce). f.floor) force ∙ ap (λ (a : State). a.floor) state;
-          limit = ap (λ (f : InForce). f.limit) force ∙ ap (λ (a : State). a.limit) state;
-          module_limit = ap (λ (f : InForce). f.module_limit) force ∙ ap (λ (a : State). a.module_limit) state;
-          entries = omega (arith, counts, ap (λ (a : State). a.entries) state);
-          total = omega (arith, weights, ap (λ (a : State). a.total) state);
-        };
-      }
+-- one entry more behind those of a tally: whether it is fresh, and the tally with it
+module _ (a : State) (w : Waiting) (v : View) (same : record { state = a; waiting = w } ≡ v) (tally : Tally) (before : List Entry) (so_far : IsTallyOf v tally before) (e : Entry) where
+  abbrev here : View
+  here = record { state = a; waiting = w }
 
-  pub noting-noted : (done : List Entry) → IsNoting v names in_force entries total modules pages tally done
-      → Noted v.state (record { names = names.waiting; labels = modules.waiting; pages = pages.waiting }) tally done
-  noting-noted done noting = record {
-    names_are = noting.shadows.names_are;
-    labels = noting.shadows.labels;
-    pages = noting.shadows.pages;
-    count = noting.shadows.entries;
-    total = noting.shadows.total;
-  }
+  abbrev pub Judged : View → Tally → Bool → Type 0
+  Judged v' tally' news = (news ≡ is_fresh_in (account_after_all v.state before) e) × IsTallyOf v' tally' (before ++ e ∷ [])
 
-  pub noting-more : (all : List Entry) (i : ℕ) (e : Entry) (names' : NameList) (modules' : ModuleList) (tally' : Tally) → i < length all → e ≡ get_or all i e
-      → IsNoting v names in_force entries total modules pages tally (take i all) → names'.held ≡ names.held → modules'.rows ≡ modules.rows
-      → Shadows v.state (account_after (account_after_all v.state (take i all)) e) (with_fresh (account_after_all v.state (take i all)) (fresh_entries_in v.state (take i all)) e) names' modules' tally'
-      → IsNoting v names' in_force entries total modules' pages tally' (take (i + 1) all)
-  noting-more all i e names' modules' tally' within is noting held rows shadows = record {
-    account = subst IsAccount (λ j. record here { names = sym held j; modules = sym rows j }) noting.account;
-    state = (λ j. record here { names = held j; modules = rows j }) ∙ noting.state;
-    pages_wait = noting.pages_wait;
-    shadows =
-        subst (λ es. Shadows v.state (account_after_all v.state es) (fresh_entries_in v.state es) names' modules' tally') more
-        (subst (λ b. Shadows v.state b (fresh_entries_in v.state (take i all ++ e ∷ [])) names' modules' tally') (sym (after-snoc v.state (take i all) e))
-        (subst (λ fresh. Shadows v.state (account_after (account_after_all v.state (take i all)) e) fresh names' modules' tally') (sym (fresh-snoc v.state (take i all) e)) shadows));
-  }
-    where
-      more : take i all ++ e ∷ [] ≡ take (i + 1) all
-      more = ap (λ (x : Entry). take i all ++ x ∷ []) is ∙ sym (take_more all i e within)
+  from_here : IsTallyOf here tally before
+  from_here = subst (λ x. IsTallyOf x tally before) (sym same) so_far
 
--- what was noted says whether the numbers are past
-module _ (a : State) (waiting : Waiting) (tally : Tally) (all : List Entry) (noted : Noted a waiting tally all) where
-  names-length : length (a.names ++ waiting.names) ≡ length a.names + length (names_of (fresh_entries_in a all))
-  names-length = length-append a.names waiting.names ∙ ap (λ ns. length a.names + length ns) noted.names_are
+  more : (w' : Waiting) (tally' : Tally) (news : Bool) (names : List Name) (modules : List (Bytes × Module)) → names ≡ a.names → modules ≡ a.modules
+      → Tells (record { state = a; waiting = w' }) (account_after_all a before) (fresh_entries_in a before) tally' news e
+      → Judged (record { state = record a { names = names; modules = modules }; waiting = w' }) tally' news
+  more w' tally' news names modules held rows told = (
+    told.judged ∙ ap (λ (x : View). is_fresh_in (account_after_all x.state before) e) same,
+    subst (λ s. IsTallyOf (record { state = s; waiting = w' }) tally' (before ++ e ∷ [])) (λ i. record a { names = sym held i; modules = sym rows i })
+        (subst (λ b. Tallies (record { state = a; waiting = w' }) b (fresh_entries_in a (before ++ e ∷ [])) tally') (sym (after-snoc a before e))
+        (subst (λ fresh. Tallies (record { state = a; waiting = w' }) (account_after (account_after_all a before) e) fresh tally') (sym (fresh-snoc a before e)) told.noted)),
+  )
 
-  pub noted-within : (n : ℕ) → n ≡ length (a.names ++ waiting.names) → n ≤ MOST_NAMES → tally.entries ≤ MOST_ENTRIES → tally.total ≤ MOST_TOTAL → AreWithin (numbers_with a all)
-  noted-within n count few some light = record {
+  pub judged-old : false ≡ is_news tally.in_force.floor tally.in_force.limit tally.in_force.module_limit e → Judged here tally false
+  judged-old old = more w tally false a.names a.modules refl refl (tells-old here (account_after_all a before) (fresh_entries_in a before) tally from_here e old)
+
+  module _ (news : true ≡ is_news tally.in_force.floor tally.in_force.limit tally.in_force.module_limit e) where
+    pub judged-setting : (n : ℕ) (now : InForce) → ((fact : Told) → e ≡ Fact fact → ⊥) → min n greatest ≡ min (tally.entries + 1) greatest → now ≡ in_force_after tally.in_force e
+        → Judged here (record tally { entries = n; in_force = now }) true
+    judged-setting n now other count force =
+        more w _ true a.names a.modules refl refl (tells-setting here (account_after_all a before) (fresh_entries_in a before) tally from_here n count e now other news force)
+
+    module _ (fact : Told) (is : e ≡ Fact fact) (names : NameList) (held : names.held ≡ a.names) (waits : names.waiting ≡ w.names ++ added_keys same_name (a.names ++ w.names) (fact.name ∷ [])) where
+      news-fact : true ≡ is_news tally.in_force.floor tally.in_force.limit tally.in_force.module_limit (Fact fact)
+      news-fact = news ∙ ap (is_news tally.in_force.floor tally.in_force.limit tally.in_force.module_limit) is
+
+      pub judged-known : false ≡ not (list_any (same_name fact.name) (a.names ++ w.names))
+          → Judged (record { state = record a { names = names.held }; waiting = record w { names = names.waiting } }) tally false
+      judged-known known =
+          more _ tally false names.held a.modules held refl
+          (subst (λ x. Tells (record { state = a; waiting = record w { names = names.waiting } }) (account_after_all a before) (fresh_entries_in a before) tally false x) (sym is)
+          (tells-known here (account_after_all a before) (fresh_entries_in a before) tally from_here fact names.waiting news-fact waits known))
+
+      pub judged-fact : (modules : ModuleList) (noted : Tally) (n : ℕ) (now : InForce) → true ≡ not (list_any (same_name fact.name) (a.names ++ w.names))
+          → NotesItems (record { rows = a.modules; waiting = w.labels }) modules tally noted fact.items → min n greatest ≡ min (noted.entries + 1) greatest → now ≡ in_force_after noted.in_force e
+          → Judged (record { state = record a { names = names.held; modules = modules.rows }; waiting = record w { names = names.waiting; labels = modules.waiting } }) (record noted { entries = n; in_force = now }) true
+      judged-fact modules noted n now new items count force =
+          more _ _ true names.held modules.rows held items.rows
+          (subst (λ x. Tells (record { state = a; waiting = record w { names = names.waiting; labels = modules.waiting } }) (account_after_all a before) (fresh_entries_in a before) (record noted { entries = n; in_force = now }) true x) (sym is)
+          (tells-fact here (account_after_all a before) (fresh_entries_in a before) tally from_here fact names.waiting modules noted n now news-fact waits new items count (force ∙ ap (in_force_after noted.in_force) is)))
+
+-- whether the numbers are past is what the tally says
+module _ (v : View) (tally : Tally) (all : List Entry) (is : IsTallyOf v tally all) where
+  names-length : length (v.state.names ++ v.waiting.names) ≡ length v.state.names + length (names_of (fresh_entries_in v.state all))
+  names-length = length-append v.state.names v.waiting.names ∙ ap (λ ns. length v.state.names + length ns) is.names
+
+  pub tally-within : (n : ℕ) → n ≡ length (v.state.names ++ v.waiting.names) → n ≤ MOST_NAMES → tally.entries ≤ MOST_ENTRIES → tally.total ≤ MOST_TOTAL → AreWithin (numbers_with v.state all)
+  tally-within n count few some light = record {
     names = omega (arith, count, names-length, few);
-    entries = omega (arith, noted.count, some);
-    total = omega (arith, noted.total, light);
+    entries = omega (arith, is.entries, some);
+    total = omega (arith, is.total, light);
   }
 
-  past-names : MOST_NAMES < length (a.names ++ waiting.names) → are_past (numbers_with a all) ≡ true
-  past-names many = let count : MOST_NAMES < length a.names + length (names_of (fresh_entries_in a all)) = omega (arith, names-length) in grind (arith, nat_tests)
+  past-names : MOST_NAMES < length (v.state.names ++ v.waiting.names) → are_past (numbers_with v.state all) ≡ true
+  past-names many = let count : MOST_NAMES < length v.state.names + length (names_of (fresh_entries_in v.state all)) = omega (arith, names-length) in grind (arith, nat_tests)

@@ -33,15 +33,17 @@ page-taken a rows row (Ok value) account sound ok err repeated =
     subst (λ ps. IsAccount (record a { pages = ps })) (sym ok) (page-pushed a row account sound (taken-new value (list_any (nat_eq row.0) (keys_of a.pages)) repeated))
 page-taken a rows row (Err e) account sound ok err repeated = subst (λ ps. IsAccount (record a { pages = ps })) (sym err) account
 
-pub name-taken : (a : State) (names : List Name) (name : Name) → IsAccount a → IsValidName name → IsFalse (is_retired a.floor name) → is_among a.names name ≡ false
-    → length a.names < MOST_NAMES → names ≡ a.names ++ name ∷ [] → IsAccount (record a { names = names })
-name-taken a names name account valid kept new room is =
-    subst (λ ns. IsAccount (record a { names = ns })) (sym is)
-    (name-sound a name a.entries account valid (λ i. new i || kept i) (record {
+pub name-taken : (a : State) (names : List Name) (name : Name) (answer : Result (Unit {0}) RowRefused) → IsAccount a → IsValidName name → IsFalse (is_retired a.floor name)
+    → length a.names < MOST_NAMES → OnOk answer (names ≡ a.names ++ name ∷ []) → OnErr answer (names ≡ a.names) → ((answer ≡ Err Repeated) ↔ IsTrue (is_among a.names name))
+    → IsAccount (record a { names = names })
+name-taken a names name (Ok value) account valid kept room ok err repeated =
+    subst (λ ns. IsAccount (record a { names = ns })) (sym ok)
+    (name-sound a name a.entries account valid (λ i. taken-new value (is_among a.names name) repeated i || kept i) (record {
       names = omega (arith, room, length-append a.names (name ∷ []));
       entries = account.within.entries;
       total = account.within.total;
     }))
+name-taken a names name (Err e) account valid kept room ok err repeated = subst (λ ns. IsAccount (record a { names = ns })) (sym err) account
 
 module_row-sound : (row : ModuleRow) → IsTrue (is_label_or_none row.label) → length row.sums ≡ 10 → IfSome row.bucket (λ bucket. bucket.count ≤ most_count)
     → IfSome row.bucket (λ bucket. bucket.stamp < 2 ^ 64) → (row.label ≡ [] → row.bucket ≡ None) → (row.bucket ≡ None → IsFalse row.replace) → IsModuleRow (row_of row)

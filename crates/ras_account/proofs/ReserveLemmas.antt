@@ -1,5 +1,5 @@
 -- Noting entries: what one item and one entry more does to what is noted.
-use Rattle.std.proofs.Common.{◌≡◌, ◌<◌, ◌+◌, ◌⊎◌, inl, inr, ℕ, Bool, true, false, not, ◌||◌, min, max, nat_lt, if◌then◌else◌, List, [], ◌∷◌, ◌++◌, refl, sym, ap, subst, ◌∙◌, arith, append_assoc, append-nil, length-append, true≢false}
+use Rattle.std.proofs.Common.{◌≡◌, ◌<◌, ◌+◌, ℕ, Bool, true, false, not, ◌||◌, min, max, nat_lt, if◌then◌else◌, List, [], ◌∷◌, ◌++◌, refl, sym, ap, subst, ◌∙◌, arith, append_assoc, append-nil, length-append, true≢false}
 use Rattle.std.specs.List.{list_any}
 use Rattle.std.specs.Map.{keys_of}
 use Rattle.std.proofs.lemmas.Bool.Decides.{nat_tests}
@@ -11,7 +11,6 @@ use Rattle.std.proofs.lemmas.List.Sums.{sum_by-append, fold-append}
 use Rattle.dimm_topology.specs.Labels.{same_label}
 use Rattle.row_tables.specs.Tables.{added_keys}
 use Rattle.row_tables.proofs.TableLemmas.{added-append}
-use Rattle.page_policy.specs.declared.buckets.Limit.{Limit}
 use Rattle.ras_facts.specs.declared.name.Name.{Name}
 use Rattle.ras_facts.specs.declared.items.Item.{Item}
 use Rattle.ras_facts.specs.declared.fact.Fact.{Fact as Told}
@@ -27,10 +26,11 @@ use Rattle.ras_account.specs.Sightings.{sightings_in}
 use Rattle.ras_account.specs.Account.{State, names_of, kept_names}
 use Rattle.ras_account.specs.Continued.{knows, is_fresh_in, account_after_fresh, account_with_count, account_after, account_after_all}
 use Rattle.ras_account.specs.Numbers.{fresh_entries_in, items_of}
-use Rattle.ras_account.specs.View.{labels_in, pages_in}
-use Rattle.ras_account.specs.Steps.Parts.{NameList, ModuleList, all_names, all_labels}
+use Rattle.ras_account.specs.View.{View, labels_in, pages_in}
+use Rattle.ras_account.specs.Steps.Parts.{ModuleList, all_labels}
 use Rattle.ras_account.specs.Steps.Taking.{is_news, weights_in}
-use Rattle.ras_account.specs.Steps.Reserving.{in_force_after, greatest, NotesItems, with_fresh, Shadows}
+use Rattle.ras_account.specs.Tallies.{greatest, Tallies}
+use Rattle.ras_account.specs.Steps.Reserving.{in_force_after, NotesItems, with_fresh}
 use Rattle.ras_account.proofs.KeyLemmas.{same_label-exact, same_label-refl}
 use Rattle.ras_account.proofs.FreshLemmas.{is_retired-max, among_kept, names_of-append}
 use Rattle.ras_account.proofs.ItemLemmas.{names-items, floor-items, limit-items, module_limit-items}
@@ -107,170 +107,154 @@ either-lower true false false q ih = absurd (true≢false ih)
 either-lower false true true q ih = refl
 either-lower false true false q ih = absurd (true≢false (sym ih))
 
+-- whether an entry is fresh behind others, and the tally with it
+pub record Tells (v : View) (b : State) (fresh : List Entry) (tally : Tally) (news : Bool) (e : Entry) : Type 0 where
+  pub judged : news ≡ is_fresh_in b e
+  pub noted : Tallies v (account_after b e) (with_fresh b fresh e) tally
+
+absent : (c : Bool) → true ≡ not c → c ≡ false
+absent true h = absurd (true≢false h)
+absent false h = refl
+
 max-of : (floor boot : ℕ) → nat_lt floor boot ≡ true → max floor boot ≡ boot
 max-of floor boot is = let below : floor < boot = grind (arith, nat_tests) in omega arith
 
-module _ (a b : State) (fresh : List Entry) (names : NameList) (modules : ModuleList) (tally : Tally) (shadows : Shadows a b fresh names modules tally) where
-  -- an entry that isn't fresh
-  pub shadows-stale : (e : Entry) → is_fresh_in b e ≡ false → Shadows a (account_after b e) (with_fresh b fresh e) names modules tally
-  shadows-stale e stale = subst (λ f. Shadows a (if f then account_after_fresh (account_with_count b) e else b) (if f then fresh ++ e ∷ [] else fresh) names modules tally) (sym stale) shadows
+module _ (v : View) (b : State) (fresh : List Entry) (tally : Tally) (so_far : Tallies v b fresh tally) where
+  abbrev pub all : List Name
+  all = v.state.names ++ v.waiting.names
 
-  -- one that is fresh
-  goes_on : (e : Entry) (names' : NameList) (modules' : ModuleList) (tally' : Tally) → is_fresh_in b e ≡ true
-      → Shadows a (account_after_fresh (account_with_count b) e) (fresh ++ e ∷ []) names' modules' tally' → Shadows a (account_after b e) (with_fresh b fresh e) names' modules' tally'
-  goes_on e names' modules' tally' is later =
-      subst (λ f. Shadows a (if f then account_after_fresh (account_with_count b) e else b) (if f then fresh ++ e ∷ [] else fresh) names' modules' tally') (sym is) later
+  -- an entry that isn't fresh, and one that is
+  goes_on : (e : Entry) (news : Bool) (v' : View) (tally' : Tally) → news ≡ is_fresh_in b e
+      → Tallies v' (if news then account_after_fresh (account_with_count b) e else b) (if news then fresh ++ e ∷ [] else fresh) tally' → Tells v' b fresh tally' news e
+  goes_on e news v' tally' is later = record {
+    judged = is;
+    noted = subst (λ f. Tallies v' (if f then account_after_fresh (account_with_count b) e else b) (if f then fresh ++ e ∷ [] else fresh) tally') is later;
+  }
 
   -- whether an entry is fresh, by what is noted
-  pub news-is : (e : Entry) → is_news tally.in_force.floor tally.in_force.limit tally.in_force.module_limit e ≡ is_news b.floor b.limit b.module_limit e
-  news-is e = λ i. is_news (shadows.floor i) (shadows.limit i) (shadows.module_limit i) e
+  news-is : (e : Entry) → is_news tally.in_force.floor tally.in_force.limit tally.in_force.module_limit e ≡ is_news b.floor b.limit b.module_limit e
+  news-is e = λ i. is_news (so_far.floor i) (so_far.limit i) (so_far.module_limit i) e
 
-  fresh-fact : (fact : Told) → is_retired tally.in_force.floor fact.name ≡ false → is_fresh_in b (Fact fact) ≡ not (list_any (same_name fact.name) (all_names names))
+  fresh-fact : (fact : Told) → true ≡ is_news tally.in_force.floor tally.in_force.limit tally.in_force.module_limit (Fact fact) → is_fresh_in b (Fact fact) ≡ not (list_any (same_name fact.name) all)
   fresh-fact fact kept =
-      ap not (shadows.knows_them fact.name ∙ ap (λ r. is_among (all_names names) fact.name || r) kept ∙ unsaid (is_among (all_names names) fact.name))
+      ap not (so_far.known fact.name ∙ ap (λ r. is_among all fact.name || r) (absent _ kept) ∙ unsaid (is_among all fact.name))
     where
       unsaid : (b : Bool) → (b || false) ≡ b
       unsaid true = refl
       unsaid false = refl
 
   -- a fact whose name is known
-  pub shadows-known : (fact : Told) (names' : NameList) → is_retired tally.in_force.floor fact.name ≡ false → names'.held ≡ names.held
-      → names'.waiting ≡ names.waiting ++ added_keys same_name (all_names names) (fact.name ∷ []) → false ≡ not (list_any (same_name fact.name) (all_names names))
-      → Shadows a (account_after b (Fact fact)) (with_fresh b fresh (Fact fact)) names' modules tally
-  shadows-known fact names' kept held waiting known =
-      subst (λ (n : NameList). Shadows a (account_after b (Fact fact)) (with_fresh b fresh (Fact fact)) n modules tally)
-      (λ i. record { held = sym held i; waiting = sym (waiting ∙ ap (λ c. names.waiting ++ (if c then [] else fact.name ∷ [])) (there _ known) ∙ append-nil names.waiting) i })
-      (shadows-stale (Fact fact) (fresh-fact fact kept ∙ sym known))
+  pub tells-known : (fact : Told) (names : List Name) → true ≡ is_news tally.in_force.floor tally.in_force.limit tally.in_force.module_limit (Fact fact)
+      → names ≡ v.waiting.names ++ added_keys same_name all (fact.name ∷ []) → false ≡ not (list_any (same_name fact.name) all)
+      → Tells (record v { waiting = record v.waiting { names = names } }) b fresh tally false (Fact fact)
+  tells-known fact names kept waiting known =
+      subst (λ (ns : List Name). Tells (record v { waiting = record v.waiting { names = ns } }) b fresh tally false (Fact fact))
+      (sym (waiting ∙ ap (λ c. v.waiting.names ++ (if c then [] else fact.name ∷ [])) (there _ known) ∙ append-nil v.waiting.names))
+      (goes_on (Fact fact) false v tally (known ∙ sym (fresh-fact fact kept)) so_far)
     where
       there : (c : Bool) → false ≡ not c → c ≡ true
       there true h = refl
       there false h = absurd (true≢false (sym h))
 
   -- a fact whose name is new
-  pub shadows-fact : (fact : Told) (names' : NameList) (modules' : ModuleList) (counted tally' : Tally) (n : ℕ) → is_retired tally.in_force.floor fact.name ≡ false → names'.held ≡ names.held
-      → names'.waiting ≡ names.waiting ++ added_keys same_name (all_names names) (fact.name ∷ []) → true ≡ not (list_any (same_name fact.name) (all_names names))
-      → min n greatest ≡ min (tally.entries + 1) greatest → counted ≡ record tally { entries = n } → NotesItems modules modules' counted tally' fact.items
-      → Shadows a (account_after b (Fact fact)) (with_fresh b fresh (Fact fact)) names' modules' tally'
-  shadows-fact fact names' modules' counted tally' n kept held waiting new count one noted =
-      goes_on (Fact fact) names' modules' tally' (fresh-fact fact kept ∙ sym new) (record {
-        keys = ap keys_of noted.rows ∙ shadows.keys;
-        names_are = more ∙ ap (λ ns. ns ++ fact.name ∷ []) shadows.names_are ∙ sym (names_of-append fresh (Fact fact ∷ []));
+  pub tells-fact : (fact : Told) (names : List Name) (modules : ModuleList) (noted : Tally) (n : ℕ) (now : InForce) → true ≡ is_news tally.in_force.floor tally.in_force.limit tally.in_force.module_limit (Fact fact)
+      → names ≡ v.waiting.names ++ added_keys same_name all (fact.name ∷ []) → true ≡ not (list_any (same_name fact.name) all)
+      → NotesItems (record { rows = v.state.modules; waiting = v.waiting.labels }) modules tally noted fact.items
+      → min n greatest ≡ min (noted.entries + 1) greatest → now ≡ noted.in_force
+      → Tells (record v { waiting = record v.waiting { names = names; labels = modules.waiting } }) b fresh (record noted { entries = n; in_force = now }) true (Fact fact)
+  tells-fact fact names modules noted n now kept waiting new items count force =
+      goes_on (Fact fact) true _ (record noted { entries = n; in_force = now }) (new ∙ sym (fresh-fact fact kept)) (record {
+        names = more ∙ ap (λ ns. ns ++ fact.name ∷ []) so_far.names ∙ sym (names_of-append fresh (Fact fact ∷ []));
         labels =
-            noted.labels
-            ∙ (λ i. shadows.labels i ++ added_keys same_label (shadows.keys i ++ shadows.labels i) (labels_in fact.items))
-            ∙ sym (labels-more a fresh (Fact fact));
-        pages = noted.pages ∙ ap (λ ps. ps ++ pages_in fact.items) (ap (λ (t : Tally). t.pages.items) one ∙ shadows.pages) ∙ sym (pages-are a fresh (Fact fact));
-        knows_them = knows_more;
-        floor = floors ∙ shadows.floor ∙ sym (floor-items later (sightings_in b.limit b.module_limit (Fact fact)));
-        limit = ap (λ (f : InForce). f.limit) in_force ∙ shadows.limit ∙ sym (limit-items later (sightings_in b.limit b.module_limit (Fact fact)));
-        module_limit = ap (λ (f : InForce). f.module_limit) in_force ∙ shadows.module_limit ∙ sym (module_limit-items later (sightings_in b.limit b.module_limit (Fact fact)));
-        entries = omega (arith, noted.entries, ap (λ (t : Tally). t.entries) one, count, shadows.entries, length-append fresh (Fact fact ∷ []));
-        total = omega (arith, noted.total, ap (λ (t : Tally). t.total) one, shadows.total, weights-are a fresh (Fact fact));
+            items.labels
+            ∙ (λ i. so_far.labels i ++ added_keys same_label (keys_of v.state.modules ++ so_far.labels i) (labels_in fact.items))
+            ∙ sym (labels-more v.state fresh (Fact fact));
+        none = so_far.none;
+        pages = items.pages ∙ ap (λ ps. ps ++ pages_in fact.items) so_far.pages ∙ sym (pages-are v.state fresh (Fact fact));
+        known = knows_more;
+        floor = floors ∙ so_far.floor ∙ sym (floor-items later (sightings_in b.limit b.module_limit (Fact fact)));
+        limit = ap (λ (f : InForce). f.limit) in_force ∙ so_far.limit ∙ sym (limit-items later (sightings_in b.limit b.module_limit (Fact fact)));
+        module_limit = ap (λ (f : InForce). f.module_limit) in_force ∙ so_far.module_limit ∙ sym (module_limit-items later (sightings_in b.limit b.module_limit (Fact fact)));
+        entries = omega (arith, items.entries, count, so_far.entries, length-append fresh (Fact fact ∷ []));
+        total = omega (arith, items.total, so_far.total, weights-are v.state fresh (Fact fact));
       })
     where
       later : State
       later = record b { names = b.names ++ fact.name ∷ []; entries = b.entries + 1 }
 
-      absent : (c : Bool) → true ≡ not c → c ≡ false
-      absent true h = absurd (true≢false h)
-      absent false h = refl
+      more : names ≡ v.waiting.names ++ fact.name ∷ []
+      more = waiting ∙ ap (λ c. v.waiting.names ++ (if c then [] else fact.name ∷ [])) (absent _ new)
 
-      more : names'.waiting ≡ names.waiting ++ fact.name ∷ []
-      more = waiting ∙ ap (λ c. names.waiting ++ (if c then [] else fact.name ∷ [])) (absent _ new)
+      in_force : now ≡ tally.in_force
+      in_force = force ∙ items.in_force
 
-      in_force : tally'.in_force ≡ tally.in_force
-      in_force = noted.in_force ∙ ap (λ (t : Tally). t.in_force) one
-
-      floors : tally'.in_force.floor ≡ tally.in_force.floor
+      floors : now.floor ≡ tally.in_force.floor
       floors = ap (λ (f : InForce). f.floor) in_force
 
-      all-more : all_names names' ≡ all_names names ++ fact.name ∷ []
-      all-more = (λ i. held i ++ more i) ∙ sym (append_assoc names.held names.waiting (fact.name ∷ []))
+      all-more : v.state.names ++ names ≡ all ++ fact.name ∷ []
+      all-more = ap (λ ns. v.state.names ++ ns) more ∙ sym (append_assoc v.state.names v.waiting.names (fact.name ∷ []))
 
-      knows_more : (name : Name) → knows (account_after_fresh (account_with_count b) (Fact fact)) name ≡ (is_among (all_names names') name || is_retired tally'.in_force.floor name)
+      knows_more : (name : Name) → knows (account_after_fresh (account_with_count b) (Fact fact)) name ≡ (is_among (v.state.names ++ names) name || is_retired now.floor name)
       knows_more name =
           (λ i. is_among (names-items later (sightings_in b.limit b.module_limit (Fact fact)) i) name || is_retired (floor-items later (sightings_in b.limit b.module_limit (Fact fact)) i) name)
           ∙ ap (λ c. c || is_retired b.floor name) (list_any-append (same_name name) b.names (fact.name ∷ []))
-          ∙ either-more (is_among b.names name) (is_among (all_names names) name) (same_name name fact.name) (is_retired b.floor name) (shadows.knows_them name ∙ ap (λ f. is_among (all_names names) name || is_retired f name) shadows.floor)
-          ∙ ap (λ c. c || is_retired b.floor name) (sym (list_any-append (same_name name) (all_names names) (fact.name ∷ [])))
-          ∙ (λ i. is_among (sym all-more i) name || is_retired ((sym shadows.floor ∙ sym floors) i) name)
+          ∙ either-more (is_among b.names name) (is_among all name) (same_name name fact.name) (is_retired b.floor name) (so_far.known name ∙ ap (λ f. is_among all name || is_retired f name) so_far.floor)
+          ∙ ap (λ c. c || is_retired b.floor name) (sym (list_any-append (same_name name) all (fact.name ∷ [])))
+          ∙ (λ i. is_among (sym all-more i) name || is_retired ((sym so_far.floor ∙ sym floors) i) name)
 
   -- an entry that sets something
   module _ (n : ℕ) (count : min n greatest ≡ min (tally.entries + 1) greatest) where
     -- what stays of the lists and the numbers
-    stays : (b' : State) (e : Entry) (now : InForce) → items_in e ≡ [] → names_of (e ∷ []) ≡ []
-        → ((name : Name) → knows b' name ≡ (is_among (all_names names) name || is_retired now.floor name)) → now.floor ≡ b'.floor → now.limit ≡ b'.limit → now.module_limit ≡ b'.module_limit
-        → Shadows a b' (fresh ++ e ∷ []) names modules (record tally { entries = n; in_force = now })
-    stays b' e now none unnamed known floor limit module_limit = record {
-      keys = shadows.keys;
-      names_are = shadows.names_are ∙ sym (names_of-append fresh (e ∷ []) ∙ ap (λ ns. names_of fresh ++ ns) unnamed ∙ append-nil (names_of fresh));
-      labels = shadows.labels ∙ ap (λ is. added_keys same_label (keys_of a.modules) (labels_in is)) (sym same);
-      pages = shadows.pages ∙ ap pages_in (sym same);
-      knows_them = known;
+    stays : (e : Entry) (now : InForce) → true ≡ is_fresh_in b e → items_in e ≡ [] → names_of (e ∷ []) ≡ []
+        → ((name : Name) → knows (account_after_fresh (account_with_count b) e) name ≡ (is_among all name || is_retired now.floor name))
+        → now.floor ≡ (account_after_fresh (account_with_count b) e).floor → now.limit ≡ (account_after_fresh (account_with_count b) e).limit → now.module_limit ≡ (account_after_fresh (account_with_count b) e).module_limit
+        → Tells v b fresh (record tally { entries = n; in_force = now }) true e
+    stays e now is none unnamed known floor limit module_limit = goes_on e true v _ is (record {
+      names = so_far.names ∙ sym (names_of-append fresh (e ∷ []) ∙ ap (λ ns. names_of fresh ++ ns) unnamed ∙ append-nil (names_of fresh));
+      labels = so_far.labels ∙ ap (λ is. added_keys same_label (keys_of v.state.modules) (labels_in is)) (sym same);
+      none = so_far.none;
+      pages = so_far.pages ∙ ap pages_in (sym same);
+      known = known;
       floor = floor;
       limit = limit;
       module_limit = module_limit;
-      entries = omega (arith, count, shadows.entries, length-append fresh (e ∷ []));
-      total = shadows.total ∙ ap (λ is. min (a.total + weights_in is) greatest) (sym same);
-    }
+      entries = omega (arith, count, so_far.entries, length-append fresh (e ∷ []));
+      total = so_far.total ∙ ap (λ is. min (v.state.total + weights_in is) greatest) (sym same);
+    })
       where
         same : items_of (fresh ++ e ∷ []) ≡ items_of fresh
         same = items-more fresh e ∙ ap (λ is. items_of fresh ++ is) none ∙ append-nil (items_of fresh)
 
-    setting-limit : (limit : Limit) → is_fresh_in b (PageLimit limit) ≡ true
-        → Shadows a (account_after b (PageLimit limit)) (with_fresh b fresh (PageLimit limit)) names modules (record tally { entries = n; in_force = record tally.in_force { limit = limit } })
-    setting-limit limit is =
-        goes_on (PageLimit limit) names modules _ is (stays (account_after_fresh (account_with_count b) (PageLimit limit)) (PageLimit limit) (record tally.in_force { limit = limit }) refl refl shadows.knows_them shadows.floor refl shadows.module_limit)
-
-    setting-module_limit : (limit : Limit) → is_fresh_in b (ModuleLimit limit) ≡ true
-        → Shadows a (account_after b (ModuleLimit limit)) (with_fresh b fresh (ModuleLimit limit)) names modules (record tally { entries = n; in_force = record tally.in_force { module_limit = limit } })
-    setting-module_limit limit is =
-        goes_on (ModuleLimit limit) names modules _ is (stays (account_after_fresh (account_with_count b) (ModuleLimit limit)) (ModuleLimit limit) (record tally.in_force { module_limit = limit }) refl refl shadows.knows_them shadows.floor shadows.limit refl)
-
-    setting-floor : (boot : ℕ) → is_fresh_in b (Retire boot) ≡ true
-        → Shadows a (account_after b (Retire boot)) (with_fresh b fresh (Retire boot)) names modules (record tally { entries = n; in_force = record tally.in_force { floor = boot } })
-    setting-floor boot is =
-        goes_on (Retire boot) names modules _ is (stays (account_after_fresh (account_with_count b) (Retire boot)) (Retire boot) (record tally.in_force { floor = boot }) refl refl known refl shadows.limit shadows.module_limit)
-      where
-        known : (name : Name) → (is_among (kept_names boot b.names) name || is_retired boot name) ≡ (is_among (all_names names) name || is_retired boot name)
-        known name =
-            among_kept boot b.names name
-            ∙ ap (λ f. is_among b.names name || is_retired f name) (sym (max-of b.floor boot is))
-            ∙ ap (λ r. is_among b.names name || r) (is_retired-max b.floor boot name)
-            ∙ either-lower (is_among b.names name) (is_among (all_names names) name) (is_retired b.floor name) (is_retired boot name) (shadows.knows_them name ∙ ap (λ f. is_among (all_names names) name || is_retired f name) shadows.floor)
-            ∙ ap (λ r. is_among (all_names names) name || r) (sym (is_retired-max b.floor boot name))
-            ∙ ap (λ f. is_among (all_names names) name || is_retired f name) (max-of b.floor boot is)
-
-    -- one of the three
-    pub shadows-setting : (e : Entry) (now : InForce)
-        → ((limit : Limit) × (e ≡ PageLimit limit)) ⊎ (((boot : ℕ) × (e ≡ Retire boot)) ⊎ ((limit : Limit) × (e ≡ ModuleLimit limit)))
+    pub tells-setting : (e : Entry) (now : InForce) → ((fact : Told) → e ≡ Fact fact → ⊥)
         → true ≡ is_news tally.in_force.floor tally.in_force.limit tally.in_force.module_limit e → now ≡ in_force_after tally.in_force e
-        → Shadows a (account_after b e) (with_fresh b fresh e) names modules (record tally { entries = n; in_force = now })
-    shadows-setting e now kind news is =
-        subst (λ f. Shadows a (account_after b e) (with_fresh b fresh e) names modules (record tally { entries = n; in_force = f })) (sym is)
-        (by kind (news ∙ news-is e))
+        → Tells v b fresh (record tally { entries = n; in_force = now }) true e
+    tells-setting e now other news is =
+        subst (λ f. Tells v b fresh (record tally { entries = n; in_force = f }) true e) (sym is) (by e other (news ∙ news-is e))
       where
-        by : ((limit : Limit) × (e ≡ PageLimit limit)) ⊎ (((boot : ℕ) × (e ≡ Retire boot)) ⊎ ((limit : Limit) × (e ≡ ModuleLimit limit)))
-            → true ≡ is_news b.floor b.limit b.module_limit e
-            → Shadows a (account_after b e) (with_fresh b fresh e) names modules (record tally { entries = n; in_force = in_force_after tally.in_force e })
-        by (inl (limit, same)) fresh_now =
-            subst (λ (x : Entry). Shadows a (account_after b x) (with_fresh b fresh x) names modules (record tally { entries = n; in_force = in_force_after tally.in_force x })) (sym same)
-            (setting-limit limit (sym (fresh_now ∙ ap (is_news b.floor b.limit b.module_limit) same)))
-        by (inr (inl (boot, same))) fresh_now =
-            subst (λ (x : Entry). Shadows a (account_after b x) (with_fresh b fresh x) names modules (record tally { entries = n; in_force = in_force_after tally.in_force x })) (sym same)
-            (setting-floor boot (sym (fresh_now ∙ ap (is_news b.floor b.limit b.module_limit) same)))
-        by (inr (inr (limit, same))) fresh_now =
-            subst (λ (x : Entry). Shadows a (account_after b x) (with_fresh b fresh x) names modules (record tally { entries = n; in_force = in_force_after tally.in_force x })) (sym same)
-            (setting-module_limit limit (sym (fresh_now ∙ ap (is_news b.floor b.limit b.module_limit) same)))
+        by : (e : Entry) → ((fact : Told) → e ≡ Fact fact → ⊥) → true ≡ is_news b.floor b.limit b.module_limit e
+            → Tells v b fresh (record tally { entries = n; in_force = in_force_after tally.in_force e }) true e
+        by (Fact fact) other fresh_now = absurd (other fact refl)
+        by (PageLimit limit) other fresh_now = stays (PageLimit limit) _ fresh_now refl refl so_far.known so_far.floor refl so_far.module_limit
+        by (ModuleLimit limit) other fresh_now = stays (ModuleLimit limit) _ fresh_now refl refl so_far.known so_far.floor so_far.limit refl
+        by (Retire boot) other fresh_now = stays (Retire boot) _ fresh_now refl refl known refl so_far.limit so_far.module_limit
+          where
+            known : (name : Name) → (is_among (kept_names boot b.names) name || is_retired boot name) ≡ (is_among all name || is_retired boot name)
+            known name =
+                among_kept boot b.names name
+                ∙ ap (λ f. is_among b.names name || is_retired f name) (sym (max-of b.floor boot (sym fresh_now)))
+                ∙ ap (λ r. is_among b.names name || r) (is_retired-max b.floor boot name)
+                ∙ either-lower (is_among b.names name) (is_among all name) (is_retired b.floor name) (is_retired boot name) (so_far.known name ∙ ap (λ f. is_among all name || is_retired f name) so_far.floor)
+                ∙ ap (λ r. is_among all name || r) (sym (is_retired-max b.floor boot name))
+                ∙ ap (λ f. is_among all name || is_retired f name) (max-of b.floor boot (sym fresh_now))
 
   -- an entry that isn't news isn't fresh
-  pub shadows-old : (e : Entry) → false ≡ is_news tally.in_force.floor tally.in_force.limit tally.in_force.module_limit e → Shadows a (account_after b e) (with_fresh b fresh e) names modules tally
-  shadows-old e old = shadows-stale e (stale e (sym (old ∙ news-is e)))
+  pub tells-old : (e : Entry) → false ≡ is_news tally.in_force.floor tally.in_force.limit tally.in_force.module_limit e → Tells v b fresh tally false e
+  tells-old e old = goes_on e false v tally (stale e (old ∙ news-is e)) so_far
     where
-      stale : (e : Entry) → is_news b.floor b.limit b.module_limit e ≡ false → is_fresh_in b e ≡ false
+      stale : (e : Entry) → false ≡ is_news b.floor b.limit b.module_limit e → false ≡ is_fresh_in b e
       stale (Fact fact) is = by (is_among b.names fact.name) (is_retired b.floor fact.name) is
         where
-          by : (m r : Bool) → not r ≡ false → not (m || r) ≡ false
+          by : (m r : Bool) → false ≡ not r → false ≡ not (m || r)
           by true r h = refl
           by false r h = h
       stale (PageLimit limit) is = is

@@ -9,5 +9,6 @@ pub mod Asked
 pub mod Numbers
 pub mod Rows
 pub mod View
+pub mod Tallies
 pub mod Accounts
 pub mod Steps

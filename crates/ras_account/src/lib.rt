@@ -24,5 +24,5 @@ pub use limits::{FIRST_LIMIT, FIRST_MODULE_LIMIT, MOST_ENTRIES, MOST_NAMES, MOST
 pub use modules::ModuleRow;
 pub use orders::Orders;
 pub use ras_facts::Entry;
-pub use rebuilding::PushRefused;
-pub use reserve::ReserveRefused;
+pub use rebuilding::{PushRefused, Rebuilt};
+pub use reserve::{ReserveRefused, Tally};

@@ -13,12 +13,17 @@ ghost use Rattle.ras_account.specs.Fresh.{is_among};
 ghost use Rattle.ras_account.specs.Rows.{has_retired, has_module, has_page, with_name, with_module, with_page};
 ghost use Rattle.ras_account.specs.View.{nothing};
 ghost use Rattle.ras_account.specs.Rows.{row_of};
+ghost use Rattle.ras_account.specs.Account.{account_of, weight_in};
+ghost use Rattle.ras_account.specs.Accounts.{IsAccount};
+ghost use Rattle.ras_account.specs.History.{empty};
 
 use crate::{Account, MOST_ENTRIES, MOST_NAMES, MOST_TOTAL, ModuleRow};
 use mca_status::CLASS_COUNT;
 use page_policy::{Bucket, Limit, PageState};
 use ras_facts::Name;
 use row_tables::RowRefused;
+use std::alloc::Global;
+use std::marker::Model;
 use thiserror::Error;
 
 /// Why a name or a module's row can't be put after the others.
@@ -48,68 +53,76 @@ impl From<RowRefused> for PushRefused {
     }
 }
 
-impl Account {
-    /// Puts a limit for pages in force, and sets the number of entries, at most `MOST_ENTRIES`.
-    /// Nothing may wait.
-    pub fn set_base(&mut self, limit: Limit, entries: u64)
-        requires waiting { self.old.waiting ≡ nothing }
-        requires limit { IsLimit limit }
-        requires entries { entries ≤ MOST_ENTRIES }
-        ensures state { self.new.state
-            ≡ record self.old.state { limit = limit; entries = entries } }
-        ensures waiting { self.new.waiting ≡ nothing }
-    {
-        self.in_force.limit = limit;
-        self.entries = entries;
-    }
+/// An account that is made again. Nothing waits in it.
+#[derive(Drop)]
+pub struct Rebuilt {
+    account: Account,
+}
 
-    /// Puts a limit for modules in force. Nothing may wait.
-    pub fn set_module_limit(&mut self, limit: Limit)
-        requires waiting { self.old.waiting ≡ nothing }
+impl Model for Rebuilt {
+    ghost use Rattle.std.specs.Prelude.{◌≡◌};
+    ghost use Rattle.ras_account.specs.Account.{State};
+    ghost use Rattle.ras_account.specs.View.{nothing};
+
+    ghost Value = { State };
+
+    ghost view = { λ r. r.account.state };
+
+    ghost invariant = { λ r. r.account.waiting ≡ nothing };
+}
+
+impl Rebuilt {
+    /// An account with these limits for pages and modules in force and this number of entries, at
+    /// most `MOST_ENTRIES`, that has no floor, no names and no rows yet.
+    pub fn new(alloc: Global, limit: Limit, module_limit: Limit, entries: u64) -> Rebuilt
         requires limit { IsLimit limit }
-        ensures state { self.new.state ≡ record self.old.state { module_limit = limit } }
-        ensures waiting { self.new.waiting ≡ nothing }
+        requires module_limit { IsLimit module_limit }
+        requires entries { entries ≤ MOST_ENTRIES }
+        ensures { result ≡ record (account_of empty) {
+          limit = limit;
+          module_limit = module_limit;
+          entries = entries;
+        } }
     {
-        self.in_force.module_limit = limit;
+        let mut account = Account::new(alloc);
+        account.in_force.limit = limit;
+        account.in_force.module_limit = module_limit;
+        account.entries = entries;
+        Rebuilt { account }
     }
 
     /// Sets the floor unless a name is held that it retires: then all stays, and the answer is
-    /// false. Nothing may wait.
+    /// false.
     pub fn set_floor(&mut self, floor: u64) -> bool
-        requires { self.old.waiting ≡ nothing }
-        ensures exact { result ≡ not (has_retired floor self.old.state.names) }
-        ensures set { OnTrue result (self.new.state ≡ record self.old.state { floor = floor }) }
-        ensures kept { OnFalse result (self.new.state ≡ self.old.state) }
-        ensures waiting { self.new.waiting ≡ nothing }
+        ensures exact { result ≡ not (has_retired floor self.old.names) }
+        ensures set { OnTrue result (self.new ≡ record self.old { floor = floor }) }
+        ensures kept { OnFalse result (self.new ≡ self.old) }
     {
-        if self.names.any_retired(floor) {
+        if self.account.names.any_retired(floor) {
             return false;
         }
-        self.in_force.floor = floor;
+        self.account.in_force.floor = floor;
         true
     }
 
-    /// Puts a name after the others, whose boot isn't retired. Nothing may wait, and after a
-    /// refusal all stays.
+    /// Puts a name after the others, whose boot isn't retired. After a refusal all stays.
     ///
     /// `Repeated` comes exactly if the name is held, and else `Full` exactly if `MOST_NAMES`
     /// names are.
     pub fn push_name(&mut self, name: Name) -> Result<(), PushRefused>
-        requires waiting { self.old.waiting ≡ nothing }
-        requires kept { IsFalse (is_retired self.old.state.floor name) }
-        ensures ok { OnOk result (self.new.state ≡ with_name self.old.state name) }
-        ensures err { OnErr result (self.new.state ≡ self.old.state) }
-        ensures waiting { self.new.waiting ≡ nothing }
-        ensures repeated { (result ≡ Err Repeated) ↔ IsTrue (is_among self.old.state.names name) }
-        ensures full { result ≡ Err Full → length self.old.state.names ≡ MOST_NAMES }
-        ensures within { OnOk result (length self.old.state.names < MOST_NAMES) }
+        requires { IsFalse (is_retired self.old.floor name) }
+        ensures ok { OnOk result (self.new ≡ with_name self.old name) }
+        ensures err { OnErr result (self.new ≡ self.old) }
+        ensures repeated { (result ≡ Err Repeated) ↔ IsTrue (is_among self.old.names name) }
+        ensures full { result ≡ Err Full → length self.old.names ≡ MOST_NAMES }
+        ensures within { OnOk result (length self.old.names < MOST_NAMES) }
     {
         tell_valid_name(&name);
-        if self.names.len() < MOST_NAMES {
-            self.names.push(name)?;
+        if self.account.names.len() < MOST_NAMES {
+            self.account.names.push(name)?;
             return Ok(());
         }
-        if self.names.holds(&name) {
+        if self.account.names.holds(&name) {
             Err(PushRefused::Repeated)
         } else {
             Err(PushRefused::Full)
@@ -118,29 +131,27 @@ impl Account {
 
     /// Puts the row of a module after the others, and adds its ten sums to the total weight. The
     /// bucket has to hold at most 999,999 errors; a row without a bucket can't be to be replaced,
-    /// and a row without a label has no bucket. Nothing may wait, and after a refusal all stays.
+    /// and a row without a label has no bucket. After a refusal all stays.
     ///
     /// `Repeated` comes exactly if the label has a row, and else `Full` exactly if the total
     /// weight would pass `MOST_TOTAL`.
     pub fn push_module(&mut self, row: ModuleRow) -> Result<(), PushRefused>
-        requires waiting { self.old.waiting ≡ nothing }
         requires count { IfSome row.bucket (λ bucket. bucket.count ≤ most_count) }
         requires replace { row.bucket ≡ None → IsFalse row.replace }
         requires unlabeled { row.label ≡ [] → row.bucket ≡ None }
-        ensures ok { OnOk result (self.new.state ≡ with_module self.old.state (row_of row)) }
-        ensures err { OnErr result (self.new.state ≡ self.old.state) }
-        ensures waiting { self.new.waiting ≡ nothing }
-        ensures repeated { (result ≡ Err Repeated) ↔ IsTrue (has_module self.old.state row.label) }
-        ensures full { result ≡ Err Full → MOST_TOTAL < self.old.state.total + sum row.sums }
-        ensures within { OnOk result (self.old.state.total + sum row.sums ≤ MOST_TOTAL) }
+        ensures ok { OnOk result (self.new ≡ with_module self.old (row_of row)) }
+        ensures err { OnErr result (self.new ≡ self.old) }
+        ensures repeated { (result ≡ Err Repeated) ↔ IsTrue (has_module self.old row.label) }
+        ensures full { result ≡ Err Full → MOST_TOTAL < weight_in self.old.modules + sum row.sums }
+        ensures within { OnOk result (self.old.total + sum row.sums ≤ MOST_TOTAL) }
     {
         tell_valid_row(&row);
-        if let Some(total) = weight_with(self.total, &row.sums) {
-            self.modules.push(row)?;
-            self.total = total;
+        if let Some(total) = weight_with(self.account.total, &row.sums) {
+            self.account.modules.push(row)?;
+            self.account.total = total;
             return Ok(());
         }
-        if self.modules.holds(&row.label) {
+        if self.account.modules.holds(&row.label) {
             Err(PushRefused::Repeated)
         } else {
             Err(PushRefused::Full)
@@ -148,7 +159,7 @@ impl Account {
     }
 
     /// Puts the row of a page after the others: a page below 2^52, with a bucket of at most
-    /// 999,999 errors. Nothing may wait, and after a refusal all stays.
+    /// 999,999 errors. After a refusal all stays.
     ///
     /// `Repeated` comes exactly if the page has a row.
     pub fn push_page(
@@ -157,17 +168,25 @@ impl Account {
         bucket: Bucket,
         state: PageState,
     ) -> Result<(), RowRefused>
-        requires waiting { self.old.waiting ≡ nothing }
         requires page { IsPage page }
         requires count { bucket.count ≤ most_count }
         ensures ok { OnOk result
-            (self.new.state ≡ with_page self.old.state (page_entry page bucket state)) }
-        ensures err { OnErr result (self.new.state ≡ self.old.state) }
-        ensures waiting { self.new.waiting ≡ nothing }
-        ensures repeated { (result ≡ Err RowRepeated) ↔ IsTrue (has_page self.old.state page) }
+            (self.new ≡ with_page self.old (page_entry page bucket state)) }
+        ensures err { OnErr result (self.new ≡ self.old) }
+        ensures repeated { (result ≡ Err RowRepeated) ↔ IsTrue (has_page self.old page) }
     {
         tell_valid_bucket(bucket);
-        self.pages.push_row(page, bucket, state)
+        self.account.pages.push_row(page, bucket, state)
+    }
+
+    /// The account, in which nothing waits.
+    pub fn into_account(self) -> Account
+        ensures state { result.state ≡ self }
+        ensures waiting { result.waiting ≡ nothing }
+        ensures account { IsAccount self }
+    {
+        let _ = self.account.entries();
+        self.account
     }
 }
 

@@ -1,21 +1,18 @@
 //! What a list of entries adds to an account, noted before any of them is taken.
-ghost use Rattle.std.specs.Prelude.{◌≡◌, List, [], ◌∷◌, Err, IfOk, OnOk, OnErr};
+ghost use Rattle.std.specs.Prelude.{◌≡◌, List, [], ◌∷◌, ◌++◌, Err, IfOk, OnOk, OnErr};
 ghost use Rattle.ras_account.specs.declared.reserve.ReserveRefused.TheVariants.{NoMemory as NoMemoryForEntries, Full};
 ghost use Rattle.ras_facts.specs.declared.entry.Entry.{Entry};
-ghost use Rattle.std.specs.Bool.{IsFalse};
-ghost use Rattle.ras_account.specs.History.{is_retired};
-ghost use Rattle.ras_account.specs.Account.{State};
 ghost use Rattle.ras_account.specs.Numbers.{HasRoomFor, HasNoRoomFor};
 ghost use Rattle.ras_account.specs.View.{nothing, added_by};
-ghost use Rattle.ras_account.specs.Continued.{account_after};
-ghost use Rattle.ras_account.specs.Steps.Reserving.{NotesItems, with_fresh, Shadows, Noted};
+ghost use Rattle.ras_account.specs.Continued.{is_fresh_in, account_after_all};
+ghost use Rattle.ras_account.specs.Tallies.{IsTallyOf, Reserves};
+ghost use Rattle.ras_account.specs.Steps.Reserving.{NotesItems};
 
 use crate::in_force::InForce;
 use crate::modules::Modules;
-use crate::names::Names;
 use crate::{Account, MOST_ENTRIES, MOST_NAMES, MOST_TOTAL};
 use ras_base::NoMemory;
-use ras_facts::{Entry, Fact, Item};
+use ras_facts::{Entry, Item};
 use thiserror::Error;
 
 /// Why entries can't be let wait.
@@ -53,7 +50,6 @@ impl Account {
         ensures full { result ≡ Err Full → HasNoRoomFor self.old.state entries.now }
         ensures within { OnOk result (HasRoomFor self.old.state entries.now) }
     {
-        self.give_up();
         match self.let_wait(entries) {
             Ok(()) => Ok(()),
             Err(refused) => {
@@ -63,25 +59,76 @@ impl Account {
         }
     }
 
-    // Lets nothing wait any longer.
-    fn give_up(&mut self)
-        ensures state { self.new.state ≡ self.old.state }
-        ensures waiting { self.new.waiting ≡ nothing }
+    // Lets what these entries add wait, in the place of what waited before.
+    fn let_wait(&mut self, entries: &[Entry]) -> Result<(), ReserveRefused>
+        ensures { Reserves result self.old.state self.new entries.now }
+    {
+        let mut tally = self.begin_tally();
+        for entry in entries {
+            self.wait_if_fresh(&mut tally, entry)?;
+        }
+        self.end_tally(&tally)
+    }
+
+    /// Lets nothing wait any longer.
+    pub fn give_up(&mut self)
+        ensures { self.new ≡ record self.old { waiting = nothing } }
     {
         self.names.give_up();
         self.modules.give_up();
         self.pages.give_up();
     }
 
-    // Lets what these entries add wait. Nothing waits yet.
-    fn let_wait(&mut self, entries: &[Entry]) -> Result<(), ReserveRefused>
-        requires { self.old.waiting ≡ nothing }
+    /// A tally of no entries. What waited before is given up.
+    pub fn begin_tally(&mut self) -> Tally
         ensures state { self.new.state ≡ self.old.state }
-        ensures ok { OnOk result (self.new.waiting ≡ added_by self.old.state entries.now) }
-        ensures full { result ≡ Err Full → HasNoRoomFor self.old.state entries.now }
-        ensures within { OnOk result (HasRoomFor self.old.state entries.now) }
+        ensures tally { IsTallyOf self.new result [] }
     {
-        let tally = self.tally_of(entries)?;
+        self.give_up();
+        Tally {
+            in_force: self.in_force,
+            entries: self.entries,
+            total: self.total,
+            pages: Vec::new(self.alloc),
+        }
+    }
+
+    /// Puts an entry after those of a tally, if it is fresh behind them: the answer says whether it
+    /// is. Its name and its labels then wait, and its pages are in the tally.
+    ///
+    /// # Errors
+    ///
+    /// `NoMemory` comes only if memory runs out.
+    pub fn wait_if_fresh(&mut self, tally: &mut Tally, entry: &Entry) -> Result<bool, NoMemory>
+        ensures state { self.new.state ≡ self.old.state }
+        ensures fresh { (before : List Entry) → IsTallyOf self.old tally.old before
+            → IfOk result (λ fresh. fresh
+            ≡ is_fresh_in (account_after_all self.old.state before) entry.now) }
+        ensures tally { (before : List Entry) → IsTallyOf self.old tally.old before
+            → OnOk result (IsTallyOf self.new tally.new (before ++ entry.now ∷ [])) }
+    {
+        if !tally.in_force.admits(entry) {
+            return Ok(false);
+        }
+        if let Entry::Fact(fact) = entry {
+            if !self.names.let_wait(fact.name)? {
+                return Ok(false);
+            }
+            tally.note_items(&mut self.modules, fact.items.as_slice())?;
+        }
+        tally.entries = tally.entries.saturating_add(1);
+        tally.in_force.put(entry);
+        Ok(true)
+    }
+
+    /// Lets the pages of a tally wait too, so that its entries can be taken in turn with no memory.
+    ///
+    /// `Full` comes exactly if the names held, the entries or the total weight, with all that is
+    /// fresh of them, pass `MOST_NAMES`, `MOST_ENTRIES` or `MOST_TOTAL`.
+    pub fn end_tally(&mut self, tally: &Tally) -> Result<(), ReserveRefused>
+        ensures { (entries : List Entry) → IsTallyOf self.old tally.now entries
+            → Reserves result self.old.state self.new entries }
+    {
         if self.names.len_with_waiting() > MOST_NAMES
             || tally.entries > MOST_ENTRIES
             || tally.total > MOST_TOTAL
@@ -91,31 +138,13 @@ impl Account {
         self.pages.reserve(tally.pages.as_slice())?;
         Ok(())
     }
-
-    // Notes the entries in order: their names and labels wait, and the tally has the rest.
-    fn tally_of(&mut self, entries: &[Entry]) -> Result<Tally, NoMemory>
-        requires { self.old.waiting ≡ nothing }
-        ensures state { self.new.state ≡ self.old.state }
-        ensures pages { self.new.waiting.pages ≡ [] }
-        ensures noted { IfOk result (λ tally. Noted self.old.state self.new.waiting tally entries.now) }
-    {
-        let mut tally = Tally {
-            in_force: self.in_force,
-            entries: self.entries,
-            total: self.total,
-            pages: Vec::new(self.alloc),
-        };
-        for entry in entries {
-            tally.note(&mut self.names, &mut self.modules, entry)?;
-        }
-        Ok(tally)
-    }
 }
 
-// What is in force after entries, the numbers that they bring an account to, and the pages that
-// they name. A number stays at the greatest of 64 bits, which is past all that an account counts.
+/// A tally of entries that may follow an account: what is in force after them, the numbers that
+/// they bring the account to, and the pages that they name.
+// A number stays at the greatest of 64 bits, which is past all that an account counts.
 #[derive(Drop)]
-pub(crate) struct Tally {
+pub struct Tally {
     pub(crate) in_force: InForce,
     pub(crate) entries: u64,
     pub(crate) total: u64,
@@ -123,55 +152,6 @@ pub(crate) struct Tally {
 }
 
 impl Tally {
-    // Notes an entry if it is fresh. Its name and its labels then wait.
-    fn note(
-        &mut self,
-        names: &mut Names,
-        modules: &mut Modules,
-        entry: &Entry,
-    ) -> Result<(), NoMemory>
-        ensures held { names.new.held ≡ names.old.held }
-        ensures rows { modules.new.rows ≡ modules.old.rows }
-        ensures noted { (a b : State) (fresh : List Entry)
-            → Shadows a b fresh names.old modules.old self.old
-            → OnOk result (Shadows a (account_after b entry.now)
-            (with_fresh b fresh entry.now) names.new modules.new self.new) }
-    {
-        if !self.in_force.admits(entry) {
-            return Ok(());
-        }
-        match entry {
-            Entry::Fact(fact) => self.note_fact(names, modules, fact),
-            Entry::Limit(_) | Entry::Retire(_) | Entry::ModuleLimit(_) => {
-                self.entries = self.entries.saturating_add(1);
-                self.in_force.put(entry);
-                Ok(())
-            }
-        }
-    }
-
-    // Notes a fact whose boot isn't retired, if its name is new.
-    fn note_fact(
-        &mut self,
-        names: &mut Names,
-        modules: &mut Modules,
-        fact: &Fact,
-    ) -> Result<(), NoMemory>
-        requires { IsFalse (is_retired self.old.in_force.floor fact.now.name) }
-        ensures held { names.new.held ≡ names.old.held }
-        ensures rows { modules.new.rows ≡ modules.old.rows }
-        ensures noted { (a b : State) (fresh : List Entry)
-            → Shadows a b fresh names.old modules.old self.old
-            → OnOk result (Shadows a (account_after b (Entry.Fact fact.now))
-            (with_fresh b fresh (Entry.Fact fact.now)) names.new modules.new self.new) }
-    {
-        if !names.let_wait(fact.name)? {
-            return Ok(());
-        }
-        self.entries = self.entries.saturating_add(1);
-        self.note_items(modules, fact.items.as_slice())
-    }
-
     // Notes items: their labels wait, and their pages and weights are in the tally.
     fn note_items(&mut self, modules: &mut Modules, items: &[Item]) -> Result<(), NoMemory>
         ensures rows { modules.new.rows ≡ modules.old.rows }

@@ -19,7 +19,7 @@ use Rattle.ras_exit.specs.declared.exit.Exit.{Exit}
 use Rattle.ras_exit.specs.declared.exit.Exit.TheVariants.{Done, SourceFault}
 use Rattle.ras_run.specs.declared.run.Run.{Run}
 use Rattle.ras_run.specs.Places.{Start}
-use Rattle.ras_exit.specs.Endings.{IsLineExit, IsStop}
+use Rattle.ras_exit.specs.Endings.{IsStop}
 use Rattle.line_filters.specs.Numbered.{IsNextExit}
 use Rattle.ras_daemon.specs.Steps.Running.{EndsAhead, ReadAhead, first_size, outputs}
 use Rattle.ras_daemon.specs.Script.{reads_in, reads_of}

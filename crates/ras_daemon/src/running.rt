@@ -1,18 +1,12 @@
 //! A run: the journal is opened, and the script is taken over it.
 
-ghost use Rattle.std.specs.Prelude.{◌≡◌, ℕ, List, [], Some};
+ghost use Rattle.std.specs.Prelude.{◌≡◌, Some};
 ghost use Rattle.board_core.specs.Doing.{looks};
-ghost use Rattle.board_core.specs.Told.{Told};
-ghost use Rattle.ras_account.specs.Accounts.{IsAccount};
-ghost use Rattle.line_filters.specs.Numbered.{no_lines};
-ghost use Rattle.ras_run.specs.Places.{Start};
-ghost use Rattle.ras_run.specs.Taking.{IsReady};
 ghost use Rattle.ras_daemon.specs.Ahead.{TakesBy};
 ghost use Rattle.ras_daemon.specs.Commands.{IsRunExit};
-ghost use Rattle.ras_daemon.specs.Steps.Doing.{Comes, ComesScript};
+ghost use Rattle.ras_daemon.specs.Steps.Doing.{Comes};
 ghost use Rattle.ras_daemon.specs.Headline.{OverRun};
 ghost use Rattle.ras_daemon.specs.Promises.{Caused, OverRefused, Refuses};
-ghost use Rattle.ras_daemon.specs.Steps.Running.{IsStart};
 
 use crate::Task;
 use crate::ending::end_run;
@@ -23,11 +17,11 @@ use ras_account::Account;
 use ras_base::NoMemory;
 use ras_events::Settings;
 use ras_exit::Exit;
-use ras_ledger::Ledger;
 use ras_run::{Run, open, print_standing};
 use std::alloc::Global;
 
-/// Opens the journal, and takes a script over it.
+/// Opens the journal, prints the orders that stand, and takes the lines of a script; then the run
+/// ends.
 pub fn run<S: Source, B: Board>(alloc: Global, source: &mut S, board: &mut B) -> Exit
     ensures comes { OverRun (λ start script told. Comes (looks B.told B.clock B.faults)
         (source.new ≡ source.old) start script result told (S.left source.new) board.old board.new)
@@ -44,35 +38,11 @@ pub fn run<S: Source, B: Board>(alloc: Global, source: &mut S, board: &mut B) ->
         Ok(lines) => lines,
         Err(NoMemory) => return Exit::NoMemory,
     };
-    match open(alloc, board) {
-        Ok(ledger) => take_script(alloc, &mut lines, ledger, source, board),
+    let ledger = match open(alloc, board) {
+        Ok(ledger) => ledger,
         // No account was made: the last line of a refusal tells nothing of it.
-        Err(exit) => end_run(alloc, exit, &Account::new(alloc), board),
-    }
-}
-
-// Takes a script over a journal that was opened: the orders that stand are printed, then its lines
-// are taken, and then the run ends.
-fn take_script<S: Source, B: Board>(
-    alloc: Global,
-    lines: &mut NumberedLines,
-    ledger: Ledger,
-    source: &mut S,
-    board: &mut B,
-) -> Exit
-    requires fresh { lines.old ≡ no_lines }
-    requires ledger { IsReady ledger (B.told board.old) (B.clock board.old)
-        × IsAccount ledger.account.state }
-
-    ensures comes { (start : Start) (script : List ℕ) (t : Told) → IsStart start ledger t
-        → S.left source.old ≡ Some script → B.told board.old ≡ Some t
-        → ComesScript (looks B.told B.clock B.faults) (source.new ≡ source.old) start script t
-        result (S.left source.new) board.old board.new }
-    ensures takes { TakesBy result (S.left source.old) (S.left source.new) }
-    ensures causes { Caused result (S.faults source.old) (S.faults source.new)
-        (B.faults board.old) (B.faults board.new) }
-    ensures exits { IsRunExit result }
-{
+        Err(exit) => return end_run(alloc, exit, &Account::new(alloc), board),
+    };
     if let Err(exit) = print_standing(alloc, &ledger.account, board) {
         return exit;
     }
@@ -81,7 +51,7 @@ fn take_script<S: Source, B: Board>(
         ledger,
         text: Vec::new(alloc),
     };
-    let exit = match take_lines(alloc, lines, &mut run, source, board) {
+    let exit = match take_lines(alloc, &mut lines, &mut run, source, board) {
         Ok(()) => Exit::Done,
         Err(exit) => exit,
     };

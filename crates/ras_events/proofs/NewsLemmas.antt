@@ -1,5 +1,5 @@
 -- The news of an event: its fresh entries add what all its entries add, and are as fit.
-use Rattle.std.proofs.Common.{◌≡◌, ℕ, ◌+◌, ◌≤◌, Bool, true, false, if◌then◌else◌, IsTrue, List, [], ◌∷◌, ◌++◌, length, All, refl, sym, ap, subst, ◌∙◌, length-append, arith}
+use Rattle.std.proofs.Common.{◌≡◌, ℕ, ◌+◌, ◌≤◌, Bool, true, false, if◌then◌else◌, List, [], ◌∷◌, ◌++◌, length, All, refl, sym, ap, subst, ◌∙◌, length-append, arith}
 use Rattle.std.specs.List.{AllByRecursion, flat_map}
 use Rattle.std.proofs.lemmas.List.Elements.{All-from_recursion, recursion_from_All}
 use Rattle.ras_base.specs.LittleEndian.{u32_bytes}
@@ -8,7 +8,7 @@ use Rattle.ras_facts.specs.declared.entry.Entry.{Entry}
 use Rattle.ras_facts.specs.Entries.{IsValidEntry}
 use Rattle.ras_account.specs.Account.{State}
 use Rattle.ras_account.specs.Continued.{is_fresh_in, account_after}
-use Rattle.ras_account.specs.Numbers.{AreWithin, HasNoRoomFor, HasRoomFor, are_past, fresh_entries_in, numbers_with}
+use Rattle.ras_account.specs.Numbers.{fresh_entries_in, numbers_with}
 use Rattle.ras_account.proofs.NumberLemmas.{with_fresh_ones}
 use Rattle.entry_format.specs.Spelling.{entry_bytes}
 use Rattle.journal_format.specs.Links.{payload_bytes}
@@ -29,12 +29,6 @@ fresh_again a (e ∷ es) = by (is_fresh_in a e) refl (fresh_again (account_after
 -- so are their numbers those of all
 pub numbers_news : (a : State) (es : List Entry) → numbers_with a (fresh_entries_in a es) ≡ numbers_with a es
 numbers_news a es = ap (with_fresh_ones a) (fresh_again a es)
-
-pub room_news : (a : State) (es news : List Entry) → news ≡ fresh_entries_in a es → HasRoomFor a news → HasRoomFor a es
-room_news a es news is within = subst AreWithin (ap (numbers_with a) is ∙ numbers_news a es) within
-
-pub no_room_news : (a : State) (es news : List Entry) → news ≡ fresh_entries_in a es → HasNoRoomFor a news → HasNoRoomFor a es
-no_room_news a es news is past = subst (λ numbers. IsTrue (are_past numbers)) (ap (numbers_with a) is ∙ numbers_news a es) past
 
 -- ---- some entries of a list
 

@@ -4,15 +4,22 @@ use Rattle.std.specs.Global.{Vec}
 use Rattle.std.specs.List.{sum_by}
 use Rattle.ras_facts.specs.declared.entry.Entry.{Entry}
 use Rattle.ras_facts.specs.Entries.{IsValidEntry, most_orders}
-use Rattle.ras_account.specs.Numbers.{HasRoomFor, StaysWithin}
-use Rattle.ras_account.specs.View.{View, added_by}
-use Rattle.ras_account.proofs.NumberLemmas.{stays-within}
+use Rattle.ras_account.specs.Numbers.{AreWithin, HasRoomFor, StaysWithin, fresh_entries_in, numbers_with}
+use Rattle.ras_account.specs.View.{View, IsReservedFor, added_by}
+use Rattle.ras_account.proofs.NumberLemmas.{adds, stays-within}
 use Rattle.ras_texts.specs.OrderRoom.{HasOrderRoom}
 use Rattle.ras_events.specs.declared.preparing.News.{News}
 use Rattle.ras_events.specs.Steps.Beside.{IsNewsOf}
 use Rattle.ras_events.specs.Preparing.{CanTake, IsReady, news_entries}
+use Rattle.ras_events.proofs.NewsLemmas.{fresh_again, numbers_news}
 
-module _ (account : View) (news : List Entry) (waits : account.waiting ≡ added_by account.state news) (within : HasRoomFor account.state news) (valid : All IsValidEntry news) where
+module _ (account : View) (entries news : List Entry) (fresh : news ≡ fresh_entries_in account.state entries) (reserved : IsReservedFor account entries) (room : HasRoomFor account.state entries) (valid : All IsValidEntry news) where
+  waits : account.waiting ≡ added_by account.state news
+  waits = reserved ∙ sym (ap (added_by account.state) fresh ∙ ap (adds account.state) (fresh_again account.state entries))
+
+  within : HasRoomFor account.state news
+  within = subst AreWithin (sym (ap (numbers_with account.state) fresh ∙ numbers_news account.state entries)) room
+
   can_take : (new : News) → new.entries.items ≡ news → IsNewsOf (sum_by most_orders news) new → CanTake account new
   can_take new same is = record {
     reserved = waits ∙ ap (added_by account.state) (sym same);

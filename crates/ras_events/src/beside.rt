@@ -1,21 +1,23 @@
 //! The pieces of an event beside each other: their lines, and which of their entries are news. The
-//! account is the one before the event.
+//! lines are those by the account before the event.
 
-ghost use Rattle.std.specs.Prelude.{◌≡◌, [], ◌∷◌, IfOk, OnOk};
-ghost use Rattle.ras_account.specs.Account.{names_of};
-ghost use Rattle.ras_account.specs.Fresh.{is_among};
+ghost use Rattle.std.specs.Prelude.{◌≡◌, [], IfOk, OnOk};
 ghost use Rattle.ras_account.specs.Numbers.{fresh_entries_in};
-ghost use Rattle.ras_events.specs.Steps.Beside.{AreAlike, TellsEntry, has_name_of, is_news_beside};
+ghost use Rattle.ras_account.specs.Tallies.{IsTallyOf};
+ghost use Rattle.ras_events.specs.Steps.Beside.{AreAlike, TellsEntry};
 ghost use Rattle.ras_events.specs.Making.{entries_in};
 ghost use Rattle.ras_events.specs.Preparing.{text_along};
 
 use crate::{Made, Piece};
-use ras_account::Account;
+use ras_account::{Account, Tally};
 use ras_base::NoMemory;
-use ras_facts::{Entry, Name};
+use ras_facts::Entry;
 use ras_reports::Detail;
 use ras_texts::{push_entry, push_repeat, push_unreadable};
 use std::alloc::Global;
+
+// Room for the lines of most events, which is taken at once.
+const TEXT_LENGTH: usize = 256;
 
 /// What an event tells: its lines, and its entries that are news, both in order.
 #[derive(Drop)]
@@ -25,29 +27,35 @@ pub(crate) struct TextAndNews {
 }
 
 /// The lines of what an event makes, those of each entry at its own place, and the entries that are
-/// news. The other entries are dropped.
+/// news, which wait in the account. The other entries are dropped.
 ///
 /// # Errors
 ///
 /// `NoMemory` comes only if memory runs out.
 pub(crate) fn text_and_news(
     alloc: Global,
-    account: &Account,
+    account: &mut Account,
+    tally: &mut Tally,
     made: Made,
 ) -> Result<TextAndNews, NoMemory>
     requires alike { AreAlike (entries_in made) }
-    ensures text { IfOk result (λ told. told.text.items ≡ text_along account.now.state made) }
+    requires none { IsTallyOf account.old tally.old [] }
+    ensures state { account.new.state ≡ account.old.state }
+    ensures tally { OnOk result (IsTallyOf account.new tally.new (entries_in made)) }
+    ensures text { IfOk result (λ told. told.text.items ≡ text_along account.old.state made) }
     ensures news { IfOk result
-        (λ told. told.news.items ≡ fresh_entries_in account.now.state (entries_in made)) }
+        (λ told. told.news.items ≡ fresh_entries_in account.old.state (entries_in made)) }
 {
-    let mut text = Vec::new(alloc);
+    let mut text = Vec::with_capacity(alloc, TEXT_LENGTH)?;
     let mut news = Vec::new(alloc);
     for piece in made.into_pieces() {
         match piece {
             Piece::Counted { entry, details } => {
+                let is_news = account.wait_if_fresh(tally, &entry)?;
                 push_counted(
                     alloc,
                     account,
+                    is_news,
                     entry,
                     details.as_slice(),
                     &mut text,
@@ -65,59 +73,19 @@ pub(crate) fn text_and_news(
 fn push_counted(
     alloc: Global,
     account: &Account,
+    is_news: bool,
     entry: Entry,
     details: &[Detail],
     text: &mut Vec<u8>,
     news: &mut Vec<Entry>,
 ) -> Result<(), NoMemory>
-    ensures { OnOk result
-        (TellsEntry (is_news_beside account.now.state news.old.items entry) account.now.state
-        details.now entry text.old.items text.new.items news.old.items news.new.items) }
+    ensures { OnOk result (TellsEntry is_news account.now.state details.now entry
+        text.old.items text.new.items news.old.items news.new.items) }
 {
-    if !is_news(account, news, &entry) {
+    if !is_news {
         return push_repeat(text, account, &entry);
     }
     push_entry(alloc, text, details, account, &entry)?;
     news.push(entry)?;
     Ok(())
-}
-
-// Whether an entry is news after the earlier news of its event: it is fresh in the account, and
-// none of them has its name.
-fn is_news(account: &Account, news: &[Entry], entry: &Entry) -> bool
-    ensures { result ≡ is_news_beside account.now.state news.now entry.now }
-{
-    account.is_fresh(entry) && !has_name_of(news, entry)
-}
-
-// Whether one of some entries has the name of an entry that is a fact.
-fn has_name_of(entries: &[Entry], entry: &Entry) -> bool
-    ensures { result ≡ has_name_of entries.now entry.now }
-{
-    match entry {
-        Entry::Fact(fact) => any_named(entries, &fact.name),
-        Entry::Limit(_) | Entry::Retire(_) | Entry::ModuleLimit(_) => false,
-    }
-}
-
-// Whether one of some entries is a fact of a name.
-fn any_named(entries: &[Entry], name: &Name) -> bool
-    ensures { result ≡ is_among (names_of entries.now) name.now }
-{
-    for entry in entries {
-        if is_named(entry, name) {
-            return true;
-        }
-    }
-    false
-}
-
-// Whether an entry is a fact of a name.
-fn is_named(entry: &Entry, name: &Name) -> bool
-    ensures { result ≡ is_among (names_of (entry.now ∷ [])) name.now }
-{
-    match entry {
-        Entry::Fact(fact) => *name == fact.name,
-        Entry::Limit(_) | Entry::Retire(_) | Entry::ModuleLimit(_) => false,
-    }
 }

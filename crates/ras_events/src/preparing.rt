@@ -5,7 +5,6 @@ ghost use Rattle.std.specs.List.{sum_by};
 ghost use Rattle.ras_facts.specs.Entries.{IsValidEntry, most_orders};
 ghost use Rattle.ras_account.specs.Numbers.{HasNoRoomFor, HasRoomFor};
 ghost use Rattle.ras_account.specs.Continued.{account_after_all};
-ghost use Rattle.ras_account.specs.View.{added_by};
 ghost use Rattle.journal_format.specs.Links.{payload_bytes};
 ghost use Rattle.ras_texts.specs.OrderRoom.{HasOrderRoom};
 ghost use Rattle.ras_texts.specs.Orders.{order_lines};
@@ -86,20 +85,10 @@ pub fn prepare(
     ensures full { result ≡ Err PrepareRefused.Full
         → HasNoRoomFor account.old.state (entries_in made) }
 {
-    let told = text_and_news(alloc, account, made)?;
-    reserve(account, &told.news)?;
-    Ok(link_told(alloc, number, told)?)
-}
-
-// Makes room in the account for what is news of an event.
-fn reserve(account: &mut Account, entries: &[Entry]) -> Result<(), PrepareRefused>
-    ensures state { account.new.state ≡ account.old.state }
-    ensures waits { OnOk result (account.new.waiting ≡ added_by account.new.state entries.now) }
-    ensures within { OnOk result (HasRoomFor account.new.state entries.now) }
-    ensures full { result ≡ Err PrepareRefused.Full → HasNoRoomFor account.old.state entries.now }
-{
-    match account.reserve(entries) {
-        Ok(()) => Ok(()),
+    let mut tally = account.begin_tally();
+    let told = text_and_news(alloc, account, &mut tally, made)?;
+    match account.end_tally(&tally) {
+        Ok(()) => Ok(link_told(alloc, number, told)?),
         Err(ReserveRefused::Full) => Err(PrepareRefused::Full),
         Err(ReserveRefused::NoMemory) => Err(PrepareRefused::NoMemory),
     }

@@ -117,8 +117,7 @@ pub fn fact_of_bank(
         return Ok(None);
     };
     let seconds = bank.seconds;
-    let mut items = Items::new(alloc);
-    items.push(bank.item(alloc, class, topology)?)?;
+    let items = Items::one(alloc, bank.item(alloc, class, topology)?)?;
     Ok(Some(Fact {
         name: bank.name(),
         seconds,

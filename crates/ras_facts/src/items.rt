@@ -1,6 +1,6 @@
 //! The items of a report.
 
-ghost use Rattle.std.specs.Prelude.{◌≡◌, ◌++◌, [], ◌∷◌, OnOk, OnErr};
+ghost use Rattle.std.specs.Prelude.{◌≡◌, ◌++◌, [], ◌∷◌, IfOk, OnOk, OnErr};
 
 use dimm_topology::Label;
 use mca_status::ItemClass;
@@ -53,6 +53,14 @@ impl Items {
         Items {
             list: Vec::new(alloc),
         }
+    }
+
+    /// One item, with room for no other.
+    pub fn one(alloc: Global, item: Item) -> Result<Items, NoMemory>
+        ensures { IfOk result (λ items. items ≡ item ∷ []) }
+    {
+        let list = vec![in alloc; item]?;
+        Ok(Items { list })
     }
 
     /// Puts an item after the others. If memory runs out the list stays, and the item is given

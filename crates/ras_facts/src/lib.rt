@@ -22,4 +22,4 @@ pub use items::{Item, Items, MOST_ITEMS, MOST_WEIGHT, PAGES};
 pub use laws::{labels_are_of_their_sections, numbers};
 pub use name::Name;
 pub use record::fact_of_record;
-pub use section::severity_class;
+pub use section::{section_item, severity_class};

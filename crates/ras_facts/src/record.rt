@@ -1,13 +1,11 @@
 //! The fact that a record of firmware gives.
 
-ghost use Rattle.std.specs.Prelude.{◌≡◌, ◌<◌, IfOk};
-ghost use Rattle.cper_records.specs.Header.{section_count};
-ghost use Rattle.cper_records.specs.Descriptors.{section_severity};
-ghost use Rattle.ras_facts.specs.Reported.{severity_class, record_item, record_fact};
-ghost use Rattle.ras_facts.specs.Valid.{IsValidItem, IsValidFact};
+ghost use Rattle.std.specs.Prelude.{◌≡◌, IfOk};
+ghost use Rattle.ras_facts.specs.Reported.{record_fact};
+ghost use Rattle.ras_facts.specs.Valid.{IsValidFact};
 
 use crate::section::section_item;
-use crate::{Fact, Item, Items, Name};
+use crate::{Fact, Items, Name};
 use cper_records::Record;
 use dimm_topology::Topology;
 use ras_base::NoMemory;
@@ -27,26 +25,11 @@ pub fn fact_of_record(
 {
     let mut items = Items::new(alloc);
     for i in 0..rec.count() {
-        items.push(record_item(alloc, rec, i, topology)?)?;
+        items.push(section_item(alloc, &rec.section(i), topology)?)?;
     }
     Ok(Fact {
         name: Name::Record { id: rec.id() },
         seconds,
         items,
     })
-}
-
-// The item of a section by its number.
-fn record_item(
-    alloc: Global,
-    rec: &Record<'_>,
-    i: u16,
-    topology: &Topology,
-) -> Result<Item, NoMemory>
-    requires { i < section_count rec.now }
-    ensures item { IfOk result (λ item. item ≡ record_item topology.now rec.now i) }
-    ensures class { IfOk result (λ item. item.class ≡ severity_class (section_severity rec.now i)) }
-    ensures valid { IfOk result IsValidItem }
-{
-    section_item(alloc, &rec.section(i), topology)
 }

@@ -15,13 +15,15 @@ use std::alloc::Global;
 // A page of memory has 2 ^ 12 bytes.
 const PAGE_BITS: u32 = 12;
 
-// The item of a section, which stands for one error.
-pub(crate) fn section_item(
+/// The item of a section, which stands for one error: it has the class of the section's severity,
+/// and for a memory section the owner by the topology and the page of its physical address.
+pub fn section_item(
     alloc: Global,
     read: &Descriptor<'_>,
     topology: &Topology,
 ) -> Result<Item, NoMemory>
-    ensures item { IfOk result (λ item. item ≡ section_item topology.now read.now.severity (Ok read.now.section)) }
+    ensures item { IfOk result
+        (λ item. item ≡ section_item topology.now read.now.severity (Ok read.now.section)) }
     ensures valid { IfOk result IsValidItem }
 {
     Ok(Item {

@@ -18,6 +18,7 @@ use erst_store::Dev;
 use std::io::Write;
 use std::marker::Model;
 use std::mem::replace;
+use std::os::unix::fs::FileExt;
 
 /// The files `rasd.0`, `rasd.1` and `rasd.store` of the working folder, and standard output. It
 /// tells nothing of what they hold. Each call that fails is counted, by its kind.
@@ -145,7 +146,11 @@ impl Board for FileBoard {
         ensures device { self.new.kept ≡ self.old.kept }
         ensures cause { FailsAs disk_call self.old.faults self.new.faults result }
     {
-        let done = self.files.write_at(file, place, bytes);
+        counted(self.files.ready_to_write(place), &mut self.disk_faults)?;
+        let done = match self.files.opened(file) {
+            Ok(file) => file.write_all_at(bytes, place),
+            Err(error) => Err(error),
+        };
         counted(done, &mut self.disk_faults)
     }
 

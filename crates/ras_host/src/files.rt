@@ -1,14 +1,13 @@
 //! The journal's files, `rasd.0` and `rasd.1`.
-ghost use Rattle.std.specs.Prelude.{◌≡◌, ◌≤◌, length, None, IfOk, OnOk, IsNone, IsSome};
+ghost use Rattle.std.specs.Prelude.{◌≡◌, ◌≤◌, length, None, OnOk};
 ghost use Rattle.std.specs.Io.{ReadsAtMost};
-ghost use Rattle.ras_host.specs.Steps.JournalFiles.{OpensFile, file_in};
+ghost use Rattle.ras_host.specs.Steps.JournalFiles.{Opens};
 
-use crate::system::{open, read_at, read_journal};
+use crate::system::{Pair, check_names, open_alone, read_at, read_journal, sync_to_read};
 use board_core::FileNo;
 use std::fs::File;
 use std::io;
 use std::io::ErrorKind;
-use std::os::unix::fs::FileExt;
 
 /// What a board is to do with the journal's files.
 #[derive(Clone, Copy, Debug, PartialEq, Eq)]
@@ -20,129 +19,108 @@ pub enum Use {
     Reading,
 }
 
-const NAMES: [&str; 2] = ["rasd.0", "rasd.1"];
-
-// The bytes of both files at one moment.
+/// The journal's files, once they are opened.
 #[derive(Drop)]
-struct Seen {
-    zero: Vec<u8>,
-    one: Vec<u8>,
-}
-
-impl Seen {
-    fn bytes(&self, file: FileNo) -> &[u8] {
-        match file {
-            FileNo::Zero => &self.zero,
-            FileNo::One => &self.one,
-        }
-    }
+pub enum Opened {
+    /// Both are open, and locked.
+    Alone(Pair<File>),
+    /// The bytes of both at one moment.
+    Reading(Pair<Vec<u8>>),
 }
 
 // A longer journal file isn't read: the daemon says that it is too long.
 const LONGEST_FILE: u64 = 67_108_864;
 
-/// The journal's files, each of which is opened at its first use, file 0 before file 1.
+/// The journal's files, both of which are opened at the first use of one.
 #[derive(Drop)]
 pub struct Files {
     rt: HostRuntime,
     how: Use,
-    zero: Option<File>,
-    one: Option<File>,
-    // What a board that only reads has of both.
-    seen: Option<Seen>,
+    opened: Option<Opened>,
 }
 
 impl Files {
     /// Both files, neither of which is opened yet.
     pub fn new(rt: HostRuntime, how: Use) -> Files
         ensures how { result.how ≡ how }
-        ensures closed { (result.zero ≡ None) × (result.one ≡ None) }
+        ensures closed { result.opened ≡ None }
     {
         Files {
             rt,
             how,
-            zero: None,
-            one: None,
-            seen: None,
+            opened: None,
         }
     }
 
     /// The length in bytes.
     pub fn size(&mut self, file: FileNo) -> io::Result<u64>
-        ensures opens { OnOk result (OpensFile file self.old self.new) }
-        ensures missing { IfOk result (λ n. IsNone (file_in file self.new) → n ≡ 0) }
+        ensures { OnOk result (Opens self.old self.new) }
     {
-        self.open(file)?;
-        match (self.opened(file), &self.seen) {
-            (None, _) => Ok(0),
-            (Some(_), Some(seen)) => Ok(seen.bytes(file).len() as u64),
-            (Some(file), None) => Ok(file.metadata()?.len()),
+        self.open()?;
+        match &self.opened {
+            Some(Opened::Alone(files)) => Ok(files.of(file).metadata()?.len()),
+            Some(Opened::Reading(seen)) => Ok(seen.of(file).len() as u64),
+            None => Err(io::Error::from(ErrorKind::NotFound)),
         }
     }
 
     /// Reads from `place` on until the buffer is full or the file ends.
     pub fn read_at(&mut self, file: FileNo, place: u64, buf: &mut [u8]) -> io::Result<usize>
-        ensures opens { OnOk result (OpensFile file self.old self.new) }
+        ensures opens { OnOk result (Opens self.old self.new) }
         ensures within { ReadsAtMost result buf.new }
-        ensures missing { IfOk result (λ n. IsNone (file_in file self.new) → n ≡ 0) }
     {
-        self.open(file)?;
-        match (self.opened(file), &self.seen) {
-            (None, _) => Ok(0),
-            (Some(_), Some(seen)) => Ok(copy_from(seen.bytes(file), place, buf)),
-            (Some(file), None) => read_at(file, place, buf),
+        self.open()?;
+        match &self.opened {
+            Some(Opened::Alone(files)) => read_at(files.of(file), place, buf),
+            Some(Opened::Reading(seen)) => Ok(copy_from(seen.of(file), place, buf)),
+            None => Err(io::Error::from(ErrorKind::NotFound)),
         }
     }
 
-    /// Writes all the bytes at `place`.
-    pub fn write_at(&mut self, file: FileNo, place: u64, bytes: &[u8]) -> io::Result<()>
-        ensures opens { OnOk result (OpensFile file self.old self.new) }
-        ensures there { OnOk result (IsSome (file_in file self.new)) }
+    /// Sees that the files may be written at `place`. Before a file is begun anew, at place 0, the
+    /// names are looked at again: what went to a file that has no name any more would be lost.
+    pub fn ready_to_write(&mut self, place: u64) -> io::Result<()>
+        ensures { OnOk result (Opens self.old self.new) }
     {
-        self.open(file)?;
-        match self.opened(file) {
-            Some(file) => file.write_all_at(bytes, place),
-            None => Err(io::Error::from(ErrorKind::NotFound)),
+        self.open()?;
+        match &self.opened {
+            Some(Opened::Alone(files)) if place == 0 => check_names(&self.rt, files),
+            _ => Ok(()),
+        }
+    }
+
+    /// A file that is open to be written.
+    pub(crate) fn opened(&self, file: FileNo) -> io::Result<&File> {
+        match &self.opened {
+            Some(Opened::Alone(files)) => Ok(files.of(file)),
+            Some(Opened::Reading(_)) | None => Err(io::Error::from(ErrorKind::PermissionDenied)),
         }
     }
 
     /// Makes the file durable. A sync that failed isn't tried again, unless a signal interrupted
     /// it: the system may then say that all is well though the bytes are not on the disk.
     pub fn sync(&mut self, file: FileNo) -> io::Result<()>
-        ensures { OnOk result (OpensFile file self.old self.new) }
+        ensures { OnOk result (Opens self.old self.new) }
     {
-        self.open(file)?;
-        match self.opened(file) {
-            Some(file) => file.sync_data(),
-            None => Ok(()),
+        self.open()?;
+        match &self.opened {
+            Some(Opened::Alone(files)) => files.of(file).sync_data(),
+            Some(Opened::Reading(_)) => sync_to_read(&self.rt, file),
+            None => Err(io::Error::from(ErrorKind::NotFound)),
         }
     }
 
-    // Opens a file if it isn't open. One that is only to be read may be missing.
-    fn open(&mut self, file: FileNo) -> io::Result<()>
-        ensures { OnOk result (OpensFile file self.old self.new) }
+    // Opens both files if they aren't open.
+    fn open(&mut self) -> io::Result<()>
+        ensures { OnOk result (Opens self.old self.new) }
     {
-        let is_writing = self.how == Use::Alone;
-        if !is_writing && self.seen.is_none() {
-            let (zero, one) = read_journal(&self.rt, NAMES, LONGEST_FILE)?;
-            self.seen = Some(Seen { zero, one });
-        }
-        if self.zero.is_none() {
-            self.zero = open(&self.rt, NAMES[0], is_writing)?;
-        }
-        if file == FileNo::One && self.one.is_none() {
-            self.one = open(&self.rt, NAMES[1], is_writing)?;
+        if self.opened.is_none() {
+            self.opened = Some(match self.how {
+                Use::Alone => Opened::Alone(open_alone(&self.rt)?),
+                Use::Reading => Opened::Reading(read_journal(&self.rt, LONGEST_FILE)?),
+            });
         }
         Ok(())
-    }
-
-    fn opened(&self, file: FileNo) -> &Option<File>
-        ensures { result.now ≡ file_in file self.now }
-    {
-        match file {
-            FileNo::Zero => &self.zero,
-            FileNo::One => &self.one,
-        }
     }
 }
 

@@ -3,8 +3,8 @@
 //!
 //! The board and the source are proved for their counts of faults, and the board for what a call
 //! does to the error record device that it keeps. What the system is asked for is in no clause:
-//! `system` opens, locks, reads and replaces files and syncs folders, `files` writes, syncs and
-//! measures the journal's, and `file_board` prints.
+//! `names` looks at names, `system` opens, locks, reads and replaces files, `files` writes, syncs
+//! and measures the journal's, and `file_board` prints.
 #![tactic(auto)]
 
 mod faults;
@@ -12,6 +12,7 @@ mod file_board;
 mod file_source;
 mod files;
 mod kept;
+mod names;
 mod system;
 
 pub use file_board::FileBoard;

@@ -1,14 +1,13 @@
 //! A journal, and appending to it.
 ghost use Rattle.std.specs.Prelude.{◌≡◌, ◌+◌, ◌<◌, ◌≤◌, false, length, nat_lt, true, IfSome};
-ghost use Rattle.board_core.specs.Cause.{disk_call};
-ghost use Rattle.board_core.specs.Doing.{Does, looks, one_end};
+ghost use Rattle.board_core.specs.Doing.{Does, looks};
 ghost use Rattle.board_core.specs.Told.{file_of};
 ghost use Rattle.entry_format.specs.declared.version.Version.TheVariants.{Two};
 ghost use Rattle.ras_journal.specs.Appending.{IsFullBy, MovesOn, append_acts, append_end};
 ghost use Rattle.ras_journal.specs.Appending.{length_with, needs_switch, standing_with};
 
 use crate::{AppendRefused, LONGEST_FILE, MOST_LINKS, OPEN_GATE, Standing};
-use board_core::{Board, Failed, write_through};
+use board_core::{Board, write_through};
 use entry_format::Version;
 use journal_format::Link;
 use std::marker::Model;
@@ -93,15 +92,16 @@ impl Journal {
             self.old self.new }
         ensures full { IsFullBy result (length_with self.old.standing link.now) }
     {
+        let Standing { file, length, .. } = self.standing;
         let written = link.bytes_and_gate();
-        if is_too_long(self.standing.length, written) {
+        if is_too_long(length, written) {
             return Err(AppendRefused::Full);
         }
-        if let Err(Failed) = append_link(self.standing, link, board) {
-            self.failed = true;
-            return Err(AppendRefused::Disk);
-        }
-        self.standing.length += written.len() as u64;
+        self.failed = true;
+        write_through(file, length + 1, written, board)?;
+        write_through(file, length, &[OPEN_GATE], board)?;
+        self.failed = false;
+        self.standing.length = length + written.len() as u64;
         self.standing.links = self.standing.links.saturating_add(1);
         Ok(())
     }
@@ -113,16 +113,4 @@ fn is_too_long(gate: u64, bytes: &[u8]) -> bool
 {
     let count = bytes.len() as u64;
     count >= LONGEST_FILE || LONGEST_FILE - count - 1 < gate
-}
-
-// The four disk calls of an append.
-fn append_link<B: Board>(standing: Standing, link: &Link, board: &mut B) -> Result<(), Failed>
-    requires gate { IfSome (B.told board.old) (λ t. standing.length < length (file_of standing.file t)) }
-    requires room { length_with standing link.now ≤ LONGEST_FILE }
-    ensures does { Does (looks B.told B.clock B.faults) (append_acts standing link.now)
-        (one_end disk_call result) board.old board.new }
-{
-    let Standing { file, length, .. } = standing;
-    write_through(file, length + 1, link.bytes_and_gate(), board)?;
-    write_through(file, length, &[OPEN_GATE], board)
 }

@@ -1,5 +1,8 @@
 //! Why a link isn't appended.
 
+ghost use Rattle.std.specs.Prelude.{◌≡◌};
+
+use board_core::Failed;
 use thiserror::Error;
 
 /// Why a link wasn't appended.
@@ -11,4 +14,14 @@ pub enum AppendRefused {
     /// A disk call failed. Its count of faults rose.
     #[error("a disk call failed")]
     Disk,
+}
+
+impl From<Failed> for AppendRefused {
+    ghost use Rattle.ras_journal.specs.declared.refused.AppendRefused.TheVariants.{Disk};
+
+    ghost from_gives = { λ _ e. e ≡ Disk };
+
+    fn from(_: Failed) -> Self {
+        AppendRefused::Disk
+    }
 }

@@ -1,10 +1,10 @@
 -- Making room for a link and then appending it, as one.
-use Rattle.std.proofs.Common.{◌≡◌, ◌<◌, ◌+◌, Bool, true, false, List, [], ◌∷◌, ◌++◌, ℕ, length, Option, None, Some, Result, Ok, Err, IfSome, IsTrue, ◌&&◌, if◌then◌else◌, inl, inr, ap, refl, subst, sym, ◌∙◌, arith, length-append}
+use Rattle.std.proofs.Common.{◌≡◌, ◌<◌, ◌+◌, Bool, true, false, List, [], ◌∷◌, ◌++◌, ℕ, length, Option, None, Some, Err, IfSome, IsTrue, ◌&&◌, if◌then◌else◌, inl, inr, ap, refl, subst, sym, ◌∙◌, arith, length-append}
 use Rattle.std.proofs.lemmas.Bool.Decides.{nat_tests}
 use Rattle.board_core.specs.declared.board.FileNo.{FileNo}
 use Rattle.board_core.specs.declared.board.FileNo.TheVariants.{Zero, One}
 use Rattle.board_core.specs.Clock.{Clock}
-use Rattle.board_core.specs.Doing.{Act, AreOnDisk, IsBad, IsMade, Moment, after_acts, calls_of}
+use Rattle.board_core.specs.Doing.{Act, AreOnDisk, IsBad, Moment, after_acts, calls_of}
 use Rattle.board_core.specs.Stop.{Left, file_in}
 use Rattle.board_core.specs.Told.{Steps, Told, file_of}
 use Rattle.board_core.proofs.ActLemmas.{moment_out, moment_store, on_disk_off}
@@ -14,7 +14,6 @@ use Rattle.entry_format.specs.declared.version.Version.TheVariants.{One as first
 use Rattle.ras_account.specs.Account.{State}
 use Rattle.ras_account.specs.Continued.{account_after_all}
 use Rattle.ras_facts.specs.declared.entry.Entry.{Entry}
-use Rattle.ras_journal.specs.View.{JournalView}
 use Rattle.ras_journal.specs.declared.standing.Standing.{Standing}
 use Rattle.ras_journal.specs.Recovered.{HasFewLinks, IsAt, Recovers, is_shut, other, other_of}
 use Rattle.ras_journal.specs.Appending.{HasRoom, Links, append_acts, is_first_version, needs_switch, standing_with}
@@ -29,7 +28,7 @@ use Rattle.ras_recover.proofs.SwitchingLemmas.{switch_ends, switch_leaves}
 use Rattle.ras_ledger.specs.declared.ledger.Ledger.{Ledger}
 use Rattle.ras_ledger.specs.declared.refused.KeepRefused.{KeepRefused}
 use Rattle.ras_ledger.specs.declared.refused.KeepRefused.TheVariants.{Full, Disk, NoMemory}
-use Rattle.ras_ledger.specs.Keeping.{CanMake, Keeping, KeepsLedger, Stands, after_keeping, keep_end, keeping_acts, lacks_room, keep_refused_end, room_acts, standing_kept, standing_roomy}
+use Rattle.ras_ledger.specs.Keeping.{CanMake, Keeping, KeepsLedger, Stands, after_keeping, keeping_acts, lacks_room, keep_refused_end, room_acts, standing_kept, standing_roomy}
 use Rattle.ras_ledger.specs.KeepingCalls.{IsKeeping, write_through_calls}
 
 -- ---- what a journal's place says of its files
@@ -206,11 +205,3 @@ pub keeps_not : (why : KeepRefused) (next last : Standing) (old new : Ledger) �
 keeps_not Full next last old new keeps = keeps
 keeps_not Disk next last old new keeps = keeps
 keeps_not NoMemory next last old new keeps = keeps
-
-pub keeps_then : (result : Result (Unit {0}) KeepRefused) (s : Standing) (link : List ℕ) (old mid new : Ledger) → IsMade (keep_end result) → mid.account ≡ old.account → mid.journal ≡ record { standing = s; failed = false }
-    → KeepsLedger result (standing_with mid.journal.standing link) mid new → KeepsLedger result (standing_with s link) old new
-keeps_then (Ok done) s link old mid new made account journal keeps =
-    (keeps.0 ∙ account, keeps.1 ∙ ap (λ (v : JournalView). record { standing = standing_with v.standing link; failed = false }) journal)
-keeps_then (Err Disk) s link old mid new made account journal keeps = (keeps.0 ∙ account, keeps.1)
-keeps_then (Err Full) s link old mid new made account journal keeps = absurd made
-keeps_then (Err NoMemory) s link old mid new made account journal keeps = absurd made

@@ -1,11 +1,7 @@
 //! The account with its journal.
 
-ghost use Rattle.std.specs.Prelude.{◌≡◌, ◌<◌, ◌≤◌, false, IfSome, length};
+ghost use Rattle.std.specs.Prelude.{◌≡◌, false};
 ghost use Rattle.board_core.specs.Doing.{Does, IsMade, looks};
-ghost use Rattle.board_core.specs.Told.{file_of};
-ghost use Rattle.entry_format.specs.declared.version.Version.TheVariants.{Two};
-ghost use Rattle.ras_journal.specs.Appending.{append_acts, length_with, standing_with};
-ghost use Rattle.ras_journal.specs.declared.limits.TheConstants.{LONGEST_FILE};
 ghost use Rattle.ras_ledger.specs.Keeping.{CanMake, IsFullBy, KeepsLedger, Stands, keep_end};
 ghost use Rattle.ras_ledger.specs.Keeping.{keeping_acts, lacks_room, room_acts};
 ghost use Rattle.ras_ledger.specs.Keeping.{standing_kept, standing_roomy};
@@ -61,7 +57,11 @@ impl Ledger {
             (lacks_room self.old.journal.standing self.old.account.state link.now) }
     {
         self.make_room(alloc, link, board)?;
-        self.append(link, board)
+        match self.journal.append(link, board) {
+            Ok(()) => Ok(()),
+            Err(AppendRefused::Disk) => Err(KeepRefused::Disk),
+            Err(AppendRefused::Full) => Err(KeepRefused::Full),
+        }
     }
 
     // Switches the journal to its other file, if that is due before this link.
@@ -93,27 +93,6 @@ impl Ledger {
             Err(SwitchRefused::Full) => Err(KeepRefused::Full),
             Err(SwitchRefused::Disk) => Err(KeepRefused::Disk),
             Err(SwitchRefused::NoMemory) => Err(KeepRefused::NoMemory),
-        }
-    }
-
-    // Appends a link, for which there is room.
-    fn append<B: Board>(&mut self, link: &Link, board: &mut B) -> Result<(), KeepRefused>
-        requires usable { self.old.journal.failed ≡ false }
-        requires version { self.old.journal.standing.version ≡ Two }
-        requires room { length_with self.old.journal.standing link.now ≤ LONGEST_FILE }
-        requires gate { IfSome (B.told board.old) (λ t.
-            self.old.journal.standing.length
-            < length (file_of self.old.journal.standing.file t)) }
-        ensures does { Does (looks B.told B.clock B.faults)
-            (append_acts self.old.journal.standing link.now) (keep_end result) board.old board.new }
-        ensures made { IsMade (keep_end result) }
-        ensures ledger { KeepsLedger result (standing_with self.old.journal.standing link.now)
-            self.old self.new }
-    {
-        match self.journal.append(link, board) {
-            Ok(()) => Ok(()),
-            Err(AppendRefused::Disk) => Err(KeepRefused::Disk),
-            Err(AppendRefused::Full) => unreachable!(),
         }
     }
 }

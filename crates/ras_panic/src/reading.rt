@@ -7,22 +7,13 @@ ghost use Rattle.cper_sections.specs.Guids.{guid_of, x64_guid};
 ghost use Rattle.ras_panic.specs.Panics.{report_type};
 ghost use Rattle.ras_panic.specs.Reading.{report_in, is_report, is_panic, panic_report};
 
-use crate::making::{REPORT_LENGTH, saved_bytes};
+use crate::making::{REPORT_LENGTH, REPORT_TYPE, X64_TYPE, saved_bytes};
 use cper_records::Record;
+use cper_sections::guid_at;
 use mca_status::Status;
 use ras_base::little_endian::{u16_at, u64_at};
 use ras_facts::BankReport;
 use uuid::Uuid;
-
-// 7a6d1f02-52c4-4d1e-9b0a-3c5e8f714d20
-const REPORT_GUID: [u8; 16] = [
-    0x7a, 0x6d, 0x1f, 0x02, 0x52, 0xc4, 0x4d, 0x1e, 0x9b, 0x0a, 0x3c, 0x5e, 0x8f, 0x71, 0x4d, 0x20,
-];
-
-// dc3ea0b0-a144-4797-b95b-53fa242b6e1d, the type of IA32/X64 sections.
-const X64_GUID: [u8; 16] = [
-    0xdc, 0x3e, 0xa0, 0xb0, 0xa1, 0x44, 0x47, 0x97, 0xb9, 0x5b, 0x53, 0xfa, 0x24, 0x2b, 0x6e, 0x1d,
-];
 
 /// The report that a panic record holds. It takes no memory.
 ///
@@ -51,7 +42,7 @@ pub fn panic_of(rec: &Record<'_>) -> Option<BankReport>
 fn is_report_type(guid: Uuid) -> bool
     ensures { result ≡ bytes_eq guid (guid_of report_type) }
 {
-    *guid.as_bytes() == REPORT_GUID
+    guid == guid_at(&REPORT_TYPE)
 }
 
 // Whether a section's type is that of IA32/X64 sections.
@@ -59,7 +50,7 @@ fn is_report_type(guid: Uuid) -> bool
 fn is_x64(guid: Uuid) -> bool
     ensures { result ≡ bytes_eq guid x64_guid }
 {
-    *guid.as_bytes() == X64_GUID
+    guid == guid_at(&X64_TYPE)
 }
 
 // Whether a section holds a report of an error.

@@ -1,11 +1,10 @@
 //! Polls of the record store over a driver: its records are listed and read, and those that could
-//! be read are cleared; and a record is saved.
+//! be read are cleared.
 #![tactic(auto)]
 
 mod clearing;
 mod laws;
 mod looking;
-mod saving;
 
 pub use clearing::clear_all;
 pub use laws::{
@@ -13,4 +12,3 @@ pub use laws::{
     savings_are_puts,
 };
 pub use looking::{Looked, look};
-pub use saving::save;

@@ -12,7 +12,7 @@ use Rattle.ras_facts.specs.Entries.{IsValidEntry}
 use Rattle.ras_account.specs.Account.{State}
 use Rattle.ras_account.specs.Continued.{account_after, account_after_all}
 use Rattle.ras_account.specs.Numbers.{IsWithin, numbers_of, are_past}
-use Rattle.ras_account.specs.View.{View, nothing}
+use Rattle.ras_account.specs.View.{View}
 use Rattle.entry_format.specs.declared.version.Version.{Version}
 use Rattle.journal_format.specs.Checkpoints.{IsCheckpoint}
 use Rattle.journal_format.specs.CheckpointReading.{checkpoint_of}
@@ -106,14 +106,13 @@ pub record Counting (start : State) (all left : List Entry) (number : ℕ) (acco
   pub valid : AllByRecursion IsValidEntry left
   pub state : account_after_all account.state left ≡ account_after_all start all
   pub stays : stays_within account.state left ≡ stays_within start all
-  pub waiting : account.waiting ≡ nothing
 
 pub first_valid : (start : State) (all left rest : List Entry) (number : ℕ) (account : View) (entry : Entry) → Counting start all left number account → left ≡ entry ∷ rest → IsValidEntry entry
 first_valid start all left rest number account entry so_far is = (let same : AllByRecursion IsValidEntry (entry ∷ rest) = subst (AllByRecursion IsValidEntry) is so_far.valid in same.0)
 
 pub counts_more : (start : State) (all left rest : List Entry) (number fewer : ℕ) (account after : View) (entry : Entry) → Counting start all left number account → left ≡ entry ∷ rest → fewer + 1 ≡ number
-    → after.state ≡ account_after account.state entry → after.waiting ≡ nothing → IsWithin (account_after account.state entry) → Counting start all rest fewer after
-counts_more start all left rest number fewer account after entry so_far is one continues waits within =
+    → after.state ≡ account_after account.state entry → IsWithin (account_after account.state entry) → Counting start all rest fewer after
+counts_more start all left rest number fewer account after entry so_far is one continues within =
     let number_is : number ≡ length left = so_far.count in
     let test : are_past (numbers_of (account_after account.state entry)) ≡ false = within_test (account_after account.state entry) within in
     let stays : stays_within account.state (entry ∷ rest) ≡ stays_within (account_after account.state entry) rest = rw test refl in
@@ -122,7 +121,6 @@ counts_more start all left rest number fewer account after entry so_far is one c
       valid = (let same : AllByRecursion IsValidEntry (entry ∷ rest) = subst (AllByRecursion IsValidEntry) is so_far.valid in same.1);
       state = ap (λ (a : State). account_after_all a rest) continues ∙ (ap (λ (l : List Entry). account_after_all account.state l) (sym is) ∙ so_far.state);
       stays = ap (λ (a : State). stays_within a rest) continues ∙ (sym stays ∙ (ap (λ (l : List Entry). stays_within account.state l) (sym is) ∙ so_far.stays));
-      waiting = waits;
     }
 
 past_of : (account : State) → (IsWithin account → ⊥) → (past : Bool) → are_past (numbers_of account) ≡ past → are_past (numbers_of account) ≡ true

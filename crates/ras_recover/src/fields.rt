@@ -1,7 +1,6 @@
 //! The fields of a journal file.
 ghost use Rattle.std.specs.Prelude.{◌≡◌, ◌+◌, ◌^◌, ◌<◌, ◌≤◌, length, None, Some, IfSome, IfOk, OnOk};
 ghost use Rattle.journal_format.specs.CheckpointReading.{checkpoint_of};
-ghost use Rattle.ras_account.specs.View.{nothing, View};
 ghost use Rattle.ras_journal.specs.Fields.{part, field, version_of, generation_of, number_of, is_open_of};
 ghost use Rattle.ras_recover.specs.Steps.Reading.{AnswersFront};
 
@@ -107,7 +106,7 @@ pub(crate) fn payload_count_at(place: usize, file: &[u8]) -> Result<u64, usize>
     }
 }
 
-// Decodes the account from a checkpoint of `count` bytes; nothing is pending.
+// The account of a checkpoint of `count` bytes.
 pub(crate) fn checkpoint_at(
     alloc: Global,
     version: Version,
@@ -115,7 +114,6 @@ pub(crate) fn checkpoint_at(
     file: &[u8],
 ) -> Result<Account, Unread>
     ensures read { AnswersFront (λ account. account.state) result (field (checkpoint_of version) 25 count file.now) }
-    ensures waiting { IfOk result (λ account. account.waiting ≡ nothing) }
     ensures within { OnOk result (25 + count ≤ length file.now) }
 {
     let Some(bytes) = part(25, count, file) else {

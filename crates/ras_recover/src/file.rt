@@ -1,6 +1,5 @@
 //! One journal file.
 ghost use Rattle.std.specs.Prelude.{◌≡◌, ℕ, ◌+◌, ◌-◌, ◌^◌, ◌≤◌, min, true, length, None, Ok, IfSome, IfOk, OnOk};
-ghost use Rattle.ras_account.specs.View.{nothing};
 ghost use Rattle.entry_format.specs.declared.version.Version.{Version};
 ghost use Rattle.ras_journal.specs.Fields.{field, number_of, version_of};
 ghost use Rattle.ras_journal.specs.File.{has_open_gate, first_front};
@@ -36,7 +35,6 @@ pub(crate) fn first_place(
     file: &[u8],
 ) -> Result<(Place, Account), Unread>
     ensures read { AnswersFront (λ r. front_at r.0 r.1.state) result (first_front taken file.now) }
-    ensures waiting { IfOk result (λ r. r.1.waiting ≡ nothing) }
     ensures links { IfOk result (λ r. r.0.links ≡ 0) }
     ensures within { IfOk result (λ r. r.0.gate ≤ length file.now) }
 {

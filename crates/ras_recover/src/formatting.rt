@@ -9,7 +9,7 @@ ghost use Rattle.ras_journal.specs.Recovered.{is_shut};
 ghost use Rattle.ras_recover.specs.Formatting.{behind_gate, closing_acts, formatting_acts};
 
 use board_core::{Board, Failed, FileNo, write_through};
-use journal_format::encode_checkpoint;
+use journal_format::{checkpoint_len, push_checkpoint};
 use ras_account::Account;
 use ras_base::NoMemory;
 use ras_base::little_endian::push_u64;
@@ -23,21 +23,8 @@ const MAGIC: &[u8; 8] = b"RASJRNL2";
 /// checkpoint's bytes, and the closed gate.
 const BYTES_BESIDE_CHECKPOINT: usize = 25;
 
-// What is written after the gate at the front of a file.
-fn bytes_behind_gate(alloc: Global, generation: u64, checkpoint: &[u8]) -> Result<Vec<u8>, NoMemory>
-    ensures { IfOk result (λ bytes. bytes.items ≡ behind_gate generation checkpoint.now) }
-{
-    let length = checkpoint.len().saturating_add(BYTES_BESIDE_CHECKPOINT);
-    let mut bytes = Vec::with_capacity(alloc, length)?;
-    bytes.extend_from_slice(MAGIC)?;
-    push_u64(&mut bytes, generation)?;
-    push_u64(&mut bytes, checkpoint.len() as u64)?;
-    bytes.extend_from_slice(checkpoint)?;
-    bytes.push(CLOSED_GATE)?;
-    Ok(bytes)
-}
-
-// The same with the checkpoint of this account.
+// What is written after the gate at the front of a file, with the checkpoint of this account. Room
+// for all of it is taken once.
 pub(crate) fn next_bytes(
     alloc: Global,
     generation: u64,
@@ -48,8 +35,15 @@ pub(crate) fn next_bytes(
     ensures account { IfOk result (λ _. IsCheckpoint Two account.now.state
         (checkpoint_bytes Two account.now.state)) }
 {
-    let checkpoint = encode_checkpoint(alloc, account)?;
-    bytes_behind_gate(alloc, generation, &checkpoint)
+    let length = checkpoint_len(account);
+    let room = (length as usize).saturating_add(BYTES_BESIDE_CHECKPOINT);
+    let mut bytes = Vec::with_capacity(alloc, room)?;
+    bytes.extend_from_slice(MAGIC)?;
+    push_u64(&mut bytes, generation)?;
+    push_u64(&mut bytes, length)?;
+    push_checkpoint(&mut bytes, account)?;
+    bytes.push(CLOSED_GATE)?;
+    Ok(bytes)
 }
 
 // Closes the gate at the front of a file and syncs it, if the file isn't shut already.

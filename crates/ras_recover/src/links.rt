@@ -5,7 +5,6 @@ ghost use Rattle.std.specs.List.{All};
 ghost use Rattle.ras_facts.specs.Entries.{IsValidEntry};
 ghost use Rattle.ras_account.specs.Continued.{account_after, account_after_all};
 ghost use Rattle.ras_account.specs.Numbers.{IsWithin};
-ghost use Rattle.ras_account.specs.View.{nothing};
 ghost use Rattle.journal_format.specs.PayloadReading.{payload_of};
 ghost use Rattle.ras_journal.specs.Fields.{field, number_of, is_open_of, stays_within};
 ghost use Rattle.ras_journal.specs.File.{front_behind_link, next_front};
@@ -25,7 +24,6 @@ use std::slice;
 fn count_entry(alloc: Global, account: &mut Account, entry: Entry) -> Result<(), ReserveRefused>
     requires { IsValidEntry entry }
     ensures state { OnOk result (account.new.state ≡ account_after account.old.state entry) }
-    ensures waiting { OnOk result (account.new.waiting ≡ nothing) }
     ensures full { result ≡ Err ReserveRefused.Full → IsWithin (account_after account.old.state entry) → ⊥ }
     ensures within { OnOk result (IsWithin (account_after account.old.state entry)) }
 {
@@ -44,11 +42,9 @@ fn count_entries(
     entries: Vec<Entry>,
 ) -> Result<bool, NoMemory>
     requires valid { All IsValidEntry entries.items }
-    requires waiting { account.old.waiting ≡ nothing }
     ensures stays { IfOk result (λ stays. stays ≡ stays_within account.old.state entries.items) }
     ensures state { IfOk result (λ stays. IsTrue stays
         → account.new.state ≡ account_after_all account.old.state entries.items) }
-    ensures waiting { IfOk result (λ stays. IsTrue stays → account.new.waiting ≡ nothing) }
 {
     for entry in entries {
         match count_entry(alloc, account, entry) {
@@ -89,12 +85,10 @@ fn payload_at(
 // Counts the entries of the link after the open gate at a place, and answers the place of the next
 // gate.
 fn link_at(alloc: Global, place: Place, account: &mut Account, file: &[u8]) -> Result<Place, Unread>
-    requires waiting { account.old.waiting ≡ nothing }
     requires gate { place.gate + 1 ≤ length file.now }
     requires links { place.links + 1 < 2 ^ 64 }
     ensures read { AnswersFront (λ next. front_at next account.new.state) result
         (front_behind_link (front_at place account.old.state) file.now) }
-    ensures waiting { OnOk result (account.new.waiting ≡ nothing) }
     ensures links { IfOk result (λ next. next.links ≡ place.links + 1) }
     ensures within { IfOk result (λ next. next.gate ≤ length file.now) }
 {
@@ -127,12 +121,10 @@ pub(crate) fn next_place(
     account: &mut Account,
     file: &[u8],
 ) -> Result<Option<Place>, Unread>
-    requires waiting { account.old.waiting ≡ nothing }
     requires links { place.links + 1 < 2 ^ 64 }
     ensures read { AnswersFront (λ next. option_map (λ p. front_at p account.new.state) next) result
         (next_front (front_at place account.old.state) file.now) }
     ensures kept { result ≡ Ok None → account.new.state ≡ account.old.state }
-    ensures waiting { OnOk result (account.new.waiting ≡ nothing) }
     ensures links { IfOk result (λ next. IfSome next (λ p. p.links ≡ place.links + 1)) }
     ensures within { IfOk result (λ next. IfSome next (λ p. p.gate ≤ length file.now)) }
     ensures closed { result ≡ Ok None → place.gate < length file.now }

@@ -53,7 +53,6 @@ fn read_one<B: Board>(
         (in_file file.no (front_of taken (file_of file.no t)))) }
     ensures shut { IfOk result (λ r. IfSome (B.told board.old)
         (λ t. r.shut ≡ is_shut (file_of file.no t))) }
-    ensures waiting { IfOk result (λ r. IfSome r.front (λ p. p.1.waiting ≡ nothing)) }
     ensures looks { LooksAt open_failure result (λ t. ReadsStanding file.no (file_of file.no t))
         (B.told board.old) (B.clock board.old) (B.faults board.old)
         (B.told board.new) (B.clock board.new) (B.faults board.new) }
@@ -78,11 +77,8 @@ fn greater(
     zero: Option<(Place, Account)>,
     one: Option<(Place, Account)>,
 ) -> Option<(FileNo, Place, Account)>
-    requires zero { IfSome zero (λ p. p.1.waiting ≡ nothing) }
-    requires one { IfSome one (λ p. p.1.waiting ≡ nothing) }
-    ensures is { option_map (λ j. record { file = j.0; front = front_at j.1 j.2.state }) result
+    ensures { option_map (λ j. record { file = j.0; front = front_at j.1 j.2.state }) result
         ≡ greater (option_map (λ p. front_at p.0 p.1.state) zero) (option_map (λ p. front_at p.0 p.1.state) one) }
-    ensures waiting { IfSome result (λ j. j.2.waiting ≡ nothing) }
 {
     match (zero, one) {
         (None, None) => None,
@@ -122,7 +118,6 @@ pub(crate) fn read_both<B: Board>(
         r.journal) result (journal_of t.here.file0 t.here.file1)) }
     ensures shut { IfOk result (λ r. IfSome (B.told board.old)
         (λ t. (r.shut.0 ≡ is_shut t.here.file0) × (r.shut.1 ≡ is_shut t.here.file1))) }
-    ensures waiting { IfOk result (λ r. IfSome r.journal (λ j. j.2.waiting ≡ nothing)) }
     ensures looks { LooksAt open_failure result (λ t. ReadsBoth t.here)
         (B.told board.old) (B.clock board.old) (B.faults board.old)
         (B.told board.new) (B.clock board.new) (B.faults board.new) }
@@ -169,12 +164,13 @@ fn standing_at(file: FileNo, place: Place, shut: (bool, bool)) -> Standing
 }
 
 // The account that goes on from one of this version: that of version 1 is taken over by a mark.
+// What waits is given up.
 fn taken_over(version: Version, account: Account) -> Account
-    requires { account.waiting ≡ nothing }
     ensures state { result.state ≡ account_by version account.state }
     ensures waiting { result.waiting ≡ nothing }
 {
     let mut account = account;
+    account.give_up();
     match version {
         Version::One => account.mark(),
         Version::Two => {}
@@ -184,7 +180,6 @@ fn taken_over(version: Version, account: Account) -> Account
 
 // What both files hold, as they were read.
 pub(crate) fn recovered_of(alloc: Global, both: BothRead) -> Recovered
-    requires { IfSome both.journal (λ j. j.2.waiting ≡ nothing) }
     ensures recovers { (file0 file1 : List ℕ) → AreRead both file0 file1
         → recovered file0 file1 ≡ Ok result.account.state }
     ensures standing { (file0 file1 : List ℕ) → AreRead both file0 file1

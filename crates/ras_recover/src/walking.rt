@@ -2,7 +2,6 @@
 ghost use Rattle.std.specs.Prelude.{◌≡◌, ◌+◌, ◌-◌, ◌<◌, ◌≤◌, ◌^◌, length, drop, None, Some, Ok, IfSome, IfOk, IfErr, OnOk};
 ghost use Rattle.std.specs.Option.{option_map};
 ghost use Rattle.board_core.specs.Told.{file_of};
-ghost use Rattle.ras_account.specs.View.{nothing};
 ghost use Rattle.ras_journal.specs.declared.limits.TheConstants.{LONGEST_FILE};
 ghost use Rattle.ras_journal.specs.File.{next_front, whole_front, front_of};
 ghost use Rattle.ras_journal.specs.Recovered.{is_shut};
@@ -74,7 +73,6 @@ fn next_in<B: Board>(
     window: &mut Window,
     board: &mut B,
 ) -> Result<Option<Place>, ReadRefused>
-    requires waiting { account.old.waiting ≡ nothing }
     requires links { place.links + 1 < 2 ^ 64 }
     requires covers { Covers file place.gate (B.told board.old) window.old }
     ensures read { IfSome (B.told board.old)
@@ -82,7 +80,6 @@ fn next_in<B: Board>(
         (next_front (front_at place account.old.state) (file_of file.no t))) }
     ensures closed { result ≡ Ok None
         → (account.new.state ≡ account.old.state) × (place.gate < end_of window.new) }
-    ensures waiting { OnOk result (account.new.waiting ≡ nothing) }
     ensures next { IfOk result (λ next. IfSome next (λ p. (p.links ≡ place.links + 1)
         × Covers file p.gate (B.told board.new) window.new)) }
     ensures looks { Looks read_failure result
@@ -115,7 +112,6 @@ fn last_in<B: Board>(
     window: &mut Window,
     board: &mut B,
 ) -> Result<Place, ReadRefused>
-    requires waiting { account.old.waiting ≡ nothing }
     requires links { first.links ≡ 0 }
     requires covers { Covers file first.gate (B.told board.old) window.old }
     ensures read { IfSome (B.told board.old)
@@ -123,7 +119,6 @@ fn last_in<B: Board>(
         (whole_front (length (file_of file.no t)) (front_at first account.old.state)
         (file_of file.no t))) }
     ensures closed { IfOk result (λ place. place.gate < end_of window.new) }
-    ensures waiting { OnOk result (account.new.waiting ≡ nothing) }
     ensures looks { Looks read_failure result
         (ReadsPart file.no (end_of window.old) (end_of window.new))
         (B.told board.old) (B.clock board.old) (B.faults board.old)
@@ -185,8 +180,8 @@ fn first_in<B: Board>(
         (λ t. IsBroken taken (file_of file.no t) refused)) }
     ensures shut { IfOk result (λ r. IfSome (B.told board.old)
         (λ t. r.shut ≡ is_shut (file_of file.no t))) }
-    ensures front { IfOk result (λ r. IfSome r.front (λ p. (p.1.waiting ≡ nothing)
-        × ((p.0.links ≡ 0) × Covers file p.0.gate (B.told board.new) window.new))) }
+    ensures front { IfOk result (λ r. IfSome r.front (λ p. (p.0.links ≡ 0)
+        × Covers file p.0.gate (B.told board.new) window.new)) }
     ensures looks { Looks read_failure result
         (ReadsPart file.no (end_of window.old) (end_of window.new))
         (B.told board.old) (B.clock board.old) (B.faults board.old)
@@ -228,7 +223,6 @@ pub(crate) fn read_file<B: Board>(
         (front_of taken (file_of file.no t))) }
     ensures shut { IfOk result (λ r. IfSome (B.told board.old)
         (λ t. r.shut ≡ is_shut (file_of file.no t))) }
-    ensures waiting { IfOk result (λ r. IfSome r.front (λ p. p.1.waiting ≡ nothing)) }
     ensures looks { LooksAt read_failure result (λ t. ReadsStanding file.no (file_of file.no t))
         (B.told board.old) (B.clock board.old) (B.faults board.old)
         (B.told board.new) (B.clock board.new) (B.faults board.new) }

@@ -1,2 +1,1 @@
-pub mod DetailLemmas
 pub mod LabelLemmas

@@ -31,7 +31,6 @@ pub fn report_of_bank(
     let Some(fact) = fact_of_bank(alloc, bank, topology)? else {
         return Ok(None);
     };
-    let mut details = Details::new(alloc);
-    details.push(Detail::Bank(*bank))?;
+    let details = Details::one(alloc, Detail::Bank(*bank))?;
     Ok(Some(Report { fact, details }))
 }

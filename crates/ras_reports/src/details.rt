@@ -1,6 +1,7 @@
 //! What is told of the items of a report.
 
-ghost use Rattle.std.specs.Prelude.{◌≡◌, ◌++◌, [], ◌∷◌, OnOk, OnErr};
+ghost use Rattle.std.specs.Prelude.{◌≡◌, ◌++◌, [], ◌∷◌, IfOk, OnOk, OnErr};
+ghost use Rattle.ras_reports.specs.Reports.{detail_of};
 
 use cper_sections::{MemSection, ProcSection, Section, X64Section};
 use ras_base::NoMemory;
@@ -24,18 +25,15 @@ pub enum Detail {
     Other(Uuid),
 }
 
-impl From<Section> for Detail {
-    ghost use Rattle.ras_reports.specs.Reports.{detail_of};
-
-    ghost from_gives = { λ section result. result ≡ detail_of section };
-
-    fn from(section: Section) -> Self {
-        match section {
-            Section::Memory(memory) => Detail::Memory(memory),
-            Section::Processor(processor) => Detail::Processor(processor),
-            Section::X64(x64) => Detail::X64(x64),
-            Section::Unknown(guid) => Detail::Other(guid),
-        }
+// What is told of a section's item.
+pub(crate) fn detail_of(section: Section) -> Detail
+    ensures { result ≡ detail_of section }
+{
+    match section {
+        Section::Memory(memory) => Detail::Memory(memory),
+        Section::Processor(processor) => Detail::Processor(processor),
+        Section::X64(x64) => Detail::X64(x64),
+        Section::Unknown(guid) => Detail::Other(guid),
     }
 }
 
@@ -62,6 +60,14 @@ impl Details {
         Details {
             list: Vec::new(alloc),
         }
+    }
+
+    /// One detail, with room for no other.
+    pub fn one(alloc: Global, detail: Detail) -> Result<Details, NoMemory>
+        ensures { IfOk result (λ details. details ≡ detail ∷ []) }
+    {
+        let list = vec![in alloc; detail]?;
+        Ok(Details { list })
     }
 
     /// Puts a detail after the others. If memory runs out the list stays.

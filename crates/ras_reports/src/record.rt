@@ -1,20 +1,18 @@
 //! The report of a record of firmware.
 
-ghost use Rattle.std.specs.Prelude.{◌≡◌, ◌<◌, map, IfOk};
-ghost use Rattle.cper_records.specs.Header.{section_count};
-ghost use Rattle.cper_records.specs.Descriptors.{section_at};
+ghost use Rattle.std.specs.Prelude.{◌≡◌, IfOk};
 ghost use Rattle.ras_facts.specs.Valid.{IsValidFact};
-ghost use Rattle.ras_reports.specs.Reports.{record_details, record_report, section_detail};
+ghost use Rattle.ras_reports.specs.Reports.{record_report};
 
-use crate::{Detail, Details, Report};
+use crate::details::{Details, Report, detail_of};
 use cper_records::Record;
 use dimm_topology::Topology;
 use ras_base::NoMemory;
-use ras_facts::fact_of_record;
+use ras_facts::{Fact, Items, Name, section_item};
 use std::alloc::Global;
 
-/// The report of a record, read at this time: its fact by `fact_of_record`, and what each section
-/// says for the section's item.
+/// The report of a record, read at this time: the fact that `fact_of_record` gives, and what each
+/// section says for the section's item.
 ///
 /// # Errors
 ///
@@ -29,26 +27,17 @@ pub fn report_of_record(
         (λ report. report ≡ record_report topology.now seconds rec.now) }
     ensures valid { IfOk result (λ report. IsValidFact report.fact) }
 {
-    let fact = fact_of_record(alloc, seconds, rec, topology)?;
-    let details = details_of_record(alloc, rec)?;
-    Ok(Report { fact, details })
-}
-
-// What each section of a record says.
-fn details_of_record(alloc: Global, rec: &Record<'_>) -> Result<Details, NoMemory>
-    ensures { IfOk result (λ details. details ≡ record_details rec.now) }
-{
-    let mut details = Details::new(alloc);
+    let (mut items, mut details) = (Items::new(alloc), Details::new(alloc));
     for i in 0..rec.count() {
-        details.push(section_detail(rec, i))?;
+        let read = rec.section(i);
+        items.push(section_item(alloc, &read, topology)?)?;
+        details.push(detail_of(read.section))?;
     }
-    Ok(details)
-}
-
-// What a section says, by its number.
-fn section_detail(rec: &Record<'_>, i: u16) -> Detail
-    requires { i < section_count rec.now }
-    ensures { result ≡ section_detail (section_at rec.now i) }
-{
-    Detail::from(rec.section(i).section)
+    let name = Name::Record { id: rec.id() };
+    let fact = Fact {
+        name,
+        seconds,
+        items,
+    };
+    Ok(Report { fact, details })
 }

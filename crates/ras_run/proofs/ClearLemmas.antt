@@ -1,16 +1,16 @@
--- Records that a poll could read are cleared, between two prints.
-use Rattle.std.proofs.Common.{◌≡◌, ◌∙◌, ℕ, ◌&&◌, Bool, true, false, not, nat_eq, List, [], ◌∷◌, ◌++◌, length, Some, IfSome, Result, Ok, Err, OnErr, IfErr, arith, refl, sym, ap, subst}
+-- Records that a poll could read are cleared, once its news are kept and its text is printed.
+use Rattle.std.proofs.Common.{◌≡◌, ◌∙◌, ℕ, ◌&&◌, Bool, true, false, not, nat_eq, List, [], ◌∷◌, ◌++◌, length, Some, IfSome, Result, Ok, Err, OnErr, arith, refl, sym, ap, subst}
 use Rattle.std.specs.Option.{option_map}
 use Rattle.std.proofs.lemmas.Bool.Decides.{nat_tests}
 use Rattle.board_core.specs.Cause.{device_call, print_call}
 use Rattle.board_core.specs.Device.{KeepsDevice}
 use Rattle.board_core.specs.Doing.{Act, Does, GoesWell, Seen, after_acts, broke, one_end, went_well}
-use Rattle.board_core.specs.Told.{Told}
-use Rattle.board_core.proofs.ActLemmas.{acts_device}
+use Rattle.board_core.specs.Told.{Told, device_of}
 use Rattle.board_core.proofs.DoingLemmas.{does_first, does_then, made_one}
 use Rattle.erst_store.specs.Device.{Device, device_with}
 use Rattle.erst_store.specs.DeviceLaws.{IsDevice}
 use Rattle.erst_store.specs.Store.{Stored}
+use Rattle.erst_interp.specs.Admission.{IsAdmittedTable}
 use Rattle.erst_interp.specs.Run.{acts_of}
 use Rattle.erst_driver.specs.declared.refusals.DriverRefused.{DriverRefused}
 use Rattle.erst_driver.specs.declared.refusals.DriverRefused.TheVariants.{Busy, NoMemory, Register, Status as EndedWith}
@@ -20,15 +20,21 @@ use Rattle.erst_driver.proofs.DoesLemmas.{at_told}
 use Rattle.ras_events.specs.Events.{Lists}
 use Rattle.ras_exit.specs.declared.exit.Exit.{Exit}
 use Rattle.ras_exit.specs.declared.exit.Exit.TheVariants.{PrintFault}
-use Rattle.ras_exit.specs.Acts.{part_end, print_acts}
-use Rattle.ras_exit.specs.Endings.{AnyFault, EndsBy, ending_of}
+use Rattle.ras_exit.specs.Acts.{part_end}
 use Rattle.ras_exit.proofs.PrintLemmas.{as_part}
 use Rattle.ras_records.specs.Each.{each_answer, each_calls}
 use Rattle.ras_records.specs.Polls.{is_busy_for_reads, readable_ids}
 use Rattle.ras_records.proofs.ClearingLemmas.{clears_answer}
-use Rattle.ras_run.specs.Steps.Clearing.{CanClear, clearing_acts}
 use Rattle.ras_run.specs.Status.{driver_exit}
-use Rattle.ras_run.proofs.PrintActLemmas.{print_off}
+use Rattle.ras_run.proofs.CountLemmas.{IsCutShort}
+
+-- The identifiers are those of the readable records of a device, which was fast enough to be read.
+-- Then all can be cleared.
+pub record CanClear (lists : Lists) (ids : List ℕ) (t : Told) : Type 0 where
+  pub admitted : IsAdmittedTable lists
+  pub device : IsDevice (device_of t)
+  pub free : is_busy_for_reads t.volatile.slow t.here.store ≡ false
+  pub found : ids ≡ readable_ids t.here.store
 
 none_readable : (store : List Stored) → nat_eq (length store) 0 ≡ true → readable_ids store ≡ []
 none_readable [] is = refl
@@ -57,25 +63,25 @@ module _ (lists : Lists) (ids : List ℕ) where
           let busy : not (nat_eq (length t.here.store) 0) ≡ false = subst (λ b. (not b && not (nat_eq (length t.here.store) 0)) ≡ false) is can.free in
           ap (λ (some : List ℕ). each_answer (clear_calls lists) some t) (can.found ∙ none_readable t.here.store (is_true (nat_eq (length t.here.store) 0) busy))
 
-module _ {X : Type 0} (see : X → Seen) (lists : Lists) (text done ids : List ℕ) (t : Told) (x y : X) (at : (see x).told ≡ Some t) (can : CanClear lists ids t) (printed : GoesWell (print_acts text) (see x) (see y)) where
+module _ {X : Type 0} (see : X → Seen) (lists : Lists) (told done : List Act) (ids : List ℕ) (t : Told) (x y : X) (at : (see x).told ≡ Some t) (can : CanClear lists ids (after_acts told t)) (first : GoesWell told (see x) (see y)) where
   abbrev u : Told
-  u = after_acts (print_acts text) t
+  u = after_acts told t
 
   abbrev clears : List Act
   clears = acts_of (each_calls (clear_calls lists) ids u)
 
   told_then : (see y).told ≡ Some u
-  told_then = printed.told ∙ ap (option_map (after_acts (print_acts text))) at
+  told_then = first.told ∙ ap (option_map (after_acts told)) at
 
   answer_then : each_answer (clear_calls lists) ids u ≡ Ok tt
-  answer_then = clear_answer lists ids u (clear_kept lists ids t u (acts_device (print_acts text) (print_off text) t) can)
+  answer_then = clear_answer lists ids u can
 
   pub cleared_does : (result : Result (Unit {0}) Exit) (z w : X) → IfSome (see y).told (λ v. Does see (acts_of (each_calls (clear_calls lists) ids v)) went_well y z)
-      → OnErr result (result ≡ Err PrintFault) → Does see (print_acts done) (one_end print_call result) z w → Does see (clearing_acts lists text done ids t) (part_end result) x w
+      → OnErr result (result ≡ Err PrintFault) → Does see done (one_end print_call result) z w → Does see (told ++ (clears ++ done)) (part_end result) x w
   cleared_does result z w cleared fault last =
-      as_part see (clearing_acts lists text done ids t) result x w fault
-      (does_then see (print_acts text) (clears ++ print_acts done) (one_end print_call result) x y w printed (made_one print_call result)
-      (does_then see clears (print_acts done) (one_end print_call result) y z w
+      as_part see (told ++ (clears ++ done)) result x w fault
+      (does_then see told (clears ++ done) (one_end print_call result) x y w first (made_one print_call result)
+      (does_then see clears done (one_end print_call result) y z w
       (at_told (λ v. Does see (acts_of (each_calls (clear_calls lists) ids v)) went_well y z) (see y).told u cleared told_then) (made_one print_call result) last))
 
   -- the driver refused a clear: then a call of the board failed
@@ -83,25 +89,21 @@ module _ {X : Type 0} (see : X → Seen) (lists : Lists) (text done ids : List �
     gives_then : AnswersAs (Err why) (each_answer (clear_calls lists) ids u)
     gives_then = at_told (λ v. AnswersAs (Err why) (each_answer (clear_calls lists) ids v)) (see y).told u gives told_then
 
-    pub failed_does : (z : X) → IfSome (see y).told (λ v. Does see (acts_of (each_calls (clear_calls lists) ids v)) (driver_end why) y z) → Does see (clearing_acts lists text done ids t) (part_end {T = Unit {0}} (Err (driver_exit why))) x z
-    failed_does z does = by why is gives_then (at_told (λ v. Does see (acts_of (each_calls (clear_calls lists) ids v)) (driver_end why) y z) (see y).told u does told_then)
+    failed : why ≡ Register
+    failed = by why is gives_then
       where
-        by : (w : DriverRefused) → IsAnswered {T = Unit {0}} (Err w) → AnswersAs (Err w) (each_answer (clear_calls lists) ids u) → Does see clears (driver_end w) y z → Does see (clearing_acts lists text done ids t) (part_end {T = Unit {0}} (Err (driver_exit w))) x z
-        by Register a g d = does_then see (print_acts text) (clears ++ print_acts done) (broke device_call) x y z printed tt (does_first see clears (print_acts done) (broke device_call) y z tt d)
-        by Busy a g d = absurd (let is : each_answer (clear_calls lists) ids u ≡ Ok tt = answer_then in cc)
-        by (EndedWith code) a g d = absurd (let is : each_answer (clear_calls lists) ids u ≡ Ok tt = answer_then in cc)
-        by NoMemory a g d = absurd a
-
-    pub failed_ends : EndsBy ⊥ ⊥ AnyFault (ending_of (driver_exit why))
-    failed_ends = by why is gives_then
-      where
-        by : (w : DriverRefused) → IsAnswered {T = Unit {0}} (Err w) → AnswersAs (Err w) (each_answer (clear_calls lists) ids u) → EndsBy ⊥ ⊥ AnyFault (ending_of (driver_exit w))
-        by Register a g = tt
+        by : (w : DriverRefused) → IsAnswered {T = Unit {0}} (Err w) → AnswersAs (Err w) (each_answer (clear_calls lists) ids u) → w ≡ Register
+        by Register a g = refl
         by Busy a g = absurd (let is : each_answer (clear_calls lists) ids u ≡ Ok tt = answer_then in cc)
         by (EndedWith code) a g = absurd (let is : each_answer (clear_calls lists) ids u ≡ Ok tt = answer_then in cc)
         by NoMemory a g = absurd a
 
--- printing failed
-pub print_fails : (result : Result (Unit {0}) Exit) → OnErr result (result ≡ Err PrintFault) → IfErr result (λ exit. EndsBy ⊥ ⊥ AnyFault (ending_of exit))
-print_fails (Ok over) is = tt
-print_fails (Err exit) is = subst (λ (r : Result (Unit {0}) Exit). IfErr r (λ exit. EndsBy ⊥ ⊥ AnyFault (ending_of exit))) (sym is) tt
+    pub failed_does : (z : X) → IfSome (see y).told (λ v. Does see (acts_of (each_calls (clear_calls lists) ids v)) (driver_end why) y z) → Does see (told ++ (clears ++ done)) (part_end {T = Unit {0}} (Err (driver_exit why))) x z
+    failed_does z does =
+        let last : Does see clears (broke device_call) y z =
+        subst (λ (w : DriverRefused). Does see clears (driver_end w) y z) failed (at_told (λ v. Does see (acts_of (each_calls (clear_calls lists) ids v)) (driver_end why) y z) (see y).told u does told_then) in
+        subst (λ (w : DriverRefused). Does see (told ++ (clears ++ done)) (part_end {T = Unit {0}} (Err (driver_exit w))) x z) (sym failed)
+        (does_then see told (clears ++ done) (broke device_call) x y z first tt (does_first see clears done (broke device_call) y z tt last))
+
+    pub failed_ends : IsCutShort (driver_exit why)
+    failed_ends = subst (λ (w : DriverRefused). IsCutShort (driver_exit w)) (sym failed) tt

@@ -37,6 +37,10 @@ within_past n within = grind (arith, nat_tests, within.names, within.entries, wi
 no_or : (a b : Bool) → a ≡ false → b ≡ false → (a || b) ≡ false
 no_or a b one two = rw (one, two) refl
 
+or_true : (a b : Bool) → b ≡ true → (a || b) ≡ true
+or_true true b is = refl
+or_true false b is = is
+
 pub text_told : (a now : State) (made : List Piece) (news : List Entry) (first text : List ℕ) → now ≡ a → news ≡ fresh_entries_in a (entries_in made) → first ≡ text_along a made
     → text ≡ first ++ order_lines (account_after_all now news).modules (orders_along_entries now news) → text ≡ event_text_in a made
 text_told a now made news first text same news_are first_is text_is =
@@ -89,6 +93,12 @@ module _ (made : List Piece) (news : List Entry) (before now after : Ledger) (sa
   made_counted (Err exit) counts ends =
       ends_weaker ⊥ ((exit ≡ Full) × (has_no_room_for a s (entries_in made) ≡ true)) (Unit {0}) (Unit {0}) AnyFault (λ kind. has_no_room_for a s (entries_in made) ≡ false) exit
       (λ never. absurd never) (λ memory over. over) (λ kind any. is_not_full counts.0) ends
+
+  pub made_not_kept : (exit : Exit) → CountsNews news (Err exit) now after → CountsMade made (Err exit) before after
+  made_not_kept exit ends =
+      ends_weaker ((exit ≡ Full) × (lacks_room_for now.account.state now.journal.standing news ≡ true)) ((exit ≡ Full) × (has_no_room_for a s (entries_in made) ≡ true)) (Unit {0}) (Unit {0})
+      (λ kind. lacks_room_for now.account.state now.journal.standing news ≡ false) (λ kind. has_no_room_for a s (entries_in made) ≡ false) exit
+      (λ full. (full.0, or_true _ _ (sym room_is ∙ full.1))) (λ memory over. over) (λ kind room. is_not_full room) ends
 
   -- ---- what is done
 

@@ -6,4 +6,3 @@ pub mod Moments
 pub mod Taking
 pub mod LineCalls
 pub mod LineActs
-pub mod Steps

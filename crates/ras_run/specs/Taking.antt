@@ -1,9 +1,9 @@
 -- How far a run has come, and how each part of it ends.
-use Rattle.std.specs.Prelude.{◌≡◌, ℕ, Bool, true, false, List, [], ◌∷◌, ◌++◌, IfErr, IfOk, IfSome, OnOk, Option, None, Some, Result, Ok, Err, ⊤}
+use Rattle.std.specs.Prelude.{◌≡◌, ℕ, Bool, true, false, List, [], ◌∷◌, ◌++◌, IfErr, IfOk, IfSome, Option, None, Some, Result, Ok, Err, ⊤}
 use Rattle.board_core.specs.Cause.{Faults, disk_call, print_call}
 use Rattle.board_core.specs.Clock.{Clock}
 use Rattle.board_core.specs.Stop.{Left}
-use Rattle.board_core.specs.Told.{Relates, Told}
+use Rattle.board_core.specs.Told.{Told}
 use Rattle.ras_account.specs.Account.{State}
 use Rattle.ras_account.specs.Accounts.{IsAccount}
 use Rattle.ras_account.specs.Continued.{account_after_all}

@@ -1,22 +1,20 @@
 //! A poll of the record store.
 
-ghost use Rattle.std.specs.Prelude.{◌≡◌, false, None, Some, IfErr, OnOk};
-ghost use Rattle.board_core.specs.Doing.{Does, after_acts, looks};
+ghost use Rattle.std.specs.Prelude.{◌≡◌, None, Some, IfErr, OnOk};
+ghost use Rattle.board_core.specs.Doing.{after_acts, looks};
 ghost use Rattle.board_core.specs.Told.{Told, device_of};
 ghost use Rattle.erst_interp.specs.Admission.{IsAdmittedTable};
 ghost use Rattle.erst_interp.specs.Run.{acts_of};
 ghost use Rattle.erst_store.specs.DeviceLaws.{IsDevice};
 ghost use Rattle.ras_events.specs.Making.{entries_in, polled};
 ghost use Rattle.ras_events.specs.Sizes.{IsFit};
-ghost use Rattle.ras_exit.specs.Acts.{part_end};
 ghost use Rattle.ras_exit.specs.Causes.{BoardCause, Causes};
-ghost use Rattle.ras_exit.specs.Endings.{AnyFault, EndsBy, IsStop, ending_of};
+ghost use Rattle.ras_exit.specs.Endings.{IsStop};
 ghost use Rattle.ras_ledger.specs.declared.ledger.Ledger.{Ledger};
 ghost use Rattle.ras_records.specs.Polls.{look_calls, readable_ids};
-ghost use Rattle.ras_run.specs.Steps.Clearing.{CanClear, clearing_acts};
 ghost use Rattle.ras_run.specs.LineActs.{DoesAsking, polled_acts};
 ghost use Rattle.ras_run.specs.Status.{polling_refusal};
-ghost use Rattle.ras_run.specs.Taking.{CountsMade, CountsPolled, IsReady};
+ghost use Rattle.ras_run.specs.Taking.{CountsPolled, IsReady};
 
 use crate::counting::{keep, prepare_made};
 use crate::driving::driver_exit;
@@ -72,70 +70,20 @@ pub(crate) fn poll_store<B: Board>(
     if buffer.resize(RANGE_LENGTH, 0).is_err() {
         return Err(Exit::NoMemory);
     }
-    match look(alloc, seconds, driver, topology, &mut buffer, board) {
-        Ok(looked) => take_looked(alloc, number, looked, driver, ledger, board),
-        Err(refused) => Err(driver_exit(refused)),
-    }
-}
-
-// Keeps and counts what a look found, by the line of this number, prints its text, and clears the
-// records that could be read.
-fn take_looked<B: Board>(
-    alloc: Global,
-    number: u64,
-    looked: Looked,
-    driver: &Driver,
-    ledger: &mut Ledger,
-    board: &mut B,
-) -> Result<(), Exit>
-    requires fit { IsFit looked.made }
-    requires ready { IsReady ledger.old (B.told board.old) (B.clock board.old) }
-
-    ensures counts { (t : Told) → B.told board.old ≡ Some t
-        → CanClear driver.now looked.readable.items t
-        → CountsMade looked.made result ledger.old ledger.new }
-    ensures does { (t : Told) → B.told board.old ≡ Some t
-        → CanClear driver.now looked.readable.items t
-        → Does (looks B.told B.clock B.faults)
-        (polled_acts driver.now ledger.old.account.state number ledger.old.journal.standing
-        looked.made looked.readable.items t) (part_end result) board.old board.new }
-    ensures ready { OnOk result (IsReady ledger.new (B.told board.new) (B.clock board.new)) }
-    ensures stop { IfErr result IsStop }
-    ensures faults { Causes BoardCause result (B.faults board.old) (B.faults board.new) }
-{
-    let Looked { made, readable } = looked;
+    let found = look(alloc, seconds, driver, topology, &mut buffer, board);
+    let Looked { made, readable } = match found {
+        Ok(looked) => looked,
+        Err(refused) => return Err(driver_exit(refused)),
+    };
     let Prepared {
         news,
         mut text,
         done,
     } = prepare_made(alloc, number, made, &mut ledger.account)?;
     keep(alloc, news, &mut text, ledger, board)?;
-    tell_and_clear(&text, &done, driver, &readable, board)
-}
-
-// Prints the text of a poll, clears the records under these identifiers, and prints the poll's done
-// line. Of a store whose readable records these are, only a call of the board can fail then.
-fn tell_and_clear<B: Board>(
-    text: &[u8],
-    done: &[u8],
-    driver: &Driver,
-    ids: &[u64],
-    board: &mut B,
-) -> Result<(), Exit>
-    ensures does { (t : Told) → B.told board.old ≡ Some t → CanClear driver.now ids.now t
-        → Does (looks B.told B.clock B.faults)
-        (clearing_acts driver.now text.now done.now ids.now t)
-        (part_end result) board.old board.new }
-    ensures fails { (t : Told) → B.told board.old ≡ Some t → CanClear driver.now ids.now t
-        → IfErr result (λ exit. EndsBy ⊥ ⊥ AnyFault (ending_of exit)) }
-    ensures ready { (ledger : Ledger) → IsReady ledger (B.told board.old) (B.clock board.old)
-        → OnOk result (IsReady ledger (B.told board.new) (B.clock board.new)) }
-    ensures stop { IfErr result IsStop }
-    ensures faults { Causes BoardCause result (B.faults board.old) (B.faults board.new) }
-{
-    print(text, board)?;
-    match clear_all(driver, ids, board) {
-        Ok(()) => print(done, board),
+    print(&text, board)?;
+    match clear_all(driver, &readable, board) {
+        Ok(()) => print(&done, board),
         Err(refused) => Err(driver_exit(refused)),
     }
 }

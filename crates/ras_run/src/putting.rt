@@ -22,7 +22,6 @@ use board_core::{Board, BoardPut, put};
 use erst_driver::Driver;
 use erst_store::PutRefused;
 use ras_exit::{Exit, Reason, print};
-use ras_records::save;
 use ras_texts::done_line;
 use std::alloc::Global;
 
@@ -97,7 +96,7 @@ pub(crate) fn save_record<B: Board>(
     ensures faults { Causes BoardCause result (B.faults board.old) (B.faults board.new) }
 {
     let done = done_line(alloc, number)?;
-    match save(driver, bytes, board) {
+    match driver.write(bytes, board) {
         Ok(()) => print(&done, board),
         Err(refused) => Err(driver_exit(refused)),
     }

@@ -44,19 +44,20 @@ pub told_left : (s : State) (t : Told) → Some (told_of s) ≡ Some t → LeftN
 told_left s t is = subst (λ (u : Told). LeftNow (clock_of s.past) u.here) (some_is (told_of s) t is)
     (now_counts (settled_disk s.past.first.here) (calls_of s.past.changes s.past.first) (length (calls_of s.past.changes s.past.first)) (held_of s.past).here (omega arith) (here_left s.past))
 
+-- what a stop leaves now has the store and the text that are held
+kept_left : (past : Past) (left : Left) → LeftNow (clock_of past) left → (left.store ≡ (held_of past).here.store) × (left.out ≡ (held_of past).here.out)
+kept_left past left now =
+    let may : MayLeave (disk_of past) rests left = now_left past left now in
+    let here : MayLeave (disk_of past) rests (held_of past).here = here_left past in (
+      becomes_same (disk_of past).store left.store may.store ∙ sym (becomes_same (disk_of past).store (held_of past).here.store here.store),
+      begins_none (disk_of past).out left.out may.out ∙ sym (begins_none (disk_of past).out (held_of past).here.out here.out),
+    )
+
 pub text_left : (s : State) (t : Told) (left : Left) → Some (told_of s) ≡ Some t → LeftNow (clock_of s.past) left → left.out ≡ t.here.out
-text_left s t left is now =
-    let may : MayLeave (disk_of s.past) rests left = now_left s.past left now in
-    let here : MayLeave (disk_of s.past) rests (held_of s.past).here = here_left s.past in
-    let same : (held_of s.past).here.out ≡ t.here.out = ap (λ (u : Told). u.here.out) (some_is (told_of s) t is) in
-    begins_none (disk_of s.past).out left.out may.out ∙ (sym (begins_none (disk_of s.past).out (held_of s.past).here.out here.out) ∙ same)
+text_left s t left is now = (kept_left s.past left now).1 ∙ ap (λ (u : Told). u.here.out) (some_is (told_of s) t is)
 
 pub store_left : (s : State) (t : Told) (left : Left) → Some (told_of s) ≡ Some t → LeftNow (clock_of s.past) left → left.store ≡ t.here.store
-store_left s t left is now =
-    let may : MayLeave (disk_of s.past) rests left = now_left s.past left now in
-    let here : MayLeave (disk_of s.past) rests (held_of s.past).here = here_left s.past in
-    let same : (held_of s.past).here.store ≡ t.here.store = ap (λ (u : Told). u.here.store) (some_is (told_of s) t is) in
-    becomes_same (disk_of s.past).store left.store may.store ∙ (sym (becomes_same (disk_of s.past).store (held_of s.past).here.store here.store) ∙ same)
+store_left s t left is now = (kept_left s.past left now).0 ∙ ap (λ (u : Told). u.here.store) (some_is (told_of s) t is)
 
 -- changes with one more
 
@@ -133,12 +134,6 @@ becomes_store : (store old new : List Stored) → store ≡ old → Becomes stor
 becomes_store store old new is (inl same) = same
 becomes_store store old new is (inr made) = made ∙ is
 
--- what a stop before leaves has the store that is held
-stored_now : (past : Past) (left : Left) → LeftNow (clock_of past) left → left.store ≡ (held_of past).here.store
-stored_now past left now =
-    becomes_same (disk_of past).store left.store (now_left past left now).store
-    ∙ sym (becomes_same (disk_of past).store (held_of past).here.store (here_left past).store)
-
 same_after : (past : Past) (store : List Stored) (left : Left) → store ≡ (held_of past).here.store → After (clock_of past) (InStore (Becomes store)) left → After (clock_of past) Same left
 same_after past store left is after = record {
   from = after.from;
@@ -146,7 +141,7 @@ same_after past store left is after = record {
   by =
       after.by.rest
       ∙ ap (λ (records : List Stored). record after.from { store = records })
-      (becomes_store store after.from.store after.by.store (is ∙ sym (stored_now past after.from after.was)) after.by.step);
+      (becomes_store store after.from.store after.by.store (is ∙ sym (kept_left past after.from after.was).0) after.by.step);
 }
 
 pub passes_kept : (past : Past) (change : DeviceChange) → (device_step change (device_in (held_of past))).store ≡ (held_of past).here.store → Passes Same (clock_of past) (clock_of (with_change (acted change) past))

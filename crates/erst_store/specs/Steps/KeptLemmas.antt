@@ -138,12 +138,12 @@ IsDevice-filled d n new rest kept size whole are =
     rw is (device_ranged d new d.status kept whole are)
 
 -- a record that no put refuses
-record Unrefused (id : ℕ) (bytes : List ℕ) (store : List Stored) : Type 0 where
+pub record Unrefused (id : ℕ) (bytes : List ℕ) (store : List Stored) : Type 0 where
   pub named : is_reserved id ≡ false
   pub short : nat_lt most_bytes (length bytes) ≡ false
   pub room : is_full_for id store ≡ false
 
-unrefused : (id : ℕ) (bytes : List ℕ) (store : List Stored) → refusal_of id bytes store ≡ None → Unrefused id bytes store
+pub unrefused : (id : ℕ) (bytes : List ℕ) (store : List Stored) → refusal_of id bytes store ≡ None → Unrefused id bytes store
 unrefused id bytes store free = by (is_reserved id) (nat_lt most_bytes (length bytes)) (is_full_for id store) refl refl refl free
   where
     by : (a b c : Bool) → is_reserved id ≡ a → nat_lt most_bytes (length bytes) ≡ b → is_full_for id store ≡ c
@@ -160,7 +160,7 @@ named_fits id named fits =
     let apart_ones : nat_eq id all_ones ≡ false = first.1 in
     (grind (arith, nat_tests), grind (arith, nat_tests))
 
-IsStore-unrefused : (id : ℕ) (bytes : List ℕ) (store : List Stored) → IsStore store → id < 2 ^ 64 → AreBytes bytes → Unrefused id bytes store → IsStore (with_record id bytes store)
+pub IsStore-unrefused : (id : ℕ) (bytes : List ℕ) (store : List Stored) → IsStore store → id < 2 ^ 64 → AreBytes bytes → Unrefused id bytes store → IsStore (with_record id bytes store)
 IsStore-unrefused id bytes store kept fits are free =
     let named = named_fits id free.named fits in
     IsStore-put id bytes store kept (record { above = named.0; below = named.1; size = ltb-false _ _ free.short; bytes = are }) free.room

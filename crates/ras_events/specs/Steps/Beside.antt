@@ -1,14 +1,14 @@
 -- The entries of an event, each judged by the account before the event.
-use Rattle.std.specs.Prelude.{◌≡◌, ℕ, ◌+◌, ◌≤◌, ◌⊎◌, Bool, false, ◌&&◌, not, if◌then◌else◌, List, [], ◌∷◌, ◌++◌, length, All, IfSome}
+use Rattle.std.specs.Prelude.{◌≡◌, ℕ, ◌+◌, ◌≤◌, ◌⊎◌, Bool, if◌then◌else◌, List, [], ◌∷◌, ◌++◌, length, All, IfSome}
 use Rattle.std.specs.List.{sum_by, AllByRecursion}
 use Rattle.ras_facts.specs.declared.entry.Entry.{Entry}
-use Rattle.ras_facts.specs.declared.entry.Entry.TheVariants.{Fact}
 use Rattle.ras_facts.specs.Entries.{IsValidEntry, most_orders}
 use Rattle.ras_reports.specs.declared.details.Detail.{Detail}
-use Rattle.ras_account.specs.Account.{State, names_of}
-use Rattle.ras_account.specs.Fresh.{is_among}
-use Rattle.ras_account.specs.Continued.{account_after_all, is_fresh_in}
+use Rattle.ras_account.specs.declared.reserve.Tally.{Tally}
+use Rattle.ras_account.specs.Account.{State}
+use Rattle.ras_account.specs.Continued.{account_after_all}
 use Rattle.ras_account.specs.Numbers.{StaysWithin, fresh_entries_in}
+use Rattle.ras_account.specs.Tallies.{IsTallyOf}
 use Rattle.ras_account.specs.View.{OrderList, View, IsReservedFor}
 use Rattle.journal_format.specs.Links.{link_bytes}
 use Rattle.ras_texts.specs.Reports.{entry_lines}
@@ -26,24 +26,18 @@ use Rattle.ras_events.specs.Sizes.{IsFact}
 abbrev pub AreAlike : List Entry → Type 0
 AreAlike entries = All IsFact entries ⊎ (length entries ≤ 1)
 
--- whether one of some entries has the name of an entry that is a fact
-abbrev pub has_name_of : List Entry → Entry → Bool
-has_name_of entries (Fact fact) = is_among (names_of entries) fact.name
-has_name_of entries other = false
-
--- whether an entry of an event is news by the account before the event and the event's news so far
-abbrev pub is_news_beside : State → List Entry → Entry → Bool
-is_news_beside account news entry = is_fresh_in account entry && not (has_name_of news entry)
-
 -- a text and news with an entry, which is news or a repeat
 pub record TellsEntry (is_news : Bool) (account : State) (details : List Detail) (entry : Entry) (old new : List ℕ) (before after : List Entry) : Type 0 where
   pub text : new ≡ old ++ (if is_news then entry_lines details account entry else repeat_line account entry)
   pub news : after ≡ (if is_news then before ++ entry ∷ [] else before)
 
--- the pieces so far and those that are left, with the news and the lines of the former
-pub record KeepsNews (account : State) (all taken left : List Piece) (number : ℕ) (news : List Entry) (text : List ℕ) : Type 0 where
+-- the pieces so far and those that are left, with the tally of the entries of the former, their news
+-- and their lines
+pub record KeepsNews (account : State) (all taken left : List Piece) (number : ℕ) (now : View) (tally : Tally) (news : List Entry) (text : List ℕ) : Type 0 where
   pub pieces : taken ++ left ≡ all
   pub count : number ≡ length left
+  pub state : now.state ≡ account
+  pub tally_is : IsTallyOf now tally (entries_in taken)
   pub news_are : news ≡ fresh_entries_in account (entries_in taken)
   pub text_is : text ≡ text_along account taken
 

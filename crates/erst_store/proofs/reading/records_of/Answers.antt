@@ -1,7 +1,7 @@
 use Rattle.std.proofs.Common.{[], arith}
 use Rattle.std.proofs.lemmas.Result.{err_from_is_err_and}
 use Rattle.std.proofs.lemmas.Bool.Decides.{nat_tests}
-use Rattle.erst_store.specs.Steps.StoreReading.{records_at}
+use Rattle.erst_store.specs.StoreReading.{records_at}
 use Rattle.erst_store.proofs.ReadingLemmas.{goes_on, ends_read, ends_follow, is_left, is_all}
 use Rattle.erst_store.proofs.reading.records_of.Goals as goal
 

@@ -1,5 +1,5 @@
 use Rattle.std.proofs.Common.{◌≡◌, ◌-◌, []}
-use Rattle.erst_store.specs.Steps.StoreReading.{records_at}
+use Rattle.erst_store.specs.StoreReading.{records_at}
 use Rattle.erst_store.proofs.reading.records_of.Given as goal
 
 abbrev pub invariant-loop : goal.invariant-loop

@@ -1,8 +1,7 @@
-use Rattle.std.proofs.Common.{◌≡◌, ◌∙◌, ap}
+use Rattle.std.proofs.Common.{◌≡◌, ◌∙◌, Ok, ap, sym}
 use Rattle.std.proofs.lemmas.Result.{err_from_is_err_and}
 use Rattle.ras_account.specs.Account.{State}
 use Rattle.entry_format.specs.declared.refused.EntryRefused.TheVariants.{Bad}
-use Rattle.journal_format.specs.Steps.Decoding.{with_rows_of}
 use Rattle.journal_format.specs.CheckpointReading.{CheckpointFront}
 use Rattle.journal_format.proofs.CheckpointLemmas.{holds_make, holds_of, unread_front}
 use Rattle.journal_format.proofs.decoding.account_at.Goals as goal
@@ -19,13 +18,8 @@ pub returns-in-Ok-clause-found : goal.returns-in-Ok-clause-found
 returns-in-Ok-clause-found c =
     let front = c.in_ok-front.front in
     let f : CheckpointFront = (front.limit, (front.module_limit, (front.entries, front.floor))) in
-    let filled = c.fill.new.account.state in
-    let base =
-    c.set_module_limit.ensures.state
-    ∙ ap (λ (a : State). record a { module_limit = front.module_limit })
-    (c.set_base.ensures.state ∙ ap (λ (a : State). record a { limit = front.limit; entries = front.entries }) c.new-account.ensures.state) in
-    holds_make c.args.version c.args.bytes.now f c.in_ok-front.rest.now filled c.in_ok-front.ensures.read c.in-Ok.ensures.holds
-    (c.in-Ok.ensures.state ∙ ap (λ (a : State). with_rows_of a filled) base) c.entries.ensures.account
+    holds_make c.args.version c.args.bytes.now f c.in_ok-front.rest.now c.in-Ok.account c.in_ok-front.ensures.read c.in-Ok.ensures.holds c.in-Ok.ensures.state c.into_account.ensures.account
+    ∙ ap (λ (a : State). Ok a) (sym c.into_account.ensures.state)
 
 pub returns-in-Err-clause-bad : goal.returns-in-Err-clause-bad
 returns-in-Err-clause-bad c e a all =

@@ -1,4 +1,4 @@
-use Rattle.std.proofs.Common.{◌≡◌, ℕ, List, ◌+◌, false, Ok, Err, Some, ap, refl, subst, sym, true, ◌∙◌, arith}
+use Rattle.std.proofs.Common.{◌≡◌, ℕ, List, ◌+◌, false, Ok, Err, Some, ap, refl, subst, sym, true, ◌∙◌}
 use Rattle.std.proofs.lemmas.Result.{err_from_is_err_and}
 use Rattle.board_core.specs.Doing.{after_acts, looks}
 use Rattle.line_filters.specs.Numbered.{Numbered, number_after}

@@ -1,21 +1,20 @@
--- One entry more, and a fact that is valid.
-use Rattle.std.proofs.Common.{◌<◌, length, arith, ◌∙◌}
-use Rattle.apei_sources.specs.Entries.{entry_severity, entry_guid, entry_data}
+-- One entry more.
+use Rattle.std.proofs.Common.{◌≡◌, Ok, arith, sym, ◌∙◌}
 use Rattle.apei_sources.specs.Blocks.{entry_at}
-use Rattle.ras_facts.specs.Reported.{entry_item}
-use Rattle.ras_facts.proofs.ItemLemmas.{mapped_more, item_of_read}
+use Rattle.apei_sources.specs.Entries.{entry_guid, entry_data}
+use Rattle.cper_sections.specs.Sections.{section_of}
+use Rattle.ras_facts.specs.Reported.{entry_item, section_item}
+use Rattle.ras_facts.proofs.ItemLemmas.{mapped_more, valid_more}
 use Rattle.ras_facts.proofs.block.fact_of_block.Goals as goal
 
 pub loop-i-preserved : goal.loop-i-preserved
 loop-i-preserved c =
-    let rows = c.args.topology.now in
-    let entries = c.args.block.now.entries in
-    let i = c.loop-i.i in
-    let entry = entry_at c.args.block.now i in
-    let read = c.entry.result in
-    let below : i < length entries = omega (arith, c.loop-i-test.true, c.count-i-end.ensures) in
-    mapped_more (entry_item rows) entries i c.loop-i.items _ c.in_ok-section_item.field-0 below c.loop-i.invariant c.in_ok-push.ensures.ok
-    (c.in_ok-section_item.ensures.item
-    ∙ item_of_read rows read.severity (entry_severity entry) read.guid (entry_guid entry) read.bytes.now (entry_data entry)
-    read.section c.entry.ensures.severity c.entry.ensures.guid c.entry.ensures.bytes c.entry.ensures.section)
-    c.in_ok-section_item.ensures.valid
+    let entry = entry_at c.args.block.now c.loop-i.i in
+    let read = c.entry.ensures in
+    let found : Ok c.entry.result.section ≡ section_of (entry_guid entry) (entry_data entry) = sym read.section ∙ (λ k. section_of (read.guid k) (read.bytes k)) in
+    record {
+      same = mapped_more (entry_item c.args.topology.now) c.args.block.now.entries c.loop-i.i _ _ _ (omega (arith, c.loop-i-test.true, c.count-i-end.ensures))
+          c.loop-i.invariant.same c.in_ok-push.ensures.ok
+          (c.in_ok-section_item.ensures.item ∙ (λ k. section_item c.args.topology.now (read.severity k) (found k)));
+      valid = valid_more _ _ _ c.loop-i.invariant.valid c.in_ok-push.ensures.ok c.in_ok-section_item.ensures.valid;
+    }

@@ -3,7 +3,7 @@ use Rattle.std.proofs.lemmas.Result.{err_from_is_err_and}
 use Rattle.ras_account.specs.Numbers.{IsWithin, AreWithin, are_past, numbers_with}
 use Rattle.ras_account.specs.Continued.{account_after}
 use Rattle.ras_account.specs.View.{added_by}
-use Rattle.ras_account.proofs.AgainLemmas.{nothing_left, waits_alone, single-past, single-first}
+use Rattle.ras_account.proofs.AgainLemmas.{waits_alone, single-past, single-first}
 use Rattle.ras_recover.proofs.links.count_entry.Goals as goal
 
 pub take-requires-clause-waits : goal.take-requires-clause-waits
@@ -27,11 +27,3 @@ returns-in_err-reserve-clause-full c =
     single-past c.args.account.now.state c.args.entry c.entries.ensures.account.within
     (ap (λ es. are_past (numbers_with c.args.account.now.state es)) (sym c.from_ref.ensures.value) ∙ c.in_err-reserve.ensures.full (ap Err (sym refusal.2) ∙ sym refusal.1 ∙ full))
     within
-
-pub returns-clause-waiting : goal.returns-clause-waiting
-returns-clause-waiting c =
-    nothing_left (added_by c.reserve.new.self.state (c.args.entry ∷ [])) _
-    (ap (λ a. added_by a (c.args.entry ∷ [])) c.in_ok-reserve.ensures.state
-    ∙ ap (added_by c.args.account.now.state) (sym c.from_ref.ensures.value)
-    ∙ sym c.in_ok-reserve.ensures.ok
-    ∙ c.take.ensures.waiting)

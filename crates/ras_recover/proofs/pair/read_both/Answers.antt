@@ -6,7 +6,7 @@ returns-in-Err-clause-read g c = zero_refused c.in-Err.refused c.args.sizes.0 c.
 
 pub returns-in-Ok-read_one-clause-read : goal.returns-in-Ok-read_one-clause-read
 returns-in-Ok-read_one-clause-read g c =
-    both_told c.args.sizes.0 c.args.sizes.1 _ _ c.generation_in.result _ _ _ c.in-Ok.ensures.looks.keeps.here c.requires.short c.requires.sizes c.in-Ok.ensures.read c.generation_in.ensures c.in-Ok-read_one.ensures.read c.greater.ensures.is
+    both_told c.args.sizes.0 c.args.sizes.1 _ _ c.generation_in.result _ _ _ c.in-Ok.ensures.looks.keeps.here c.requires.short c.requires.sizes c.in-Ok.ensures.read c.generation_in.ensures c.in-Ok-read_one.ensures.read c.greater.ensures
 
 pub returns-in-Ok-read_one-clause-looks : goal.returns-in-Ok-read_one-clause-looks
 returns-in-Ok-read_one-clause-looks g c = both_looks c.in-Ok.zero c.in-Ok-read_one.one _ _ _ _ _ _ _ _ _ _ c.in-Ok.ensures.looks c.in-Ok-read_one.ensures.looks

@@ -35,7 +35,6 @@ loop-preserved g c =
     let now = front_at c.loop.place c.loop.account.state in
     let next = front_at c.in-Ok-Some.next c.next_in.new.account.state in
     record {
-      waiting = told.waiting;
       links = told.next.0 ∙ ap (λ (n : ℕ). n + 1) c.loop.invariant.links;
       covers = told.next.1;
       goes_on = goes_next c.args.file c.args.window.now _ c.loop.counter (front_at c.args.first c.args.account.now.state) now next c.requires.covers.sees c.loop-test.true c.loop.invariant.goes_on

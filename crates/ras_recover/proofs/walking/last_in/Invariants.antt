@@ -1,5 +1,4 @@
 use Rattle.std.proofs.Common.{◌≡◌, Ok}
-use Rattle.ras_account.specs.View.{nothing}
 use Rattle.ras_recover.specs.Steps.Looking.{ReadsPart}
 use Rattle.ras_recover.specs.Steps.Reading.{front_at}
 use Rattle.ras_recover.specs.Steps.Windows.{Covers, end_of, Looks, read_failure}
@@ -9,7 +8,6 @@ use Rattle.ras_recover.proofs.walking.last_in.Given as goal
 -- as many links were followed as steps were made
 abbrev pub invariant-loop : goal.invariant-loop
 invariant-loop g l = record {
-  waiting : l.account.waiting ≡ nothing;
   links : l.place.links ≡ l.counter;
   covers : Covers l.file l.place.gate (g.B.Board.told l.board) l.window;
   goes_on : GoesOn l.file (g.B.Board.told l.fn.board) l.counter (front_at l.fn.first l.fn.account.state) (front_at l.place l.account.state);

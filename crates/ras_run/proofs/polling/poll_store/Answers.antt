@@ -1,72 +1,143 @@
-use Rattle.std.proofs.Common.{◌≡◌, ◌∙◌, Some, Ok, Err, sym, subst}
-use Rattle.board_core.specs.Doing.{Does, looks, went_well}
-use Rattle.board_core.specs.Told.{Told, device_of}
-use Rattle.erst_driver.proofs.DoesLemmas.{at_told}
-use Rattle.erst_driver.specs.Answers.{DoesListing}
-use Rattle.erst_interp.specs.Run.{acts_of}
-use Rattle.erst_store.specs.DeviceLaws.{IsDevice}
-use Rattle.ras_exit.specs.Acts.{AreStill}
-use Rattle.ras_records.specs.declared.looking.Looked.{Looked}
-use Rattle.ras_records.specs.Polls.{Looks, look_calls}
-use Rattle.ras_run.proofs.AskingLemmas.{asked_then, listing_refused}
-use Rattle.ras_run.proofs.PolledLemmas.{begun_still, can_behind, counts_polled, ends_polled, found_does, look_still, not_looked, told_behind}
-use Rattle.ras_run.proofs.StandsLemmas.{stands_called}
+use Rattle.std.proofs.Common.{◌∙◌, Ok, Err, refl}
+use Rattle.std.proofs.lemmas.Result.{err_from_is_err_and}
+use Rattle.board_core.specs.Doing.{looks}
+use Rattle.erst_driver.specs.Operations.{clear_calls}
+use Rattle.ras_records.specs.Each.{each_calls}
+use Rattle.ras_records.specs.Polls.{look_calls}
+use Rattle.ras_run.proofs.NewsLemmas.{can_keep}
+use Rattle.ras_run.proofs.PolledLemmas.{cleared, found, kept, not_cleared, not_found, not_kept, not_prepared, not_printed}
+use Rattle.ras_run.proofs.StandsLemmas.{ready_called, ready_print, stands_called}
 use Rattle.ras_run.proofs.polling.poll_store.Goals as goal
 
-same_told : (t u : Told) → Some t ≡ Some u → t ≡ u
-same_told t u is = cc
+-- ---- the look is refused
 
-pub take_looked-requires-clause-ready : goal.take_looked-requires-clause-ready
-take_looked-requires-clause-ready g c =
+pub returns-in-Err-clause-counts : goal.returns-in-Err-clause-counts
+returns-in-Err-clause-counts g c = λ t is admitted.
+    let see = looks g.B.Board.told g.B.Board.clock g.B.Board.faults in
+    rw c.driver_exit.ensures
+    (not_found see c.args.driver.now c.args.topology.now c.args.seconds c.args.board.now c.look-found.new.board c.in-Err.ensures.device c.in-Err.refused c.in-Err.ensures.looked c.in-Err.ensures.does c.args.number c.args.ledger.now t is admitted).0
+
+pub returns-in-Err-clause-does : goal.returns-in-Err-clause-does
+returns-in-Err-clause-does g c = λ t is admitted.
+    let see = looks g.B.Board.told g.B.Board.clock g.B.Board.faults in
+    rw c.driver_exit.ensures
+    (not_found see c.args.driver.now c.args.topology.now c.args.seconds c.args.board.now c.look-found.new.board c.in-Err.ensures.device c.in-Err.refused c.in-Err.ensures.looked c.in-Err.ensures.does c.args.number c.args.ledger.now t is admitted).1
+
+-- ---- the news are kept
+
+pub keep-requires-clause-ready : goal.keep-requires-clause-ready
+keep-requires-clause-ready g c =
     let see = looks g.B.Board.told g.B.Board.clock g.B.Board.faults in
     record {
       usable = c.requires.ready.usable;
-      stands = stands_called see (λ t. look_calls c.args.driver.now t) c.args.ledger.now.journal.standing c.args.ledger.now.account.state c.args.board.now c.look.new.board c.in-Ok.ensures.kept c.in-Ok.ensures.does c.requires.ready.stands;
+      stands = rw c.in_ok-news.ensures.state (stands_called see (λ t. look_calls c.args.driver.now t) c.args.ledger.now.journal.standing c.args.ledger.now.account.state c.args.board.now c.look-found.new.board c.in-Ok.ensures.kept c.in-Ok.ensures.does c.requires.ready.stands);
     }
 
-pub returns-in-Ok-clause-counts : goal.returns-in-Ok-clause-counts
-returns-in-Ok-clause-counts g c = λ t is admitted.
-    let see = looks g.B.Board.told g.B.Board.clock g.B.Board.faults in
-    let told = g.B.Board.told c.args.board.now in
-    let lists = c.args.driver.now in
-    let device = at_told (λ u. IsDevice (device_of u)) told t c.in-Ok.ensures.device is in
-    let has = at_told (λ u. Looks c.args.topology.now c.args.seconds (Ok c.in-Ok.looked) u) told t (c.in-Ok.ensures.looked admitted) is in
-    let does = at_told (λ u. Does see (acts_of (look_calls lists u)) went_well c.args.board.now c.look.new.board) told t c.in-Ok.ensures.does is in
-    let then = told_behind _ (see c.args.board.now) (see c.look.new.board) t does is in
-    counts_polled c.args.topology.now c.args.seconds t c.args.ledger.now c.in-Ok.looked has c.in-Ok.ensures.bounded.0 c.take_looked.new.ledger c.take_looked.result
-    (c.take_looked.ensures.counts _ then (can_behind lists t admitted device c.args.topology.now c.args.seconds c.in-Ok.looked has))
+pub keep-requires-clause-can_keep : goal.keep-requires-clause-can_keep
+keep-requires-clause-can_keep g c =
+    let prepared = c.in_ok-news.ensures.prepared in
+    can_keep c.args.ledger.now.account.state c.in-Ok.looked.made c.in_ok-news.field-0.news prepared.news prepared.some prepared.link c.in-Ok.ensures.bounded.0
 
-pub returns-in-Ok-clause-does : goal.returns-in-Ok-clause-does
-returns-in-Ok-clause-does g c = λ t is admitted.
+pub returns-in_err-news-clause-counts : goal.returns-in_err-news-clause-counts
+returns-in_err-news-clause-counts g c = λ t is admitted.
+    let p = err_from_is_err_and c.from_residual.result c.from_residual.ensures.1 in
     let see = looks g.B.Board.told g.B.Board.clock g.B.Board.faults in
-    let told = g.B.Board.told c.args.board.now in
-    let lists = c.args.driver.now in
+    let f = found see c.args.driver.now c.args.topology.now c.args.seconds c.args.board.now c.look-found.new.board c.in-Ok.ensures.device c.in-Ok.looked c.in-Ok.ensures.looked c.in-Ok.ensures.bounded c.in-Ok.ensures.does t is admitted in
+    rw (p.1, p.2) (not_prepared f c.args.number c.args.ledger.now c.in_err-news.field-0.0 c.in_err-news.ensures.ends).0
+
+pub returns-in_err-news-clause-does : goal.returns-in_err-news-clause-does
+returns-in_err-news-clause-does g c = λ t is admitted.
+    let p = err_from_is_err_and c.from_residual.result c.from_residual.ensures.1 in
+    let see = looks g.B.Board.told g.B.Board.clock g.B.Board.faults in
+    let f = found see c.args.driver.now c.args.topology.now c.args.seconds c.args.board.now c.look-found.new.board c.in-Ok.ensures.device c.in-Ok.looked c.in-Ok.ensures.looked c.in-Ok.ensures.bounded c.in-Ok.ensures.does t is admitted in
+    rw (p.1, p.2) (not_prepared f c.args.number c.args.ledger.now c.in_err-news.field-0.0 c.in_err-news.ensures.ends).1
+
+pub returns-in_err-keep-clause-counts : goal.returns-in_err-keep-clause-counts
+returns-in_err-keep-clause-counts g c = λ t is admitted.
+    let p = err_from_is_err_and c.from_residual-in_err-keep.result c.from_residual-in_err-keep.ensures.1 in
+    let see = looks g.B.Board.told g.B.Board.clock g.B.Board.faults in
+    let f = found see c.args.driver.now c.args.topology.now c.args.seconds c.args.board.now c.look-found.new.board c.in-Ok.ensures.device c.in-Ok.looked c.in-Ok.ensures.looked c.in-Ok.ensures.bounded c.in-Ok.ensures.does t is admitted in
+    let now = record c.args.ledger.now { account = c.prepare_made.new.account } in
+    rw (p.1, p.2) (not_kept f c.args.number c.args.ledger.now now c.in_ok-news.field-0 c.in_ok-news.ensures.prepared c.in_ok-news.ensures.state refl c.in_ok-news.ensures.room c.in_err-keep.field-0.0 c.keep.new.board c.in_err-keep.ensures.counts c.in_err-keep.ensures.does).0
+
+pub returns-in_err-keep-clause-does : goal.returns-in_err-keep-clause-does
+returns-in_err-keep-clause-does g c = λ t is admitted.
+    let p = err_from_is_err_and c.from_residual-in_err-keep.result c.from_residual-in_err-keep.ensures.1 in
+    let see = looks g.B.Board.told g.B.Board.clock g.B.Board.faults in
+    let f = found see c.args.driver.now c.args.topology.now c.args.seconds c.args.board.now c.look-found.new.board c.in-Ok.ensures.device c.in-Ok.looked c.in-Ok.ensures.looked c.in-Ok.ensures.bounded c.in-Ok.ensures.does t is admitted in
+    let now = record c.args.ledger.now { account = c.prepare_made.new.account } in
+    rw (p.1, p.2) (not_kept f c.args.number c.args.ledger.now now c.in_ok-news.field-0 c.in_ok-news.ensures.prepared c.in_ok-news.ensures.state refl c.in_ok-news.ensures.room c.in_err-keep.field-0.0 c.keep.new.board c.in_err-keep.ensures.counts c.in_err-keep.ensures.does).1
+
+-- ---- its text is printed
+
+pub returns-in_err-print-clause-counts : goal.returns-in_err-print-clause-counts
+returns-in_err-print-clause-counts g c = λ t is admitted.
+    let p = err_from_is_err_and c.from_residual-in_err-print.result c.from_residual-in_err-print.ensures.1 in
+    let see = looks g.B.Board.told g.B.Board.clock g.B.Board.faults in
     let ledger = c.args.ledger.now in
-    let device = at_told (λ u. IsDevice (device_of u)) told t c.in-Ok.ensures.device is in
-    let has = at_told (λ u. Looks c.args.topology.now c.args.seconds (Ok c.in-Ok.looked) u) told t (c.in-Ok.ensures.looked admitted) is in
-    let does = at_told (λ u. Does see (acts_of (look_calls lists u)) went_well c.args.board.now c.look.new.board) told t c.in-Ok.ensures.does is in
-    let then = told_behind _ (see c.args.board.now) (see c.look.new.board) t does is in
-    let can = can_behind lists t admitted device c.args.topology.now c.args.seconds c.in-Ok.looked has in
-    let counts = c.take_looked.ensures.counts _ then can in
-    let fit = c.in-Ok.ensures.bounded.0 in
-    asked_then see (IsDevice (device_of t)) _ (acts_of (look_calls lists t)) _ c.args.board.now c.look.new.board c.take_looked.new.board c.take_looked.result device
-    (λ u at. subst (λ (v : Told). AreStill (acts_of (look_calls lists t)) v) (same_told t u (sym is ∙ at)) (look_still lists t admitted device))
-    (ends_polled c.args.topology.now c.args.seconds t ledger c.in-Ok.looked has fit c.take_looked.new.ledger c.take_looked.result counts) does
-    (found_does c.args.topology.now c.args.seconds t ledger c.in-Ok.looked has fit c.take_looked.new.ledger c.take_looked.result counts see lists c.args.number _ c.look.new.board c.take_looked.new.board (c.take_looked.ensures.does _ then can))
+    let f = found see c.args.driver.now c.args.topology.now c.args.seconds c.args.board.now c.look-found.new.board c.in-Ok.ensures.device c.in-Ok.looked c.in-Ok.ensures.looked c.in-Ok.ensures.bounded c.in-Ok.ensures.does t is admitted in
+    let k = kept see c.args.number ledger (record ledger { account = c.prepare_made.new.account }) c.keep.new.ledger c.in-Ok.looked.made c.in_ok-news.field-0 c.deref.result.now c.look-found.new.board c.keep.new.board c.in_ok-news.ensures.prepared
+    c.in_ok-news.ensures.state refl c.in_ok-news.ensures.room c.in_ok-keep.ensures.counts (c.deref.ensures.value ∙ c.in_ok-keep.ensures.text) c.in_ok-keep.ensures.does in
+    rw (p.1, p.2) (not_printed f c.args.number ledger k (Err c.in_err-print.field-0.0) c.print.new.board c.in_err-print.ensures.exit tt c.in_err-print.ensures.does).0
+
+pub returns-in_err-print-clause-does : goal.returns-in_err-print-clause-does
+returns-in_err-print-clause-does g c = λ t is admitted.
+    let p = err_from_is_err_and c.from_residual-in_err-print.result c.from_residual-in_err-print.ensures.1 in
+    let see = looks g.B.Board.told g.B.Board.clock g.B.Board.faults in
+    let ledger = c.args.ledger.now in
+    let f = found see c.args.driver.now c.args.topology.now c.args.seconds c.args.board.now c.look-found.new.board c.in-Ok.ensures.device c.in-Ok.looked c.in-Ok.ensures.looked c.in-Ok.ensures.bounded c.in-Ok.ensures.does t is admitted in
+    let k = kept see c.args.number ledger (record ledger { account = c.prepare_made.new.account }) c.keep.new.ledger c.in-Ok.looked.made c.in_ok-news.field-0 c.deref.result.now c.look-found.new.board c.keep.new.board c.in_ok-news.ensures.prepared
+    c.in_ok-news.ensures.state refl c.in_ok-news.ensures.room c.in_ok-keep.ensures.counts (c.deref.ensures.value ∙ c.in_ok-keep.ensures.text) c.in_ok-keep.ensures.does in
+    rw (p.1, p.2) (not_printed f c.args.number ledger k (Err c.in_err-print.field-0.0) c.print.new.board c.in_err-print.ensures.exit tt c.in_err-print.ensures.does).1
+
+-- ---- its records are cleared
+
+pub returns-in-Ok-clear_all-clause-counts : goal.returns-in-Ok-clear_all-clause-counts
+returns-in-Ok-clear_all-clause-counts g c = λ t is admitted.
+    let see = looks g.B.Board.told g.B.Board.clock g.B.Board.faults in
+    let ledger = c.args.ledger.now in
+    let f = found see c.args.driver.now c.args.topology.now c.args.seconds c.args.board.now c.look-found.new.board c.in-Ok.ensures.device c.in-Ok.looked c.in-Ok.ensures.looked c.in-Ok.ensures.bounded c.in-Ok.ensures.does t is admitted in
+    let k = kept see c.args.number ledger (record ledger { account = c.prepare_made.new.account }) c.keep.new.ledger c.in-Ok.looked.made c.in_ok-news.field-0 c.deref.result.now c.look-found.new.board c.keep.new.board c.in_ok-news.ensures.prepared
+    c.in_ok-news.ensures.state refl c.in_ok-news.ensures.room c.in_ok-keep.ensures.counts (c.deref.ensures.value ∙ c.in_ok-keep.ensures.text) c.in_ok-keep.ensures.does in
+    (cleared f c.args.number ledger k c.print.new.board c.in_ok-print.ensures.does c.deref-2.result.now c.deref-2.ensures.value c.print-in-Ok-clear_all.result c.deref-in-Ok-clear_all.result.now c.clear_all.new.board c.print-in-Ok-clear_all.new.board
+    (c.deref-in-Ok-clear_all.ensures.value ∙ c.in_ok-news.ensures.prepared.done) c.in-Ok-clear_all.ensures.does c.print-in-Ok-clear_all.ensures.exit c.print-in-Ok-clear_all.ensures.does).0
+
+pub returns-in-Ok-clear_all-clause-does : goal.returns-in-Ok-clear_all-clause-does
+returns-in-Ok-clear_all-clause-does g c = λ t is admitted.
+    let see = looks g.B.Board.told g.B.Board.clock g.B.Board.faults in
+    let ledger = c.args.ledger.now in
+    let f = found see c.args.driver.now c.args.topology.now c.args.seconds c.args.board.now c.look-found.new.board c.in-Ok.ensures.device c.in-Ok.looked c.in-Ok.ensures.looked c.in-Ok.ensures.bounded c.in-Ok.ensures.does t is admitted in
+    let k = kept see c.args.number ledger (record ledger { account = c.prepare_made.new.account }) c.keep.new.ledger c.in-Ok.looked.made c.in_ok-news.field-0 c.deref.result.now c.look-found.new.board c.keep.new.board c.in_ok-news.ensures.prepared
+    c.in_ok-news.ensures.state refl c.in_ok-news.ensures.room c.in_ok-keep.ensures.counts (c.deref.ensures.value ∙ c.in_ok-keep.ensures.text) c.in_ok-keep.ensures.does in
+    (cleared f c.args.number ledger k c.print.new.board c.in_ok-print.ensures.does c.deref-2.result.now c.deref-2.ensures.value c.print-in-Ok-clear_all.result c.deref-in-Ok-clear_all.result.now c.clear_all.new.board c.print-in-Ok-clear_all.new.board
+    (c.deref-in-Ok-clear_all.ensures.value ∙ c.in_ok-news.ensures.prepared.done) c.in-Ok-clear_all.ensures.does c.print-in-Ok-clear_all.ensures.exit c.print-in-Ok-clear_all.ensures.does).1
+
+pub returns-in-Ok-clear_all-clause-ready : goal.returns-in-Ok-clear_all-clause-ready
+returns-in-Ok-clear_all-clause-ready g c =
+    let see = looks g.B.Board.told g.B.Board.clock g.B.Board.faults in
+    let ledger = c.keep.new.ledger in
+    let told = ready_print see c.deref.result.now ledger (Ok tt) c.keep.new.board c.print.new.board c.in_ok-keep.ensures.ready c.in_ok-print.ensures.does in
+    ready_print see c.deref-in-Ok-clear_all.result.now ledger c.print-in-Ok-clear_all.result c.clear_all.new.board c.print-in-Ok-clear_all.new.board
+    (ready_called see (λ t. each_calls (clear_calls c.args.driver.now) c.deref-2.result.now t) ledger c.print.new.board c.clear_all.new.board c.in-Ok-clear_all.ensures.kept c.in-Ok-clear_all.ensures.does told) c.print-in-Ok-clear_all.ensures.does
 
 pub returns-clause-counts : goal.returns-clause-counts
 returns-clause-counts g c = λ t is admitted.
-    let told = g.B.Board.told c.args.board.now in
-    rw c.driver_exit.ensures
-    (not_looked c.args.topology.now c.args.seconds t c.args.ledger.now c.in-Err.refused (at_told (λ u. Looks c.args.topology.now c.args.seconds (Err c.in-Err.refused) u) told t (c.in-Err.ensures.looked admitted) is) c.args.ledger.now)
+    let see = looks g.B.Board.told g.B.Board.clock g.B.Board.faults in
+    let ledger = c.args.ledger.now in
+    let f = found see c.args.driver.now c.args.topology.now c.args.seconds c.args.board.now c.look-found.new.board c.in-Ok.ensures.device c.in-Ok.looked c.in-Ok.ensures.looked c.in-Ok.ensures.bounded c.in-Ok.ensures.does t is admitted in
+    let k = kept see c.args.number ledger (record ledger { account = c.prepare_made.new.account }) c.keep.new.ledger c.in-Ok.looked.made c.in_ok-news.field-0 c.deref.result.now c.look-found.new.board c.keep.new.board c.in_ok-news.ensures.prepared
+    c.in_ok-news.ensures.state refl c.in_ok-news.ensures.room c.in_ok-keep.ensures.counts (c.deref.ensures.value ∙ c.in_ok-keep.ensures.text) c.in_ok-keep.ensures.does in
+    rw c.driver_exit-in-Err-clear_all.ensures
+    (not_cleared f c.args.number ledger k c.print.new.board c.in_ok-print.ensures.does c.deref-2.result.now c.deref-2.ensures.value c.in-Err-clear_all.refused c.clear_all.new.board
+    c.in-Err-clear_all.ensures.ends.refused c.in-Err-clear_all.ensures.answers c.in-Err-clear_all.ensures.does).0
 
 pub returns-clause-does : goal.returns-clause-does
 returns-clause-does g c = λ t is admitted.
     let see = looks g.B.Board.told g.B.Board.clock g.B.Board.faults in
-    let told = g.B.Board.told c.args.board.now in
-    let lists = c.args.driver.now in
-    let device = at_told (λ u. IsDevice (device_of u)) told t c.in-Err.ensures.device is in
-    rw c.driver_exit.ensures
-    (listing_refused see (IsDevice (device_of t)) _ (look_calls lists t) _ Looked c.args.board.now c.look.new.board c.in-Err.refused device
-    (λ u done later at splits. subst (λ (v : Told). AreStill (acts_of done) v) (same_told t u (sym is ∙ at)) (begun_still lists t admitted device done later splits))
-    (at_told (λ u. DoesListing {T = Looked} see (look_calls lists u) (Err c.in-Err.refused) c.args.board.now c.look.new.board) told t c.in-Err.ensures.does is))
+    let ledger = c.args.ledger.now in
+    let f = found see c.args.driver.now c.args.topology.now c.args.seconds c.args.board.now c.look-found.new.board c.in-Ok.ensures.device c.in-Ok.looked c.in-Ok.ensures.looked c.in-Ok.ensures.bounded c.in-Ok.ensures.does t is admitted in
+    let k = kept see c.args.number ledger (record ledger { account = c.prepare_made.new.account }) c.keep.new.ledger c.in-Ok.looked.made c.in_ok-news.field-0 c.deref.result.now c.look-found.new.board c.keep.new.board c.in_ok-news.ensures.prepared
+    c.in_ok-news.ensures.state refl c.in_ok-news.ensures.room c.in_ok-keep.ensures.counts (c.deref.ensures.value ∙ c.in_ok-keep.ensures.text) c.in_ok-keep.ensures.does in
+    rw c.driver_exit-in-Err-clear_all.ensures
+    (not_cleared f c.args.number ledger k c.print.new.board c.in_ok-print.ensures.does c.deref-2.result.now c.deref-2.ensures.value c.in-Err-clear_all.refused c.clear_all.new.board
+    c.in-Err-clear_all.ensures.ends.refused c.in-Err-clear_all.ensures.answers c.in-Err-clear_all.ensures.does).1

@@ -20,35 +20,35 @@ use Rattle.ras_run.proofs.putting.save_record.Goals as goal
 pub returns-in-Ok-clause-ends : goal.returns-in-Ok-clause-ends
 returns-in-Ok-clause-ends g c =
     if_some (g.B.Board.told c.args.board.now) _ (λ t. EndsUnless (saving_refusal t.volatile.slow c.args.id t.here.store) c.print.result)
-    (λ t gives. printed_ends (saving_refusal t.volatile.slow c.args.id t.here.store) c.print.result c.print.ensures.exit (is_saved c.args.id c.args.bytes.now c.requires t gives)) c.in-Ok.ensures.answers
+    (λ t gives. printed_ends (saving_refusal t.volatile.slow c.args.id t.here.store) c.print.result c.print.ensures.exit (is_saved c.args.id c.args.bytes.now c.requires t gives)) c.in-Ok.ensures.writes.answers
 
 pub returns-in-Ok-clause-does : goal.returns-in-Ok-clause-does
 returns-in-Ok-clause-does g c = λ t is.
     let see = looks g.B.Board.told g.B.Board.clock g.B.Board.faults in
     let told = g.B.Board.told c.args.board.now in
-    asked_printed see (IsDevice (device_of t)) (saving_refusal t.volatile.slow c.args.id t.here.store ≡ None) (acts_of (write_calls c.args.driver.now c.args.bytes.now (device_of t))) (print_acts (done_line c.args.number)) _ c.save.new.board _ c.print.result
-    (at_told (λ u. IsDevice (device_of u)) told t c.in-Ok.ensures.device is)
-    (is_saved c.args.id c.args.bytes.now c.requires t (at_told (λ u. AnswersAs (Ok (tt {0})) (answer_on_put (written_id c.args.bytes.now) (device_of u))) told t c.in-Ok.ensures.answers is))
+    asked_printed see (IsDevice (device_of t)) (saving_refusal t.volatile.slow c.args.id t.here.store ≡ None) (acts_of (write_calls c.args.driver.now c.args.bytes.now (device_of t))) (print_acts (done_line c.args.number)) _ c.write.new.board _ c.print.result
+    (at_told (λ u. IsDevice (device_of u)) told t c.in-Ok.ensures.writes.device is)
+    (is_saved c.args.id c.args.bytes.now c.requires t (at_told (λ u. AnswersAs (Ok (tt {0})) (answer_on_put (written_id c.args.bytes.now) (device_of u))) told t c.in-Ok.ensures.writes.answers is))
     c.print.ensures.exit
-    (at_told (λ u. Does see (acts_of (write_calls c.args.driver.now c.args.bytes.now (device_of u))) (ended_by driver_end (Ok (tt {0}))) c.args.board.now c.save.new.board) told t c.in-Ok.ensures.does is)
-    (subst (λ (text : List ℕ). Does see (print_acts text) (one_end print_call c.print.result) c.save.new.board c.print.new.board) (c.deref.ensures.value ∙ c.in_ok-done.ensures) c.print.ensures.does)
+    (at_told (λ u. Does see (acts_of (write_calls c.args.driver.now c.args.bytes.now (device_of u))) (ended_by driver_end (Ok (tt {0}))) c.args.board.now c.write.new.board) told t c.in-Ok.ensures.writes.does is)
+    (subst (λ (text : List ℕ). Does see (print_acts text) (one_end print_call c.print.result) c.write.new.board c.print.new.board) (c.deref.ensures.value ∙ c.in_ok-done.ensures) c.print.ensures.does)
 
 pub returns-in-Ok-clause-ready : goal.returns-in-Ok-clause-ready
 returns-in-Ok-clause-ready g c = λ ledger ready.
     let see = looks g.B.Board.told g.B.Board.clock g.B.Board.faults in
-    ready_print see c.deref.result.now ledger c.print.result c.save.new.board c.print.new.board
-    (ready_called see (λ t. write_calls c.args.driver.now c.args.bytes.now (device_of t)) ledger c.args.board.now c.save.new.board c.in-Ok.ensures.kept c.in-Ok.ensures.does ready) c.print.ensures.does
+    ready_print see c.deref.result.now ledger c.print.result c.write.new.board c.print.new.board
+    (ready_called see (λ t. write_calls c.args.driver.now c.args.bytes.now (device_of t)) ledger c.args.board.now c.write.new.board c.in-Ok.ensures.writes.kept c.in-Ok.ensures.writes.does ready) c.print.ensures.does
 
 pub returns-clause-ends : goal.returns-clause-ends
 returns-clause-ends g c =
     if_some (g.B.Board.told c.args.board.now) _ (λ t. EndsUnless (saving_refusal t.volatile.slow c.args.id t.here.store) (Err c.driver_exit.result))
-    (λ t gives. subst (λ exit. EndsUnless (saving_refusal t.volatile.slow c.args.id t.here.store) (Err exit)) (sym c.driver_exit.ensures) (not_saved c.args.id c.args.bytes.now c.requires t c.in-Err.refused c.in-Err.ensures.ends.refused gives)) c.in-Err.ensures.answers
+    (λ t gives. subst (λ exit. EndsUnless (saving_refusal t.volatile.slow c.args.id t.here.store) (Err exit)) (sym c.driver_exit.ensures) (not_saved c.args.id c.args.bytes.now c.requires t c.in-Err.refused c.in-Err.ensures.writes.ends.refused gives)) c.in-Err.ensures.writes.answers
 
 pub returns-clause-does : goal.returns-clause-does
 returns-clause-does g c = λ t is.
     let see = looks g.B.Board.told g.B.Board.clock g.B.Board.faults in
     let told = g.B.Board.told c.args.board.now in
     rw c.driver_exit.ensures
-    (asked_refused see (IsDevice (device_of t)) (saving_refusal t.volatile.slow c.args.id t.here.store ≡ None) (acts_of (write_calls c.args.driver.now c.args.bytes.now (device_of t))) (print_acts (done_line c.args.number)) _ _ c.in-Err.refused c.in-Err.ensures.ends.refused
-    (at_told (λ u. IsDevice (device_of u)) told t c.in-Err.ensures.device is)
-    (at_told (λ u. Does see (acts_of (write_calls c.args.driver.now c.args.bytes.now (device_of u))) (driver_end c.in-Err.refused) c.args.board.now c.save.new.board) told t c.in-Err.ensures.does is))
+    (asked_refused see (IsDevice (device_of t)) (saving_refusal t.volatile.slow c.args.id t.here.store ≡ None) (acts_of (write_calls c.args.driver.now c.args.bytes.now (device_of t))) (print_acts (done_line c.args.number)) _ _ c.in-Err.refused c.in-Err.ensures.writes.ends.refused
+    (at_told (λ u. IsDevice (device_of u)) told t c.in-Err.ensures.writes.device is)
+    (at_told (λ u. Does see (acts_of (write_calls c.args.driver.now c.args.bytes.now (device_of u))) (driver_end c.in-Err.refused) c.args.board.now c.write.new.board) told t c.in-Err.ensures.writes.does is))

@@ -7,4 +7,4 @@ use Rattle.board_core.proofs.history.History.range_write.Goals as goal
 pub invariant_of-self-2 : goal.invariant_of-self-2
 invariant_of-self-2 c =
     device_acted _ _ _ _ _ _ _ c.self.invariant (WroteRange c.args.place c.in_ok-kept.kept) (wrote_range c.args.place c.args.bytes.now) c.range_write.new.self
-    (ap (λ (bytes : List ℕ). acted (wrote_range c.args.place bytes)) c.in_ok-kept.ensures.items) c.in_ok-push.ensures.items c.range_write.ensures.range
+    (ap (λ (bytes : List ℕ). acted (wrote_range c.args.place bytes)) c.in_ok-kept.ensures.items) c.in_ok-push.ensures.items c.range_write.ensures

@@ -5,7 +5,7 @@ use Rattle.erst_store.proofs.store.Store.to_bytes.Goals as goal
 
 pub loop-i-init : goal.loop-i-init
 loop-i-init c =
-    rw (c.in_ok-push_u32.ensures.ok, c.in_ok-out.ensures.items, c.len.ensures.count) (heading-nil (length c.args.self.now))
+    rw (c.in_ok-push_u32.ensures.ok, c.in_ok-extend_from_slice.ensures.items, c.in_ok-out.ensures.items, c.len.ensures.count) (heading-nil (length c.args.self.now))
 
 pub loop-i-preserved : goal.loop-i-preserved
 loop-i-preserved c =

@@ -1,15 +1,14 @@
 use Rattle.std.proofs.Common.{ℕ, ◌≡◌, ◌≤◌, nat_eq, ◌∙◌, sym, ap, subst, unwrap_or}
-use Rattle.std.specs.Map.{keys_of, lookup}
-use Rattle.ras_base.specs.Steps.ExactLemmas.{nat_apart}
+use Rattle.std.specs.Map.{keys_of}
 use Rattle.row_tables.specs.Tables.{added_keys}
 use Rattle.row_tables.specs.Held.{Held, with_row}
 use Rattle.page_policy.specs.declared.rows.PageRow.{PageRow}
 use Rattle.page_policy.specs.Buckets.{most_count}
-use Rattle.page_policy.specs.Rows.{PageReport, report, height, row_after, state_called_by, order_between}
+use Rattle.page_policy.specs.Rows.{PageReport, report, row_after, order_between}
 use Rattle.page_policy.specs.Histories.{rows_after, state_in}
 use Rattle.page_policy.specs.Pages.{pages_after}
 use Rattle.page_policy.proofs.PageLemmas.{row_for, with_row-after, small-lookup, small-with_row}
-use Rattle.page_policy.proofs.HistoryLemmas.{state_in-before, state_in-after, never_falls, lookup-rows_after, page_rows_of-more, order-history, soft-order, hard-order, in_turn}
+use Rattle.page_policy.proofs.HistoryLemmas.{state_in-before, state_in-after, in_turn}
 use Rattle.page_policy.proofs.pages.Pages.account.Goals as goal
 
 pub after-after-requires-clause-count : goal.after-after-requires-clause-count
@@ -46,39 +45,12 @@ module _ (c : goal.After-order_for) where
       ap (λ row. row.state) (c.after-after.ensures.row c.args.page) ∙ ap (λ row. (row_after row taken_in).state) known ∙ state_in-after c.args.self.now.rows taken_in in
       c.order_for.ensures ∙ (λ i. order_between c.args.page (before_is i) (after i))
 
-  ordered_row : c.order_for.result ≡ order_between c.args.page c.unwrap_or-before.result.state (row_after c.unwrap_or-before.result taken_in).state
-  ordered_row = c.order_for.ensures ∙ ap (λ row. order_between c.args.page c.unwrap_or-before.result.state row.state) (c.after-after.ensures.row c.args.page)
-
 pub returns-clause-pages : goal.returns-clause-pages
 returns-clause-pages c = taken_is c
 
 pub returns-clause-order : goal.returns-clause-order
 returns-clause-order c =
     ordered c ∙ ap (λ (v : Held ℕ PageRow). order_between c.args.page (state_in c.args.self.now.rows c.args.page) (state_in v.rows c.args.page)) (sym (taken_is c))
-
-pub returns-clause-never_falls : goal.returns-clause-never_falls
-returns-clause-never_falls c = λ other.
-    subst (λ (v : Held ℕ PageRow). height (state_in c.args.self.now.rows other) ≤ height (state_in v.rows other)) (sym (taken_is c)) (never_falls c.args.self.now.rows (taken_in c) other)
-
-pub returns-clause-others : goal.returns-clause-others
-returns-clause-others c = λ other apart.
-    ap (λ (v : Held ℕ PageRow). lookup (nat_eq other) v.rows) (taken_is c) ∙ lookup-rows_after c.args.self.now.rows (taken_in c) other (nat_apart other c.args.page apart)
-
-pub returns-clause-history : goal.returns-clause-history
-returns-clause-history c = λ history is.
-    ap (λ (v : Held ℕ PageRow). v.rows) (taken_is c) ∙ ap (λ rows. rows_after rows (taken_in c)) is ∙ sym (page_rows_of-more history (taken_in c))
-
-pub returns-clause-history_order : goal.returns-clause-history_order
-returns-clause-history_order c = λ history is.
-    ordered c
-    ∙ (λ i. order_between c.args.page (state_in (is i) c.args.page) (state_in ((ap (λ rows. rows_after rows (taken_in c)) is ∙ sym (page_rows_of-more history (taken_in c))) i) c.args.page))
-    ∙ order-history history (taken_in c)
-
-pub returns-clause-soft : goal.returns-clause-soft
-returns-clause-soft c = λ is. sym (before_is c) ∙ soft-order c.args.page c.unwrap_or-before.result.state (state_called_by c.unwrap_or-before.result (taken_in c)) (sym (ordered_row c) ∙ is)
-
-pub returns-clause-hard : goal.returns-clause-hard
-returns-clause-hard c = λ is. hard-order c.args.page c.unwrap_or-before.result (taken_in c) (sym (ordered_row c) ∙ is)
 
 pub returns-clause-in_turn : goal.returns-clause-in_turn
 returns-clause-in_turn c = λ pages wait.

@@ -1,12 +1,12 @@
 use Rattle.std.proofs.lemmas.Result.{err_from_is_err_and}
-use Rattle.std.proofs.Common.{ap, subst}
-use Rattle.ras_journal.specs.View.{JournalView}
-use Rattle.ras_journal.specs.Appending.{append_acts}
-use Rattle.board_core.specs.Doing.{Does, looks}
-use Rattle.ras_journal.specs.declared.standing.Standing.{Standing}
+use Rattle.std.proofs.Common.{ap, arith, false, ◌∙◌}
+use Rattle.board_core.specs.Cause.{disk_call}
+use Rattle.board_core.specs.Doing.{broke, looks, went_well}
 use Rattle.board_core.proofs.DoingLemmas.{does_first, does_then}
-use Rattle.ras_ledger.specs.Keeping.{keep_end, keep_refused_end, room_acts, standing_roomy}
-use Rattle.ras_ledger.proofs.KeepingLemmas.{is_bad, keeps_not, keeps_then, roomy, roomy_gate}
+use Rattle.ras_journal.specs.View.{JournalView}
+use Rattle.ras_journal.specs.Appending.{append_acts, standing_with}
+use Rattle.ras_ledger.specs.Keeping.{keep_refused_end, room_acts, standing_roomy}
+use Rattle.ras_ledger.proofs.KeepingLemmas.{is_bad, keeps_not, roomy, roomy_gate}
 use Rattle.ras_ledger.proofs.ledger.Ledger.keep.Goals as goal
 
 pub append-requires-clause-usable : goal.append-requires-clause-usable
@@ -15,10 +15,6 @@ append-requires-clause-usable g c = ap (λ (v : JournalView). v.failed) c.in_ok-
 pub append-requires-clause-version : goal.append-requires-clause-version
 append-requires-clause-version g c =
     rw (ap (λ (v : JournalView). v.standing) c.in_ok-make_room.ensures.ledger.1) (roomy c.args.self.now.journal.standing c.args.self.now.account.state c.args.link.now c.in_ok-make_room.ensures.full).version
-
-pub append-requires-clause-room : goal.append-requires-clause-room
-append-requires-clause-room g c =
-    rw (ap (λ (v : JournalView). v.standing) c.in_ok-make_room.ensures.ledger.1) (roomy c.args.self.now.journal.standing c.args.self.now.account.state c.args.link.now c.in_ok-make_room.ensures.full).room
 
 pub append-requires-clause-gate : goal.append-requires-clause-gate
 append-requires-clause-gate g c =
@@ -38,15 +34,29 @@ returns-in_err-make_room-clause-ledger g c =
     let p = err_from_is_err_and c.from_residual.result c.from_residual.ensures.1 in
     rw (p.1, p.2) (keeps_not c.in_err-make_room.field-0.0 _ _ _ _ c.in_err-make_room.ensures.ledger)
 
-pub returns-clause-does : goal.returns-clause-does
-returns-clause-does g c =
-    let see = looks g.B.Board.told g.B.Board.clock g.B.Board.faults in
+pub returns-in-Err-Disk-clause-does : goal.returns-in-Err-Disk-clause-does
+returns-in-Err-Disk-clause-does g c =
     let s = c.args.self.now.journal.standing in
     let a = c.args.self.now.account.state in
     let link = c.args.link.now in
-    does_then see (room_acts s a link) (append_acts (standing_roomy s a link) link) (keep_end c.append.result) _ _ _ c.in_ok-make_room.ensures.does c.append.ensures.made
-    (subst (λ (n : Standing). Does see (append_acts n link) (keep_end c.append.result) c.make_room.new.board c.append.new.board) (ap (λ (v : JournalView). v.standing) c.in_ok-make_room.ensures.ledger.1) c.append.ensures.does)
+    let same = ap (λ (v : JournalView). v.standing) c.in_ok-make_room.ensures.ledger.1 in
+    let does = rw c.in-Err-Disk.field-0-is at c.in-Err-Disk.ensures.does in
+    does_then (looks g.B.Board.told g.B.Board.clock g.B.Board.faults) (room_acts s a link) (append_acts (standing_roomy s a link) link) (broke disk_call) c.args.board.now c.make_room.new.board c.append.new.board c.in_ok-make_room.ensures.does tt (rw same at does)
 
-pub returns-clause-ledger : goal.returns-clause-ledger
-returns-clause-ledger g c =
-    keeps_then c.append.result _ _ _ _ _ c.append.ensures.made c.in_ok-make_room.ensures.ledger.0 c.in_ok-make_room.ensures.ledger.1 c.append.ensures.ledger
+pub returns-in-Err-Full : goal.returns-in-Err-Full
+returns-in-Err-Full g c =
+    let room = (roomy c.args.self.now.journal.standing c.args.self.now.account.state c.args.link.now c.in_ok-make_room.ensures.full).room in
+    let full = rw c.in-Err-Full.field-0-is at c.in-Err-Full.ensures.full in
+    absurd (omega (arith, room, full, ap (λ (v : JournalView). v.standing.length) c.in_ok-make_room.ensures.ledger.1))
+
+pub returns-in-Ok-clause-does : goal.returns-in-Ok-clause-does
+returns-in-Ok-clause-does g c =
+    let s = c.args.self.now.journal.standing in
+    let a = c.args.self.now.account.state in
+    let link = c.args.link.now in
+    let same = ap (λ (v : JournalView). v.standing) c.in_ok-make_room.ensures.ledger.1 in
+    does_then (looks g.B.Board.told g.B.Board.clock g.B.Board.faults) (room_acts s a link) (append_acts (standing_roomy s a link) link) went_well c.args.board.now c.make_room.new.board c.append.new.board c.in_ok-make_room.ensures.does tt (rw same at c.in-Ok.ensures.does)
+
+pub returns-in-Ok-clause-ledger : goal.returns-in-Ok-clause-ledger
+returns-in-Ok-clause-ledger g c =
+    (c.in_ok-make_room.ensures.ledger.0, c.in-Ok.ensures.journal ∙ ap (λ (v : JournalView). record { standing = standing_with v.standing c.args.link.now; failed = false }) c.in_ok-make_room.ensures.ledger.1)

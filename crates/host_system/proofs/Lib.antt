@@ -1,0 +1,7 @@
+mod FileLemmas
+mod UseLemmas
+mod WriteLemmas
+mod QuietLemmas
+mod StoreLemmas
+mod PrintLemmas
+mod MemLemmas

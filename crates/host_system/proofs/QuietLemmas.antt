@@ -1,0 +1,237 @@
+-- Changes of `rasd.new`, and what they come to where a system tells.
+use Rattle.std.proofs.Common.{◌≡◌, ℕ, ◌+◌, ◌++◌, [], List, length, take, drop, append-nil, Some, refl, ap, sym, ◌∙◌, subst, inl, inr, ◌⊎◌, arith}
+use Rattle.std.specs.Prelude.{Option, None, IfSome, IsSome, Result, Ok, Err, OnOk, OnErr}
+use Rattle.std.specs.Option.{option_map}
+use Rattle.std.proofs.lemmas.List.{take_all, drop_all}
+use Rattle.board_core.specs.Clock.{untold, Passes}
+use Rattle.board_core.specs.Stop.{Left, Same, InStore, Becomes}
+use Rattle.board_core.specs.Told.{overlay}
+use Rattle.host_system.specs.declared.system.FileName.TheVariants.{New}
+use Rattle.host_system.specs.Folder.{FolderFile, NameEntry, Folder, FileUse, shut, opened, lost, with_now, renewed, settled_name, after_writing, after_syncing, empty_file, FolderChange, wrote, synced, made, loses, removed, renamed, synced_names, folder_after, Stopped, MayLeaveFolder, During, settled_file_of, bytes_now}
+use Rattle.host_system.specs.FolderPast.{FolderPast, Did, IfTold, changed_by, folder_of, MayDo, MayWrite, IsMissing, HasFile, IsOpen, MayBeWritten}
+use Rattle.host_system.specs.Steps.FolderLemmas.{AfterFolder, new_before, none_before, names_before, rename_before}
+use Rattle.host_system.specs.Steps.FolderPastLemmas.{consistent_of, folder_of-more, passes_change, passes_then, stands}
+use Rattle.host_system.specs.Steps.Quiet.{KeepsSeen, SeesNothing, Quiet, HasNew, Replaced, Replaces}
+use Rattle.host_system.specs.View.{store_in, clock_over}
+use Rattle.host_system.proofs.FileLemmas.{told_then}
+
+sees_then : (x y z : FolderPast) → SeesNothing x y → SeesNothing y z → SeesNothing x z
+sees_then x y z first second = record { zero = second.zero ∙ first.zero; one = second.one ∙ first.one; store = second.store ∙ first.store; out = second.out ∙ first.out; zero_use = second.zero_use ∙ first.zero_use; one_use = second.one_use ∙ first.one_use }
+
+quiet_still : (told : Option FolderPast) → Quiet told told
+quiet_still None = record { keeps = refl; stops = stands Same untold (λ l. refl) }
+quiet_still (Some past) = record { keeps = record { zero = refl; one = refl; store = refl; out = refl; zero_use = refl; one_use = refl }; stops = stands Same (clock_over (Some past)) (λ l. refl) }
+
+pub quiet_same : (old new : Option FolderPast) → new ≡ old → Quiet old new
+quiet_same old new is = subst (λ (o : Option FolderPast). Quiet old o) (sym is) (quiet_still old)
+
+pub quiet_then : (a b c : Option FolderPast) → Quiet a b → Quiet b c → Quiet a c
+quiet_then a b c first second = record {
+  keeps = told_then SeesNothing sees_then a b c first.keeps second.keeps;
+  stops = passes_then Same Same Same (clock_over a) (clock_over b) (clock_over c) (λ x y is. is) (λ x y z first second. second ∙ first) first.stops second.stops;
+}
+
+-- a change of `rasd.new` alone
+pub record IsOfNew (change : FolderChange) : Type 0 where
+  pub step : NameEntry → NameEntry
+  pub how : FileUse → FileUse
+  pub is : (f : Folder) → folder_after change f ≡ record f { new = step f.new; uses = record f.uses { new = how f.uses.new } }
+  pub during : (f : Folder) (left : Stopped) → During change f left → MayLeaveFolder f left ⊎ MayLeaveFolder (folder_after change f) left
+
+pub of_make : IsOfNew (made New)
+of_make = record { step = renewed (Some empty_file); how = λ u. opened; is = λ f. refl; during = λ f left may. may }
+
+pub of_remove : IsOfNew (removed New)
+of_remove = record { step = renewed None; how = λ u. shut; is = λ f. refl; during = λ f left may. may }
+
+pub of_write : (place count : ℕ) (bytes : List ℕ) → IsOfNew (wrote New place count bytes)
+of_write place count bytes = record { step = with_now (after_writing place count bytes); how = λ u. u; is = λ f. refl; during = λ f left may. may }
+
+pub of_sync : IsOfNew (synced New)
+of_sync = record { step = with_now after_syncing; how = λ u. u; is = λ f. refl; during = λ f left may. may }
+
+pub of_lose : IsOfNew (loses New)
+of_lose = record { step = λ e. e; how = λ u. lost; is = λ f. refl; during = λ f left may. may }
+
+quiet_change : (change : FolderChange) → IsOfNew change → (past : FolderPast) → Quiet (Some past) (Some (changed_by change past))
+quiet_change change of past =
+    let behind : (left : Stopped) → MayLeaveFolder (folder_after change (folder_of past)) left → AfterFolder (folder_of past) Same left =
+    λ left may. new_before of.step (record (folder_of past).uses { new = of.how (folder_of past).uses.new }) (folder_of past) (consistent_of past) left (subst (λ (f : Folder). MayLeaveFolder f left) (of.is (folder_of past)) may) in
+    record {
+      keeps = subst (λ (f : Folder). KeepsSeen (folder_of past) f) (sym (folder_of-more change past ∙ of.is (folder_of past))) (record { zero = refl; one = refl; store = refl; out = refl; zero_use = refl; one_use = refl });
+      stops = passes_change past change Same
+          (λ left here_in. elim (of.during (folder_of past) left here_in) [ inl may ↦ none_before Same (λ l. refl) (folder_of past) left may | inr may ↦ behind left may ])
+          behind;
+    }
+
+pub quiet_done : (change : FolderChange) → IsOfNew change → (old new : Option FolderPast) → Did change old new → Quiet old new
+quiet_done change of None new is = quiet_same None new is
+quiet_done change of (Some past) new is = subst (λ (o : Option FolderPast). Quiet (Some past) o) (sym is) (quiet_change change of past)
+
+pub quiet_failed : (change : FolderChange) → IsOfNew change → (old new : Option FolderPast) → IfTold (MayDo change) old new → Quiet old new
+quiet_failed change of None new is = quiet_same None new is
+quiet_failed change of (Some old) None is = absurd is
+quiet_failed change of (Some old) (Some new) (inl is) = quiet_same (Some old) (Some new) (ap Some is)
+quiet_failed change of (Some old) (Some new) (inr is) = subst (λ (p : FolderPast). Quiet (Some old) (Some p)) (sym is) (quiet_change change of old)
+
+pub quiet_wrote : (place count : ℕ) (old new : Option FolderPast) → IfTold (MayWrite New place count) old new → Quiet old new
+quiet_wrote place count None new is = quiet_same None new is
+quiet_wrote place count (Some old) None is = absurd is
+quiet_wrote place count (Some old) (Some new) is = quiet_failed (wrote New place count is.0) (of_write place count is.0) (Some old) (Some new) is.1
+
+-- ---- what `rasd.new` is
+
+now_is : (change : FolderChange) (past : FolderPast) → (folder_of (changed_by change past)).new.now ≡ (folder_after change (folder_of past)).new.now
+now_is change past = ap (λ (f : Folder). f.new.now) (folder_of-more change past)
+
+told_after : (P : FolderPast → Type 0) (change : FolderChange) (old new : Option FolderPast) → Did change old new → ((past : FolderPast) → IfSome old (λ p. p ≡ past) → P (changed_by change past)) → IfSome new P
+told_after P change None new is holds = subst (λ (o : Option FolderPast). IfSome o P) (sym is) tt
+told_after P change (Some past) new is holds = subst (λ (o : Option FolderPast). IfSome o P) (sym is) (holds past refl)
+
+use_is : (change : FolderChange) (past : FolderPast) → (folder_of (changed_by change past)).uses.new ≡ (folder_after change (folder_of past)).uses.new
+use_is change past = ap (λ (f : Folder). f.uses.new) (folder_of-more change past)
+
+pub missing_removed : (old new : Option FolderPast) → Did (removed New) old new → IfSome new (IsMissing New)
+missing_removed old new is = told_after (IsMissing New) (removed New) old new is (λ past was. ap (λ (f : Folder). bytes_now f.new) (folder_of-more (removed New) past))
+
+pub new_made : (old new : Option FolderPast) → Did (made New) old new → IfSome new (HasNew empty_file)
+new_made old new is = told_after (HasNew empty_file) (made New) old new is (λ past was. record { is = now_is (made New) past; is_open = use_is (made New) past })
+
+new_holds : (file : FolderFile) (past : FolderPast) → HasNew file past → HasFile New past
+new_holds file past new = subst (λ (now : Option FolderFile). IsSome (option_map (λ (f : FolderFile). f.bytes) now)) (sym new.is) refl
+
+-- what may be asked of it
+pub record NewServes (told : Option FolderPast) : Type 0 where
+  pub there : IfSome told (HasFile New)
+  pub is_open : IfSome told (IsOpen New)
+  pub writable : IfSome told (MayBeWritten New)
+
+pub new_serves : (file : FolderFile) (told : Option FolderPast) → IfSome told (HasNew file) → NewServes told
+new_serves file None is = record { there = tt; is_open = tt; writable = tt }
+new_serves file (Some past) new = record { there = new_holds file past new; is_open = inl new.is_open; writable = new.is_open }
+
+new_after : (change : FolderChange) (step : FolderFile → FolderFile) → ((f : Folder) → (folder_after change f).new.now ≡ option_map step f.new.now) → ((f : Folder) → (folder_after change f).uses.new ≡ f.uses.new) → (file : FolderFile) (old new : Option FolderPast) → IfSome old (HasNew file) → Did change old new → IfSome new (HasNew (step file))
+new_after change step does keeps file None new was is = subst (λ (o : Option FolderPast). IfSome o (HasNew (step file))) (sym is) tt
+new_after change step does keeps file (Some past) new was is = subst (λ (o : Option FolderPast). IfSome o (HasNew (step file))) (sym is) (record {
+  is = now_is change past ∙ (does (folder_of past) ∙ ap (λ (now : Option FolderFile). option_map step now) was.is);
+  is_open = use_is change past ∙ (keeps (folder_of past) ∙ was.is_open);
+})
+
+whole : (bytes : List ℕ) → overlay 0 (take (length bytes) bytes) [] ≡ bytes
+whole bytes = ap (λ (b : List ℕ). [] ++ b ++ drop (0 + length b) []) (take_all (length bytes) bytes (omega arith)) ∙ (ap (λ (b : List ℕ). bytes ++ b) (drop_all (0 + length bytes) [] (omega arith)) ∙ append-nil bytes)
+
+pub new_written : (bytes : List ℕ) (old new : Option FolderPast) → IfSome old (HasNew empty_file) → Did (wrote New 0 (length bytes) bytes) old new → IfSome new (HasNew (after_writing 0 (length bytes) bytes empty_file))
+new_written bytes old new was is = new_after (wrote New 0 (length bytes) bytes) (after_writing 0 (length bytes) bytes) (λ f. refl) (λ f. refl) empty_file old new was is
+
+pub new_synced : (bytes : List ℕ) (old new : Option FolderPast) → IfSome old (HasNew (after_writing 0 (length bytes) bytes empty_file)) → Did (synced New) old new → IfSome new (HasNew (settled_file_of bytes))
+new_synced bytes old new was is = subst (λ (b : List ℕ). IfSome new (HasNew (settled_file_of b))) (whole bytes) (new_after (synced New) after_syncing (λ f. refl) (λ f. refl) (after_writing 0 (length bytes) bytes empty_file) old new was is)
+
+-- ---- the rename and the sync of the folder
+
+abbrev Step : List ℕ → Left → Left → Type 0
+Step bytes = InStore (Becomes (store_in (Some bytes)))
+
+stays : (bytes : List ℕ) (left : Left) → Step bytes left left
+stays bytes left = record { store = left.store; step = inl refl; rest = refl }
+
+same_then : (bytes : List ℕ) (x y z : Left) → Same x y → Step bytes y z → Step bytes x z
+same_then bytes x y z is by = subst (λ (l : Left). Step bytes l z) is by
+
+then_same : (bytes : List ℕ) (x y z : Left) → Step bytes x y → Same y z → Step bytes x z
+then_same bytes x y z by is = subst (λ (l : Left). Step bytes x l) (sym is) by
+
+pub passes_quiet : (bytes : List ℕ) (old new : Option FolderPast) → Quiet old new → Passes (Step bytes) (clock_over old) (clock_over new)
+passes_quiet bytes old new quiet =
+    passes_then Same Same (Step bytes) (clock_over old) (clock_over new) (clock_over new) (λ x y is. subst (λ (l : Left). Step bytes x l) (sym is) (stays bytes x))
+    (λ x y z first second. subst (λ (l : Left). Step bytes x l) (sym (second ∙ first)) (stays bytes x)) quiet.stops (stands Same (clock_over new) (λ l. refl))
+
+passes_renamed : (bytes : List ℕ) (old new : Option FolderPast) → IfSome old (HasNew (settled_file_of bytes)) → Did renamed old new → Passes (Step bytes) (clock_over old) (clock_over new)
+passes_renamed bytes None new was is = subst (λ (o : Option FolderPast). Passes (Step bytes) untold (clock_over o)) (sym is) (stands (Step bytes) untold (stays bytes))
+passes_renamed bytes (Some past) new was is = subst (λ (o : Option FolderPast). Passes (Step bytes) (clock_over (Some past)) (clock_over o)) (sym is)
+    (passes_change past renamed (Step bytes)
+    (λ left here_in. elim here_in [ inl may ↦ none_before (Step bytes) (stays bytes) (folder_of past) left may | inr may ↦ rename_before bytes (folder_of past) was.is (consistent_of past) left may ])
+    (λ left may. rename_before bytes (folder_of past) was.is (consistent_of past) left may))
+
+passes_names : (old new : Option FolderPast) → Did synced_names old new → Passes Same (clock_over old) (clock_over new)
+passes_names None new is = subst (λ (o : Option FolderPast). Passes Same untold (clock_over o)) (sym is) (stands Same untold (λ l. refl))
+passes_names (Some past) new is = subst (λ (o : Option FolderPast). Passes Same (clock_over (Some past)) (clock_over o)) (sym is)
+    (passes_change past synced_names Same
+    (λ left here_in. elim here_in [ inl may ↦ none_before Same (λ l. refl) (folder_of past) left may | inr may ↦ none_before Same (λ l. refl) (folder_of past) left (names_before (folder_of past) left may) ])
+    (λ left may. none_before Same (λ l. refl) (folder_of past) left (names_before (folder_of past) left may)))
+
+-- the whole: written, renamed, and the folder synced
+pub passes_replaced : (bytes : List ℕ) (a b c d : Option FolderPast) → Quiet a b → IfSome b (HasNew (settled_file_of bytes)) → Did renamed b c → Did synced_names c d → Passes (Step bytes) (clock_over a) (clock_over d)
+passes_replaced bytes a b c d quiet new renames syncs =
+    passes_then (Step bytes) Same (Step bytes) (clock_over a) (clock_over c) (clock_over d) (λ x y by. by) (then_same bytes)
+    (passes_then Same (Step bytes) (Step bytes) (clock_over a) (clock_over b) (clock_over c) (λ x y is. subst (λ (l : Left). Step bytes x l) (sym is) (stays bytes x)) (same_then bytes) quiet.stops (passes_renamed bytes b c new renames))
+    (passes_names c d syncs)
+
+-- a told system's folder sync doesn't fail
+pub never_failed : (bytes : List ℕ) (a b c d : Option FolderPast) → Quiet a b → IfSome b (HasNew (settled_file_of bytes)) → Did renamed b c → IfTold (λ old new. ⊥) c d → Passes (Step bytes) (clock_over a) (clock_over d)
+never_failed bytes a b c d quiet new renames fails =
+    passes_then (Step bytes) Same (Step bytes) (clock_over a) (clock_over c) (clock_over d) (λ x y by. by) (then_same bytes)
+    (passes_then Same (Step bytes) (Step bytes) (clock_over a) (clock_over b) (clock_over c) (λ x y is. subst (λ (l : Left). Step bytes x l) (sym is) (stays bytes x)) (same_then bytes) quiet.stops (passes_renamed bytes b c new renames))
+    (untold_stands c d fails)
+  where
+    untold_stands : (c d : Option FolderPast) → IfTold (λ old new. ⊥) c d → Passes Same (clock_over c) (clock_over d)
+    untold_stands None d is = subst (λ (o : Option FolderPast). Passes Same untold (clock_over o)) (sym is) (stands Same untold (λ l. refl))
+    untold_stands (Some x) None is = absurd is
+    untold_stands (Some x) (Some y) is = absurd is
+
+told_quiet : (bytes : List ℕ) (x y : FolderPast) → SeesNothing x y → HasNew (settled_file_of bytes) y → Replaces bytes x (changed_by synced_names (changed_by renamed y))
+told_quiet bytes x y sees new =
+    let is : folder_of (changed_by synced_names (changed_by renamed y)) ≡ folder_after synced_names (folder_after renamed (folder_of y)) = folder_of-more synced_names (changed_by renamed y) ∙ ap (folder_after synced_names) (folder_of-more renamed y) in
+    subst (λ (f : Folder). Replaced bytes (folder_of x) f) (sym is) (record {
+      zero = ap settled_name sees.zero;
+      one = ap settled_name sees.one;
+      store = ap (λ (now : Option FolderFile). settled_name (renewed now (folder_of y).store)) new.is;
+      out = sees.out;
+      zero_use = sees.zero_use;
+      one_use = sees.one_use;
+    })
+
+pub replaced_told : (bytes : List ℕ) (a b c d : Option FolderPast) → IfTold SeesNothing a b → IfSome b (HasNew (settled_file_of bytes)) → Did renamed b c → Did synced_names c d → IfTold (Replaces bytes) a d
+replaced_told bytes None b c d sees new renames syncs = syncs ∙ (ap (option_map (changed_by synced_names)) renames ∙ ap (λ (o : Option FolderPast). option_map (changed_by synced_names) (option_map (changed_by renamed) o)) sees)
+replaced_told bytes (Some x) None c d sees new renames syncs = absurd sees
+replaced_told bytes (Some x) (Some y) c d sees new renames syncs = subst (λ (o : Option FolderPast). IfTold (Replaces bytes) (Some x) o) (sym (syncs ∙ ap (option_map (changed_by synced_names)) renames)) (told_quiet bytes x y sees new)
+
+-- ---- a call at the end of a function, however it ended
+
+pub may_end : {T E : Type 0} (change : FolderChange) → IsOfNew change → (result : Result T E) (old new : Option FolderPast) → OnOk result (Did change old new) → OnErr result (IfTold (MayDo change) old new) → Quiet old new
+may_end change of (Ok x) old new ok err = quiet_done change of old new ok
+may_end change of (Err e) old new ok err = quiet_failed change of old new err
+
+pub sync_end : {T E : Type 0} (result : Result T E) (old new : Option FolderPast) → OnOk result (Did (synced New) old new) → OnErr result (Did (loses New) old new) → Quiet old new
+sync_end (Ok x) old new ok err = quiet_done (synced New) of_sync old new ok
+sync_end (Err e) old new ok err = quiet_done (loses New) of_lose old new err
+
+pub missing_end : {T E : Type 0} (result : Result T E) (old new : Option FolderPast) → OnOk result (Did (removed New) old new) → OnOk result (IfSome new (IsMissing New))
+missing_end (Ok x) old new ok = missing_removed old new ok
+missing_end (Err e) old new ok = ok
+
+pub new_end : {T E : Type 0} (bytes : List ℕ) (result : Result T E) (old new : Option FolderPast) → IfSome old (HasNew (after_writing 0 (length bytes) bytes empty_file)) → OnOk result (Did (synced New) old new) → OnOk result (IfSome new (HasNew (settled_file_of bytes)))
+new_end bytes (Ok x) old new was ok = new_synced bytes old new was ok
+new_end bytes (Err e) old new was ok = ok
+
+pub stops_end : {T E : Type 0} (bytes : List ℕ) (result : Result T E) (a b c d : Option FolderPast) → Quiet a b → IfSome b (HasNew (settled_file_of bytes)) → Did renamed b c → OnOk result (Did synced_names c d) → OnErr result (IfTold (λ old new. ⊥) c d) → Passes (InStore (Becomes (store_in (Some bytes)))) (clock_over a) (clock_over d)
+stops_end bytes (Ok x) a b c d quiet new renames ok err = passes_replaced bytes a b c d quiet new renames ok
+stops_end bytes (Err e) a b c d quiet new renames ok err = never_failed bytes a b c d quiet new renames err
+
+pub replaced_end : {T E : Type 0} (bytes : List ℕ) (result : Result T E) (a b c d : Option FolderPast) → Quiet a b → IfSome b (HasNew (settled_file_of bytes)) → Did renamed b c → OnOk result (Did synced_names c d) → OnOk result (IfTold (Replaces bytes) a d)
+replaced_end bytes (Ok x) a b c d quiet new renames ok = replaced_told bytes a b c d quiet.keeps new renames ok
+replaced_end bytes (Err e) a b c d quiet new renames ok = ok
+
+never_told : (x : FolderPast) (d : Option FolderPast) → IfTold (λ x y. ⊥) (Some x) d → ⊥
+never_told x None is = is
+never_told x (Some y) is = is
+
+kept_never : (a b c d : Option FolderPast) → IfTold SeesNothing a b → Did renamed b c → IfTold (λ x y. ⊥) c d → IfTold SeesNothing a d
+kept_never None b c d sees renames never =
+    let is : c ≡ None = renames ∙ ap (λ (o : Option FolderPast). option_map (changed_by renamed) o) sees in
+    subst (λ (o : Option FolderPast). IfTold (λ x y. ⊥) o d) is never
+kept_never (Some x) None c d sees renames never = absurd sees
+kept_never (Some x) (Some y) c d sees renames never = absurd (never_told (changed_by renamed y) d (subst (λ (o : Option FolderPast). IfTold (λ x y. ⊥) o d) renames never))
+
+pub kept_end : {T E : Type 0} (result : Result T E) (a b c d : Option FolderPast) → Quiet a b → Did renamed b c → OnErr result (IfTold (λ x y. ⊥) c d) → OnErr result (IfTold SeesNothing a d)
+kept_end (Ok x) a b c d quiet renames err = err
+kept_end (Err e) a b c d quiet renames err = kept_never a b c d quiet.keeps renames err

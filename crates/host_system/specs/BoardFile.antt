@@ -1,0 +1,70 @@
+-- The files of a board over a system: when one may be used, and what a board sees of a call.
+use Rattle.std.specs.Prelude.{◌≡◌, ℕ, List, [], ◌++◌, true, IsSome}
+use Rattle.board_core.specs.declared.board.FileNo.{FileNo}
+use Rattle.board_core.specs.declared.board.FileNo.TheVariants.{Zero, One}
+use Rattle.board_core.specs.Stop.{InFile, InOut, Begins, file_in, with_file_in}
+use Rattle.board_core.specs.Told.{Torn, overlay}
+use Rattle.host_system.specs.declared.system.FileName.TheVariants.{Journal}
+use Rattle.host_system.specs.Folder.{Folder, NameEntry, FileUse, locked, lost, use_in, entry_named, bytes_now}
+use Rattle.host_system.specs.FolderPast.{FolderPast, folder_of}
+use Rattle.host_system.specs.View.{is_settled, seen_now}
+
+-- A file is there, its name is on the disk, and it is locked.
+pub record IsUsableAs (entry : NameEntry) (how : FileUse) : Type 0 where
+  pub there : IsSome (bytes_now entry)
+  pub named : entry.others ≡ []
+  pub is_locked : how ≡ locked
+
+abbrev pub IsUsableIn : FileNo → Folder → Type 0
+IsUsableIn file folder = IsUsableAs (entry_named (Journal file) folder) (use_in (Journal file) folder.uses)
+
+-- no sync of a file failed
+abbrev pub IsOpenableIn : FileNo → Folder → Type 0
+IsOpenableIn file folder = use_in (Journal file) folder.uses ≡ lost → ⊥
+
+abbrev pub IsUsable : FileNo → FolderPast → Type 0
+IsUsable file past = IsUsableIn file (folder_of past)
+
+abbrev pub IsOpenable : FileNo → FolderPast → Type 0
+IsOpenable file past = IsOpenableIn file (folder_of past)
+
+-- A file stays as usable as it was.
+pub record KeepsFileIn (file : FileNo) (old new : Folder) : Type 0 where
+  pub usable : IsUsableIn file old → IsUsableIn file new
+  pub openable : IsOpenableIn file old → IsOpenableIn file new
+
+abbrev pub KeepsFile : FileNo → FolderPast → FolderPast → Type 0
+KeepsFile file old new = KeepsFileIn file (folder_of old) (folder_of new)
+
+abbrev pub other_than : FileNo → FileNo
+other_than Zero = One
+other_than One = Zero
+
+-- A call of one file leaves the other as usable as it was, and nothing more of the store's file on
+-- its way.
+pub record KeepsOthersIn (file : FileNo) (old new : Folder) : Type 0 where
+  pub settled : is_settled old.store ≡ true → is_settled new.store ≡ true
+  pub other : KeepsFileIn (other_than file) old new
+
+abbrev pub KeepsOthers : FileNo → FolderPast → FolderPast → Type 0
+KeepsOthers file old new = KeepsOthersIn file (folder_of old) (folder_of new)
+
+-- A board sees the same as before.
+abbrev pub SeesSame : FolderPast → FolderPast → Type 0
+SeesSame old new = seen_now new ≡ seen_now old
+
+-- It sees these bytes written at a place of a file.
+abbrev pub SeesWritten : FileNo → ℕ → List ℕ → FolderPast → FolderPast → Type 0
+SeesWritten file place bytes old new =
+    seen_now new ≡ with_file_in file (overlay place bytes (file_in file (seen_now old))) (seen_now old)
+
+-- It sees a torn write at a place of a file.
+abbrev pub SeesTorn : FileNo → ℕ → ℕ → FolderPast → FolderPast → Type 0
+SeesTorn file place count old new = InFile file (Torn place count) (seen_now old) (seen_now new)
+
+-- It sees a piece appended to the output, or a beginning of it.
+abbrev pub SeesPrinted : List ℕ → FolderPast → FolderPast → Type 0
+SeesPrinted piece old new = seen_now new ≡ record (seen_now old) { out = (seen_now old).out ++ piece }
+
+abbrev pub SeesBegun : List ℕ → FolderPast → FolderPast → Type 0
+SeesBegun piece old new = InOut (Begins piece) (seen_now old) (seen_now new)

@@ -1,0 +1,212 @@
+-- The folder that a run works in, and its output: what each name stands for, what a read gives, and
+-- what a stop of the machine may leave.
+use Rattle.std.specs.Prelude.{◌≡◌, ℕ, ◌⊎◌, List, [], ◌∷◌, ◌++◌, take, Option, None, Some}
+use Rattle.std.specs.Option.{option_map}
+use Rattle.board_core.specs.DiskModel.{DiskFile, MayLeaveFile, with_range}
+use Rattle.board_core.specs.MemBoard.{settled_file}
+use Rattle.board_core.specs.Told.{overlay}
+use Rattle.board_core.specs.declared.board.FileNo.TheVariants.{Zero, One}
+use Rattle.host_system.specs.declared.system.FileName.{FileName}
+use Rattle.host_system.specs.declared.system.FileName.TheVariants.{Journal, Store, New}
+
+-- a file: its bytes as a read gives them, and what the disk has of it
+pub record FolderFile : Type 0 where
+  pub bytes : List ℕ
+  pub disk : DiskFile
+
+-- What a name stands for now, and for what else it may stand on the disk: for what it stood since
+-- the folder was synced.
+pub record NameEntry : Type 0 where
+  pub now : Option FolderFile
+  pub others : List (Option DiskFile)
+
+-- How a run has the file of a name: not open; open; open and locked; lost, since a sync of it failed
+-- and nothing more may be asked of its bytes.
+pub data FileUse : Type 0 where
+  shut : FileUse
+  opened : FileUse
+  locked : FileUse
+  lost : FileUse
+
+pub record Uses : Type 0 where
+  pub zero : FileUse
+  pub one : FileUse
+  pub store : FileUse
+  pub new : FileUse
+
+abbrev pub use_in : FileName → Uses → FileUse
+use_in (Journal Zero) uses = uses.zero
+use_in (Journal One) uses = uses.one
+use_in Store uses = uses.store
+use_in New uses = uses.new
+
+abbrev pub with_use : FileName → FileUse → Uses → Uses
+with_use (Journal Zero) how uses = record uses { zero = how }
+with_use (Journal One) how uses = record uses { one = how }
+with_use Store how uses = record uses { store = how }
+with_use New how uses = record uses { new = how }
+
+pub record Folder : Type 0 where
+  pub zero : NameEntry
+  pub one : NameEntry
+  pub store : NameEntry
+  pub new : NameEntry
+  pub out : List ℕ
+  pub uses : Uses
+
+abbrev pub entry_named : FileName → Folder → NameEntry
+entry_named (Journal Zero) folder = folder.zero
+entry_named (Journal One) folder = folder.one
+entry_named Store folder = folder.store
+entry_named New folder = folder.new
+
+abbrev pub with_entry_named : FileName → NameEntry → Folder → Folder
+with_entry_named (Journal Zero) entry folder = record folder { zero = entry }
+with_entry_named (Journal One) entry folder = record folder { one = entry }
+with_entry_named Store entry folder = record folder { store = entry }
+with_entry_named New entry folder = record folder { new = entry }
+
+abbrev pub using : FileName → FileUse → Folder → Folder
+using name how folder = record folder { uses = with_use name how folder.uses }
+
+-- ---- changes
+
+-- A file after a write of so many bytes at a place, of which these came: a write that failed may
+-- have written any, also other ones.
+abbrev pub after_writing : ℕ → ℕ → List ℕ → FolderFile → FolderFile
+after_writing place count bytes file = record {
+  bytes = overlay place (take count bytes) file.bytes;
+  disk = with_range place count file.disk;
+}
+
+abbrev pub after_syncing : FolderFile → FolderFile
+after_syncing file = record { bytes = file.bytes; disk = settled_file file.bytes }
+
+abbrev pub with_now : (FolderFile → FolderFile) → NameEntry → NameEntry
+with_now step entry = record entry { now = option_map step entry.now }
+
+abbrev pub on_disk : Option FolderFile → Option DiskFile
+on_disk file = option_map (λ f. f.disk) file
+
+-- a name that now stands for something else
+abbrev pub renewed : Option FolderFile → NameEntry → NameEntry
+renewed file entry = record { now = file; others = on_disk entry.now ∷ entry.others }
+
+-- a name after its folder was synced
+abbrev pub settled_name : NameEntry → NameEntry
+settled_name entry = record { now = entry.now; others = [] }
+
+abbrev pub empty_file : FolderFile
+empty_file = record { bytes = []; disk = settled_file [] }
+
+-- What a call did: it wrote at a place of a file, so many bytes, of which these came; it synced a
+-- file; it made an empty file, which is then open; it opened a file; it locked one; it failed to sync
+-- one; it removed a name; it renamed the new store; it synced the folder; it printed a piece.
+pub data FolderChange : Type 0 where
+  wrote : FileName → ℕ → ℕ → List ℕ → FolderChange
+  synced : FileName → FolderChange
+  made : FileName → FolderChange
+  opens : FileName → FolderChange
+  locks : FileName → FolderChange
+  loses : FileName → FolderChange
+  removed : FileName → FolderChange
+  renamed : FolderChange
+  synced_names : FolderChange
+  printed : List ℕ → FolderChange
+
+abbrev pub change_name : FileName → (NameEntry → NameEntry) → Folder → Folder
+change_name name step folder = with_entry_named name (step (entry_named name folder)) folder
+
+abbrev pub folder_after : FolderChange → Folder → Folder
+folder_after (wrote name place count bytes) folder = change_name name (with_now (after_writing place count bytes)) folder
+folder_after (synced name) folder = change_name name (with_now after_syncing) folder
+folder_after (made name) folder = using name opened (change_name name (renewed (Some empty_file)) folder)
+folder_after (opens name) folder = using name opened folder
+folder_after (locks name) folder = using name locked folder
+folder_after (loses name) folder = using name lost folder
+folder_after (removed name) folder = using name shut (change_name name (renewed None) folder)
+folder_after renamed folder = record folder {
+  store = renewed folder.new.now folder.store;
+  new = renewed None folder.new;
+  uses = record folder.uses { store = shut; new = shut };
+}
+folder_after synced_names folder = record folder {
+  zero = settled_name folder.zero;
+  one = settled_name folder.one;
+  store = settled_name folder.store;
+  new = settled_name folder.new;
+}
+folder_after (printed piece) folder = record folder { out = folder.out ++ piece }
+
+abbrev pub folder_after_all : List FolderChange → Folder → Folder
+folder_after_all [] folder = folder
+folder_after_all (change ∷ changes) folder = folder_after_all changes (folder_after change folder)
+
+-- ---- what a stop leaves
+
+-- the bytes of each file that is there, and the output
+pub record Stopped : Type 0 where
+  pub zero : Option (List ℕ)
+  pub one : Option (List ℕ)
+  pub store : Option (List ℕ)
+  pub new : Option (List ℕ)
+  pub out : List ℕ
+
+abbrev pub MayLeaveOne : Option DiskFile → Option (List ℕ) → Type 0
+MayLeaveOne None None = Unit {0}
+MayLeaveOne None (Some bytes) = ⊥
+MayLeaveOne (Some file) None = ⊥
+MayLeaveOne (Some file) (Some bytes) = MayLeaveFile file bytes
+
+abbrev pub MayLeaveAny : List (Option DiskFile) → Option (List ℕ) → Type 0
+MayLeaveAny [] left = ⊥
+MayLeaveAny (file ∷ files) left = MayLeaveOne file left ⊎ MayLeaveAny files left
+
+-- A stop may leave under a name what it stands for, or stood for since the folder was synced: of
+-- that file what the disk may leave of it.
+abbrev pub MayLeaveName : NameEntry → Option (List ℕ) → Type 0
+MayLeaveName entry left = MayLeaveAny (on_disk entry.now ∷ entry.others) left
+
+pub record MayLeaveFolder (folder : Folder) (left : Stopped) : Type 0 where
+  pub zero : MayLeaveName folder.zero left.zero
+  pub one : MayLeaveName folder.one left.one
+  pub store : MayLeaveName folder.store left.store
+  pub new : MayLeaveName folder.new left.new
+  pub out : left.out ≡ folder.out
+
+-- A stop while a change is made leaves what one before it may leave or one after it, and of a piece
+-- that is printed any beginning.
+abbrev pub During : FolderChange → Folder → Stopped → Type 0
+During (printed piece) folder left =
+    (part : List ℕ) × (missing : List ℕ) × (part ++ missing ≡ piece) × MayLeaveFolder (folder_after (printed part) folder) left
+During change folder left = MayLeaveFolder folder left ⊎ MayLeaveFolder (folder_after change folder) left
+
+-- a folder on which all is as a read gives it
+abbrev pub settled_file_of : List ℕ → FolderFile
+settled_file_of bytes = record { bytes = bytes; disk = settled_file bytes }
+
+abbrev pub entry_from : Option (List ℕ) → NameEntry
+entry_from bytes = record { now = option_map settled_file_of bytes; others = [] }
+
+abbrev pub settled_folder : Stopped → Folder
+settled_folder start = record {
+  zero = entry_from start.zero;
+  one = entry_from start.one;
+  store = entry_from start.store;
+  new = entry_from start.new;
+  out = start.out;
+  uses = record { zero = shut; one = shut; store = shut; new = shut };
+}
+
+-- what a read gives
+abbrev pub bytes_now : NameEntry → Option (List ℕ)
+bytes_now entry = option_map (λ file. file.bytes) entry.now
+
+abbrev pub here_in : Folder → Stopped
+here_in folder = record {
+  zero = bytes_now folder.zero;
+  one = bytes_now folder.one;
+  store = bytes_now folder.store;
+  new = bytes_now folder.new;
+  out = folder.out;
+}

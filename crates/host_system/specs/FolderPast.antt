@@ -1,0 +1,84 @@
+-- What was done to a folder since all of it was on the disk, and the moments of that.
+use Rattle.std.specs.Prelude.{◌≡◌, ℕ, zero, suc, ◌⊎◌, List, [], ◌∷◌, ◌++◌, length, Option, None, Some, IsSome}
+use Rattle.std.specs.Option.{option_map}
+use Rattle.host_system.specs.declared.system.FileName.{FileName}
+use Rattle.host_system.specs.declared.system.FileName.TheVariants.{Journal, Store, New}
+use Rattle.host_system.specs.Folder.{Folder, FolderChange, wrote, printed, folder_after, folder_after_all, FileUse, opened, locked, lost, use_in, Stopped, MayLeaveFolder, During, settled_folder, entry_named, bytes_now}
+
+pub record FolderPast : Type 0 where
+  pub first : Stopped
+  pub changes : List FolderChange
+
+abbrev pub changed_by : FolderChange → FolderPast → FolderPast
+changed_by change past = record past { changes = past.changes ++ change ∷ [] }
+
+abbrev pub folder_of : FolderPast → Folder
+folder_of past = folder_after_all past.changes (settled_folder past.first)
+
+-- What a stop may leave from the moment on that comes after so many changes.
+abbrev pub MayLeaveFolderSince : Folder → List FolderChange → ℕ → Stopped → Type 0
+MayLeaveFolderSince folder [] zero left = MayLeaveFolder folder left
+MayLeaveFolderSince folder [] (suc t) left = ⊥
+MayLeaveFolderSince folder (change ∷ changes) zero left = During change folder left ⊎ MayLeaveFolderSince (folder_after change folder) changes zero left
+MayLeaveFolderSince folder (change ∷ changes) (suc t) left = MayLeaveFolderSince (folder_after change folder) changes t left
+
+-- ---- for the clauses of the calls
+
+-- Where a system tells, this was done, or its past before and after are so related.
+abbrev pub Did : FolderChange → Option FolderPast → Option FolderPast → Type 0
+Did change old new = new ≡ option_map (changed_by change) old
+
+abbrev pub IfTold : (FolderPast → FolderPast → Type 0) → Option FolderPast → Option FolderPast → Type 0
+IfTold P None new = new ≡ None
+IfTold P (Some old) None = ⊥
+IfTold P (Some old) (Some new) = P old new
+
+-- the bytes of a file that is there
+abbrev pub bytes_or : Option (List ℕ) → List ℕ
+bytes_or None = []
+bytes_or (Some bytes) = bytes
+
+abbrev pub bytes_named : FileName → FolderPast → Option (List ℕ)
+bytes_named name past = bytes_now (entry_named name (folder_of past))
+
+abbrev pub file_bytes : FileName → FolderPast → List ℕ
+file_bytes name past = bytes_or (bytes_named name past)
+
+abbrev pub length_told : FileName → FolderPast → Option ℕ
+length_told name past = option_map length (bytes_named name past)
+
+abbrev pub HasFile : FileName → FolderPast → Type 0
+HasFile name past = IsSome (bytes_named name past)
+
+abbrev pub IsMissing : FileName → FolderPast → Type 0
+IsMissing name past = bytes_named name past ≡ None
+
+-- A call that failed has done it or hasn't.
+abbrev pub MayDo : FolderChange → FolderPast → FolderPast → Type 0
+MayDo change old new = (new ≡ old) ⊎ (new ≡ changed_by change old)
+
+-- a write that failed
+abbrev pub MayWrite : FileName → ℕ → ℕ → FolderPast → FolderPast → Type 0
+MayWrite name place count old new = (bytes : List ℕ) × MayDo (wrote name place count bytes) old new
+
+-- a print that failed
+abbrev pub MayPrint : List ℕ → FolderPast → FolderPast → Type 0
+MayPrint piece old new = (part : List ℕ) × (missing : List ℕ) × (part ++ missing ≡ piece) × (new ≡ changed_by (printed part) old)
+
+-- how a run has the file of a name
+abbrev pub use_of : FileName → FolderPast → FileUse
+use_of name past = use_in name (folder_of past).uses
+
+abbrev pub IsOpen : FileName → FolderPast → Type 0
+IsOpen name past = (use_of name past ≡ opened) ⊎ (use_of name past ≡ locked)
+
+-- no sync of the file failed
+abbrev pub IsNotLost : FileName → FolderPast → Type 0
+IsNotLost name past = use_of name past ≡ lost → ⊥
+
+-- A file may be written that is open, one of the journal's only once it is locked, and the record
+-- store's never in its place.
+abbrev pub MayBeWritten : FileName → FolderPast → Type 0
+MayBeWritten (Journal file) past = use_of (Journal file) past ≡ locked
+MayBeWritten Store past = ⊥
+MayBeWritten New past = use_of New past ≡ opened

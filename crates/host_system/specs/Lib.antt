@@ -1,0 +1,6 @@
+pub mod Folder
+pub mod FolderPast
+pub mod View
+pub mod BoardFile
+pub mod MemSystem
+pub mod Steps

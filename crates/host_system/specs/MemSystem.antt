@@ -1,0 +1,36 @@
+-- What a system in memory keeps: what was done, by numbers and bytes.
+use Rattle.std.specs.Prelude.{ℕ, zero, suc, List, [], ◌∷◌, None}
+use Rattle.board_core.specs.declared.board.FileNo.TheVariants.{Zero, One}
+use Rattle.host_system.specs.declared.system.FileName.{FileName}
+use Rattle.host_system.specs.declared.system.FileName.TheVariants.{Journal, Store, New}
+use Rattle.host_system.specs.Folder.{FolderChange, wrote, synced, made, opens, locks, loses, removed, renamed, synced_names, printed, Stopped}
+use Rattle.host_system.specs.FolderPast.{FolderPast}
+
+abbrev pub nth_or : {T : Type 0} → T → ℕ → List T → T
+nth_or last n [] = last
+nth_or last zero (x ∷ xs) = x
+nth_or last (suc n) (x ∷ xs) = nth_or last n xs
+
+-- the name of a number
+abbrev pub name_numbered : ℕ → FileName
+name_numbered n = nth_or New n (Journal Zero ∷ Journal One ∷ Store ∷ [])
+
+-- the change of a number, with a name, a place and bytes
+abbrev pub change_numbered : ℕ → FileName → ℕ → ℕ → List ℕ → FolderChange
+change_numbered n name place count bytes =
+    nth_or (printed bytes) n (wrote name place count bytes ∷ synced name ∷ made name ∷ opens name ∷ locks name ∷ loses name ∷ removed name ∷ renamed ∷ synced_names ∷ [])
+
+abbrev pub change_noted : List ℕ → List ℕ → FolderChange
+change_noted (n ∷ name ∷ place ∷ count ∷ []) bytes = change_numbered n (name_numbered name) place count bytes
+change_noted numbers bytes = printed bytes
+
+abbrev pub changes_noted : List (List ℕ × List ℕ) → List FolderChange
+changes_noted [] = []
+changes_noted (call ∷ calls) = change_noted call.0 call.1 ∷ changes_noted calls
+
+abbrev pub nothing_there : Stopped
+nothing_there = record { zero = None; one = None; store = None; new = None; out = [] }
+
+-- what was done to an empty folder
+abbrev pub past_noted : List (List ℕ × List ℕ) → FolderPast
+past_noted calls = record { first = nothing_there; changes = changes_noted calls }

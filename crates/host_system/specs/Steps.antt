@@ -1,0 +1,6 @@
+-- What only proofs use: no public clause comes to it.
+pub mod FolderLemmas
+pub mod FolderPastLemmas
+pub mod LawLemmas
+pub mod Quiet
+pub mod MemFiles

@@ -1,0 +1,92 @@
+-- Only for proofs: the laws of a board over a system. They hold of each past, whatever was done in it.
+use Rattle.std.specs.Prelude.{◌≡◌, ℕ, ◌≤◌, List, [], ◌∷◌, length, Bool, true, false, ◌&&◌, Option, None, Some, refl}
+use Rattle.std.specs.Option.{option_map}
+use Rattle.std.proofs.Common.{sym, ◌∙◌, ap, inl, inr, arith}
+use Rattle.board_core.specs.Clock.{LeftNow}
+use Rattle.board_core.specs.Steps.DiskLemmas.{settled_only}
+use Rattle.board_core.specs.DiskModel.{Range, DiskFile, MayLeaveFile}
+use Rattle.board_core.specs.Stop.{Left}
+use Rattle.host_system.specs.Folder.{FolderFile, NameEntry, on_disk, MayLeaveOne, MayLeaveAny, MayLeaveName, MayLeaveFolder, bytes_now, here_in, settled_folder}
+use Rattle.host_system.specs.Steps.FolderLemmas.{IsConsistent}
+use Rattle.host_system.specs.View.{is_none_of, is_settled_file, is_settled, seen_if, told_over}
+use Rattle.host_system.specs.FolderPast.{FolderPast, folder_of}
+use Rattle.host_system.specs.Steps.FolderPastLemmas.{consistent_of, here_left, now_only, now_counts, since_earlier}
+use Rattle.host_system.specs.View.{store_in, seen_now, clock_over}
+
+none_some : (t : Left) → None ≡ Some t → ⊥
+none_some t e = cc
+
+some_is : (s t : Left) → Some s ≡ Some t → s ≡ t
+some_is s t e = cc
+
+seen_is : (is : Bool) (s t : Left) → seen_if is s ≡ Some t → s ≡ t
+seen_is true s t e = some_is s t e
+seen_is false s t e = absurd (none_some t e)
+
+seen_settled : (is : Bool) (s t : Left) → seen_if is s ≡ Some t → is ≡ true
+seen_settled true s t e = refl
+seen_settled false s t e = absurd (none_some t e)
+
+may_now : (past : FolderPast) (left : Left) (now : LeftNow (clock_over (Some past)) left) → MayLeaveFolder (folder_of past) now.stopped
+may_now past left now = now_only (settled_folder past.first) past.changes now.stopped now.may
+
+pub told_left : (past : Option FolderPast) (t : Left) → told_over past ≡ Some t → LeftNow (clock_over past) t
+told_left None t is = absurd (none_some t is)
+told_left (Some past) t is = record {
+  stopped = here_in (folder_of past);
+  may = now_counts (settled_folder past.first) past.changes (length past.changes) (here_in (folder_of past)) (omega arith) (here_left past);
+  is = sym (seen_is (is_settled (folder_of past).store) (seen_now past) t is);
+}
+
+pub text_left : (past : Option FolderPast) (t left : Left) → told_over past ≡ Some t → LeftNow (clock_over past) left → left.out ≡ t.out
+text_left None t left is now = absurd (none_some t is)
+text_left (Some past) t left is now =
+    ap (λ (l : Left). l.out) now.is ∙ ((may_now past left now).out ∙ ap (λ (l : Left). l.out) (seen_is (is_settled (folder_of past).store) (seen_now past) t is))
+
+-- a file none of whose writes is on its way
+
+no_ranges : (synced : List ℕ) (written : List Range) (left : List ℕ) → is_none_of written ≡ true → MayLeaveFile (record { synced = synced; written = written }) left → left ≡ synced
+no_ranges synced [] left is may = settled_only synced left may
+no_ranges synced (x ∷ xs) left is may = absurd (false_true is)
+  where
+    false_true : false ≡ true → ⊥
+    false_true e = cc
+
+both : (a b : Bool) → (a && b) ≡ true → (a ≡ true) × (b ≡ true)
+both true true is = (refl, refl)
+both true false is = absurd (false_true is)
+  where
+    false_true : false ≡ true → ⊥
+    false_true e = cc
+both false b is = absurd (false_true is)
+  where
+    false_true : false ≡ true → ⊥
+    false_true e = cc
+
+no_others : (others : List (Option DiskFile)) (left : Option (List ℕ)) → is_none_of others ≡ true → MayLeaveAny others left → ⊥
+no_others [] left is may = absurd may
+no_others (x ∷ xs) left is may = absurd (false_true is)
+  where
+    false_true : false ≡ true → ⊥
+    false_true e = cc
+
+only_now : (now : Option FolderFile) (left : Option (List ℕ)) → is_settled_file now ≡ true → MayLeaveOne (on_disk now) (option_map (λ (f : FolderFile). f.bytes) now) → MayLeaveOne (on_disk now) left → left ≡ option_map (λ (f : FolderFile). f.bytes) now
+only_now None None is here_in may = refl
+only_now None (Some bytes) is here_in may = absurd may
+only_now (Some file) None is here_in may = absurd may
+only_now (Some file) (Some bytes) is here_in may = ap Some (no_ranges file.disk.synced file.disk.written bytes is may ∙ sym (no_ranges file.disk.synced file.disk.written file.bytes is here_in))
+
+only_here : (entry : NameEntry) (left : Option (List ℕ)) → is_settled entry ≡ true → IsConsistent entry → MayLeaveName entry left → left ≡ bytes_now entry
+only_here entry left is here_in (inl may) = only_now entry.now left (both (is_none_of entry.others) (is_settled_file entry.now) is).1 here_in may
+only_here entry left is here_in (inr may) = absurd (no_others entry.others left (both (is_none_of entry.others) (is_settled_file entry.now) is).0 may)
+
+pub store_left : (past : Option FolderPast) (t left : Left) → told_over past ≡ Some t → LeftNow (clock_over past) left → left.store ≡ t.store
+store_left None t left is now = absurd (none_some t is)
+store_left (Some past) t left is now =
+    ap (λ (l : Left). l.store) now.is
+    ∙ (ap store_in (only_here (folder_of past).store now.stopped.store (seen_settled (is_settled (folder_of past).store) (seen_now past) t is) (consistent_of past).store (may_now past left now).store)
+    ∙ ap (λ (l : Left). l.store) (seen_is (is_settled (folder_of past).store) (seen_now past) t is))
+
+pub earlier_left : (past : Option FolderPast) (s t : ℕ) (left : Left) → s ≤ t → (clock_over past).may_leave_since t left → (clock_over past).may_leave_since s left
+earlier_left None s t left within may = may
+earlier_left (Some past) s t left within may = record { stopped = may.stopped; may = since_earlier (settled_folder past.first) past.changes s t may.stopped within may.may; is = may.is }

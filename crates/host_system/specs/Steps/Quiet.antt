@@ -1,0 +1,43 @@
+-- Calls of which a board sees nothing, and the one that gives the record store a new file.
+use Rattle.std.specs.Prelude.{◌≡◌, ℕ, List, Option, Some}
+use Rattle.board_core.specs.Clock.{Passes}
+use Rattle.board_core.specs.Stop.{Same}
+use Rattle.host_system.specs.Folder.{Folder, FolderFile, opened, settled_name, entry_from}
+use Rattle.host_system.specs.FolderPast.{FolderPast, folder_of, IfTold}
+use Rattle.host_system.specs.View.{clock_over}
+
+-- All is as it was but what `rasd.new` stands for.
+pub record KeepsSeen (old new : Folder) : Type 0 where
+  pub zero : new.zero ≡ old.zero
+  pub one : new.one ≡ old.one
+  pub store : new.store ≡ old.store
+  pub out : new.out ≡ old.out
+  pub zero_use : new.uses.zero ≡ old.uses.zero
+  pub one_use : new.uses.one ≡ old.uses.one
+
+abbrev pub SeesNothing : FolderPast → FolderPast → Type 0
+SeesNothing old new = KeepsSeen (folder_of old) (folder_of new)
+
+-- Calls were made that changed nothing but `rasd.new`. A stop during them or after them leaves what
+-- one before them might have left, as a board sees it.
+pub record Quiet (old new : Option FolderPast) : Type 0 where
+  pub keeps : IfTold SeesNothing old new
+  pub stops : Passes Same (clock_over old) (clock_over new)
+
+-- `rasd.new` is this file, and open.
+pub record HasNew (file : FolderFile) (past : FolderPast) : Type 0 where
+  pub is : (folder_of past).new.now ≡ Some file
+  pub is_open : (folder_of past).uses.new ≡ opened
+
+-- The store's file has these bytes, and so has the disk under its name. All else is as a read gave
+-- it.
+pub record Replaced (bytes : List ℕ) (old new : Folder) : Type 0 where
+  pub zero : new.zero ≡ settled_name old.zero
+  pub one : new.one ≡ settled_name old.one
+  pub store : new.store ≡ entry_from (Some bytes)
+  pub out : new.out ≡ old.out
+  pub zero_use : new.uses.zero ≡ old.uses.zero
+  pub one_use : new.uses.one ≡ old.uses.one
+
+abbrev pub Replaces : List ℕ → FolderPast → FolderPast → Type 0
+Replaces bytes old new = Replaced bytes (folder_of old) (folder_of new)

@@ -1,0 +1,68 @@
+-- The folder as a board: its two files, the record store that its store file holds, and the output.
+use Rattle.std.specs.Prelude.{◌≡◌, ℕ, List, [], ◌∷◌, length, Bool, true, false, ◌&&◌, Option, None, Some, Result, Ok, Err}
+use Rattle.erst_store.specs.Store.{Stored}
+use Rattle.erst_store.specs.StoreReading.{file_at}
+use Rattle.erst_store.specs.declared.reading.StoreRefused.{StoreRefused}
+use Rattle.board_core.specs.Clock.{Clock, untold}
+use Rattle.board_core.specs.Stop.{Left}
+use Rattle.host_system.specs.Folder.{FolderFile, NameEntry, Stopped, here_in, settled_folder}
+use Rattle.host_system.specs.FolderPast.{FolderPast, MayLeaveFolderSince, bytes_or, folder_of}
+
+-- The store that a file holds: none if it is missing or holds no store.
+abbrev pub store_or : Result (List Stored) StoreRefused → List Stored
+store_or (Ok records) = records
+store_or (Err refused) = []
+
+abbrev pub store_in : Option (List ℕ) → List Stored
+store_in None = []
+store_in (Some bytes) = store_or (file_at bytes)
+
+abbrev pub seen_as : Stopped → Left
+seen_as left = record {
+  file0 = bytes_or left.zero;
+  file1 = bytes_or left.one;
+  store = store_in left.store;
+  out = left.out;
+}
+
+-- what a stop may leave, as a board
+pub record LeavesSince (past : FolderPast) (t : ℕ) (left : Left) : Type 0 where
+  pub stopped : Stopped
+  pub may : MayLeaveFolderSince (settled_folder past.first) past.changes t stopped
+  pub is : left ≡ seen_as stopped
+
+abbrev pub clock_over : Option FolderPast → Clock
+clock_over None = untold
+clock_over (Some past) = record { now = length past.changes; may_leave_since = LeavesSince past }
+
+-- what a board sees now
+abbrev pub seen_now : FolderPast → Left
+seen_now past = seen_as (here_in (folder_of past))
+
+-- What a board over a system tells: it tells where the system tells, and nothing of the record
+-- store's file is on its way to the disk.
+abbrev pub is_none_of : {T : Type 0} → List T → Bool
+is_none_of [] = true
+is_none_of (x ∷ xs) = false
+
+abbrev pub is_settled_file : Option FolderFile → Bool
+is_settled_file None = true
+is_settled_file (Some file) = is_none_of file.disk.written
+
+abbrev pub is_settled : NameEntry → Bool
+is_settled entry = is_none_of entry.others && is_settled_file entry.now
+
+abbrev pub seen_if : Bool → Left → Option Left
+seen_if true left = Some left
+seen_if false left = None
+
+abbrev pub told_over : Option FolderPast → Option Left
+told_over None = None
+told_over (Some past) = seen_if (is_settled (folder_of past).store) (seen_now past)
+
+-- nothing of the record store's file is on its way
+abbrev pub HasSettledStore : FolderPast → Type 0
+HasSettledStore past = is_settled (folder_of past).store ≡ true
+
+abbrev pub with_store : List Stored → Left → Left
+with_store store left = record left { store = store }

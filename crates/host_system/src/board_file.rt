@@ -1,0 +1,127 @@
+//! A board's two files, as files of the folder, and its output.
+ghost use Rattle.std.specs.Prelude.{◌≡◌, ◌≤◌, length, IfSome, IfOk, OnOk, OnErr};
+ghost use Rattle.board_core.specs.Clock.{Passes, Leads, IsSynced};
+ghost use Rattle.board_core.specs.Stop.{Same, InFile, InOut, Begins, Appends, file_in};
+ghost use Rattle.board_core.specs.declared.board.FileNo.{FileNo};
+ghost use Rattle.board_core.specs.Told.{ReadsBytes, Torn};
+ghost use Rattle.host_system.specs.BoardFile.{IsUsable, IsOpenable, KeepsOthers, SeesSame, SeesWritten, SeesTorn, SeesPrinted, SeesBegun};
+ghost use Rattle.host_system.specs.FolderPast.{IfTold, HasFile, IsOpen};
+ghost use Rattle.host_system.specs.View.{clock_over, seen_now};
+ghost use Rattle.host_system.specs.declared.system.FileName.TheVariants.{Journal};
+
+use crate::{FileName, System};
+use board_core::{Failed, FileNo};
+
+/// Opens a file of which no sync failed and locks it: a missing one is made. Its name is brought to
+/// the disk, whether this call made it or not.
+pub fn open_file<S: System>(file: FileNo, system: &mut S) -> Result<(), Failed>
+    requires { IfSome (S.told system.old) (IsOpenable file) }
+    ensures told { IfTold SeesSame (S.told system.old) (S.told system.new) }
+    ensures keeps { IfTold (KeepsOthers file) (S.told system.old) (S.told system.new) }
+    ensures stops { Passes Same (clock_over (S.told system.old)) (clock_over (S.told system.new)) }
+    ensures openable { IfSome (S.told system.new) (IsOpenable file) }
+    ensures usable { OnOk result (IfSome (S.told system.new) (IsUsable file)) }
+{
+    open_or_make(file, system)?;
+    system.lock(FileName::Journal(file))?;
+    system.sync_names()
+}
+
+// Opens a file: a missing one is made.
+fn open_or_make<S: System>(file: FileNo, system: &mut S) -> Result<(), Failed>
+    requires { IfSome (S.told system.old) (IsOpenable file) }
+    ensures told { IfTold SeesSame (S.told system.old) (S.told system.new) }
+    ensures keeps { IfTold (KeepsOthers file) (S.told system.old) (S.told system.new) }
+    ensures stops { Passes Same (clock_over (S.told system.old)) (clock_over (S.told system.new)) }
+    ensures openable { IfSome (S.told system.new) (IsOpenable file) }
+    ensures there { OnOk result (IfSome (S.told system.new) (HasFile (Journal file))) }
+    ensures opened { OnOk result (IfSome (S.told system.new) (IsOpen (Journal file))) }
+{
+    match system.find(FileName::Journal(file))? {
+        Some(_) => system.open(FileName::Journal(file)),
+        None => system.make(FileName::Journal(file)),
+    }
+}
+
+/// Writes bytes at a place that is at most the file's length.
+pub fn write_file<S: System>(
+    file: FileNo,
+    place: u64,
+    bytes: &[u8],
+    system: &mut S,
+) -> Result<(), Failed>
+    requires usable { IfSome (S.told system.old) (IsUsable file) }
+    requires within { IfSome (S.told system.old)
+        (λ p. place ≤ length (file_in file (seen_now p))) }
+    ensures told { OnOk result
+        (IfTold (SeesWritten file place bytes.now) (S.told system.old) (S.told system.new)) }
+    ensures failed { OnErr result
+        (IfTold (SeesTorn file place (length bytes.now)) (S.told system.old)
+        (S.told system.new)) }
+    ensures keeps { IfTold (KeepsOthers file) (S.told system.old) (S.told system.new) }
+    ensures stops { Passes (InFile file (Torn place (length bytes.now)))
+        (clock_over (S.told system.old)) (clock_over (S.told system.new)) }
+    ensures usable { IfSome (S.told system.new) (IsUsable file) }
+{
+    system.write_at(FileName::Journal(file), place, bytes)
+}
+
+/// Makes the file durable. If that fails, the file isn't usable any more, and can't be opened
+/// again.
+pub fn sync_file<S: System>(file: FileNo, system: &mut S) -> Result<(), Failed>
+    requires { IfSome (S.told system.old) (IsUsable file) }
+    ensures told { IfTold SeesSame (S.told system.old) (S.told system.new) }
+    ensures keeps { IfTold (KeepsOthers file) (S.told system.old) (S.told system.new) }
+    ensures stops { Passes Same (clock_over (S.told system.old)) (clock_over (S.told system.new)) }
+    ensures synced { OnOk result (IfSome (S.told system.old)
+        (λ p. IsSynced file (file_in file (seen_now p)) (clock_over (S.told system.new)))) }
+    ensures usable { OnOk result (IfSome (S.told system.new) (IsUsable file)) }
+{
+    system.sync(FileName::Journal(file))
+}
+
+/// The file's length in bytes.
+pub fn file_size<S: System>(file: FileNo, system: &mut S) -> Result<u64, Failed>
+    requires { IfSome (S.told system.old) (IsUsable file) }
+    ensures length { IfOk result (λ n. IfSome (S.told system.old)
+        (λ p. n ≡ length (file_in file (seen_now p)))) }
+    ensures told { S.told system.new ≡ S.told system.old }
+{
+    system.find(FileName::Journal(file))?.ok_or(Failed)
+}
+
+/// Reads the bytes from a place on into the front of a buffer and answers their number: fewer than
+/// the buffer has room for only if the file ends.
+pub fn read_file<S: System>(
+    file: FileNo,
+    place: u64,
+    buf: &mut [u8],
+    system: &mut S,
+) -> Result<usize, Failed>
+    requires { IfSome (S.told system.old) (IsUsable file) }
+    ensures within { IfOk result (λ n. n ≤ length buf.old) }
+    ensures read { IfOk result (λ n. IfSome (S.told system.old)
+        (λ p. ReadsBytes place n buf.new (file_in file (seen_now p)))) }
+    ensures told { S.told system.new ≡ S.told system.old }
+{
+    let left = file_size(file, system)?.saturating_sub(place);
+    let count = left.min(buf.len() as u64) as usize;
+    system.read_at(FileName::Journal(file), place, &mut buf[..count])?;
+    Ok(count)
+}
+
+/// Appends to the output.
+pub fn print<S: System>(bytes: &[u8], system: &mut S) -> Result<(), Failed>
+    ensures told { OnOk result
+        (IfTold (SeesPrinted bytes.now) (S.told system.old) (S.told system.new)) }
+    ensures failed { OnErr result
+        (IfTold (SeesBegun bytes.now) (S.told system.old) (S.told system.new)) }
+    ensures keeps { (file : FileNo) → IfTold (KeepsOthers file) (S.told system.old)
+        (S.told system.new) }
+    ensures stops { Passes (InOut (Begins bytes.now)) (clock_over (S.told system.old))
+        (clock_over (S.told system.new)) }
+    ensures printed { OnOk result (Leads (InOut (Appends bytes.now))
+        (clock_over (S.told system.old)) (clock_over (S.told system.new))) }
+{
+    system.print(bytes)
+}

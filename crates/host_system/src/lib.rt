@@ -1,0 +1,17 @@
+//! What the program asks of its operating system, and what a stop of the machine leaves of it.
+#![tactic(auto)]
+
+mod board_file;
+mod laws;
+mod mem_files;
+mod mem_system;
+mod notes;
+mod store_file;
+mod system;
+
+pub use board_file::{file_size, open_file, print, read_file, sync_file, write_file};
+pub use laws::system_laws;
+pub use mem_system::MemSystem;
+pub use notes::Notes;
+pub use store_file::replace_store;
+pub use system::{FileName, Input, System};

@@ -1,9 +1,0 @@
--- The details so far are those of the sections so far.
-use Rattle.std.proofs.Common.{◌≡◌, map}
-use Rattle.std.specs.List.{range_with_len}
-use Rattle.cper_records.specs.Descriptors.{section_at}
-use Rattle.ras_reports.specs.Reports.{section_detail}
-use Rattle.ras_reports.proofs.record.details_of_record.Given as goal
-
-abbrev pub invariant-loop-i : goal.invariant-loop-i
-invariant-loop-i l = l.details ≡ map (λ i. section_detail (section_at l.fn.rec i)) (range_with_len 0 l.i)
