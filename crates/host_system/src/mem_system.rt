@@ -95,16 +95,6 @@ impl MemSystem {
         Ok(())
     }
 
-    /// The bytes of a file, none if it is missing.
-    pub fn file(&self, name: FileName) -> Option<&[u8]> {
-        let file = self.files.get(name);
-        if file.is_there {
-            Some(&file.bytes)
-        } else {
-            None
-        }
-    }
-
     // Counts a call, and fails if its number was chosen to.
     fn begin(&mut self) -> Result<(), Failed>
         ensures { self.new ≡ self.old }
