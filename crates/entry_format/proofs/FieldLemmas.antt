@@ -14,7 +14,7 @@ use Rattle.ras_facts.specs.Valid.{IsPage}
 use Rattle.ras_facts.specs.declared.items.TheConstants.{MOST_WEIGHT, PAGES}
 use Rattle.entry_format.specs.declared.refused.EntryRefused.TheVariants.{Bad}
 use Rattle.entry_format.specs.Spelling.{page_bytes, label_bytes}
-use Rattle.entry_format.specs.Reading.{front_number, u16_at, u32_at, u64_at, byte_at, bytes_at, if_passes, made_at, class_of, class_at, label_at, page_number_at, some_page_at, no_page_at, page_of_kind, page_at, weight_at}
+use Rattle.entry_format.specs.Reading.{leading_number, u16_at, u32_at, u64_at, byte_at, bytes_at, if_passes, made_at, class_of, class_at, label_at, page_number_at, some_page_at, no_page_at, page_of_kind, page_at, weight_at}
 use Rattle.entry_format.proofs.CodecLemmas.{Reads, Makes, bind_ok, ok_is, rest_fits, like_read, made_read, kinds_read, either_kind}
 
 -- what was read where the bytes were enough
@@ -31,7 +31,7 @@ record AreWide (width limit : ℕ) (spell : ℕ → List ℕ) : Type 0 where
   again : (n : ℕ) (rest : List ℕ) → n < limit → number_at 0 width (spell n ++ rest) ≡ n
   below : (bytes : List ℕ) → AreBytes bytes → number_at 0 width bytes < limit
 
-number_takes : (width limit : ℕ) (spell : ℕ → List ℕ) → AreWide width limit spell → (bytes : List ℕ) (n : ℕ) (rest : List ℕ) → AreBytes bytes → front_number width bytes ≡ Ok (n, rest)
+number_takes : (width limit : ℕ) (spell : ℕ → List ℕ) → AreWide width limit spell → (bytes : List ℕ) (n : ℕ) (rest : List ℕ) → AreBytes bytes → leading_number width bytes ≡ Ok (n, rest)
     → (bytes ≡ spell n ++ rest) × (n < limit)
 number_takes width limit spell wide bytes n rest fits e =
     let g = long_ok (ltb (length bytes) width) (number_at 0 width bytes, drop width bytes) (n, rest) e in
@@ -40,13 +40,13 @@ number_takes width limit spell wide bytes n rest fits e =
     sym (take-append-drop width bytes) ∙ ap (λ (w : List ℕ). w ++ drop width bytes) (sym (wide.back bytes fits enough)) in
     subst (λ (x : ℕ × List ℕ). (bytes ≡ spell x.0 ++ x.1) × (x.0 < limit)) g.1 (parts, wide.below bytes fits)
 
-number_again : (width limit : ℕ) (spell : ℕ → List ℕ) → AreWide width limit spell → (n : ℕ) (rest : List ℕ) → n < limit → front_number width (spell n ++ rest) ≡ Ok (n, rest)
+number_again : (width limit : ℕ) (spell : ℕ → List ℕ) → AreWide width limit spell → (n : ℕ) (rest : List ℕ) → n < limit → leading_number width (spell n ++ rest) ≡ Ok (n, rest)
 number_again width limit spell wide n rest lt =
     let len = wide.len n in
     let enough : ltb (length (spell n ++ rest)) width ≡ false = le-ltb _ _ (omega (arith, length-append (spell n) rest)) in
     rw (enough, drop_at (spell n) rest width len, wide.again n rest lt) refl
 
-number_read : (width limit : ℕ) (spell : ℕ → List ℕ) → AreWide width limit spell → Reads (front_number width) spell (λ n. n < limit)
+number_read : (width limit : ℕ) (spell : ℕ → List ℕ) → AreWide width limit spell → Reads (leading_number width) spell (λ n. n < limit)
 number_read width limit spell wide = record { takes = number_takes width limit spell wide; again = number_again width limit spell wide }
 
 wide_2 : AreWide 2 (2 ^ 16) u16_bytes

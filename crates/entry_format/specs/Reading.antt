@@ -88,18 +88,18 @@ bytes_at n bytes = if nat_lt (length bytes) n then Err Bad else Ok (take n bytes
 -- ---- numbers
 
 -- a number of n bytes
-abbrev pub front_number : ℕ → Reader ℕ
-front_number width bytes =
+abbrev pub leading_number : ℕ → Reader ℕ
+leading_number width bytes =
     if nat_lt (length bytes) width then Err Bad else Ok (number_at 0 width bytes, drop width bytes)
 
 unfoldable pub u16_at : Reader ℕ
-u16_at = front_number 2
+u16_at = leading_number 2
 
 unfoldable pub u32_at : Reader ℕ
-u32_at = front_number 4
+u32_at = leading_number 4
 
 unfoldable pub u64_at : Reader ℕ
-u64_at = front_number 8
+u64_at = leading_number 8
 
 unfoldable pub byte_at : Reader ℕ
 byte_at [] = Err Bad

@@ -15,7 +15,8 @@ fn many_entries_at(
     count: u32,
     bytes: &[u8],
 ) -> Result<(Vec<Entry>, &[u8]), EntryRefused>
-    ensures { ReadsUnlessMemory (λ x. (x.0.items, x.1.now)) result (many_at (entry_at version) count bytes.now) }
+    ensures { ReadsUnlessMemory (λ x. (x.0.items, x.1.now)) result
+        (many_at (entry_at version) count bytes.now) }
 {
     let mut entries = Vec::new(alloc);
     let mut rest = bytes;
@@ -62,8 +63,8 @@ pub fn read_list(
 
     // What the bytes are is read, unless memory runs out.
     ensures entries { (entries : List Entry) → AreEntriesOf version entries bytes.now
-        → length entries ≡ count
-        → result ≢ Err EntryRefused.NoMemory → IsOkAnd result (λ read. read.items ≡ entries) }
+        → length entries ≡ count → result ≢ Err EntryRefused.NoMemory
+        → IsOkAnd result (λ read. read.items ≡ entries) }
 {
     whole_list(alloc, version, count, bytes)
 }

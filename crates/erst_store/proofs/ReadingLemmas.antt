@@ -7,7 +7,7 @@ use Rattle.std.specs.List.{AllByRecursion, IsDistinct, list_any, flat_map}
 use Rattle.std.specs.Cmp.Lexicographic.{pointwise, same_text}
 use Rattle.std.proofs.lemmas.Bool.{ltb-false, le-ltb, eqb-true}
 use Rattle.std.proofs.lemmas.Bool.Decides.{nat_tests}
-use Rattle.std.proofs.lemmas.List.{append-nil, take_at, drop_at, take-append-drop, length-append, length-take-le, map-append, nil_from_length}
+use Rattle.std.proofs.lemmas.List.{append-nil, take_at, drop_at, take_all, take-append-drop, length-append, length-take-le, map-append, nil_from_length}
 use Rattle.std.proofs.lemmas.List.Concat.{flat_map-cons}
 use Rattle.std.proofs.lemmas.Map.Keys.{IsDistinct-head, IsDistinct-tail}
 use Rattle.ras_base.specs.Chaining.{◌>>=◌}
@@ -319,3 +319,13 @@ next_bytes start rs i id bytes out new is_id is_bytes so_far pushed =
 
 pub heading-nil : (count : ℕ) → heading count ≡ heading count ++ flat_map record_bytes []
 heading-nil count = sym (append-nil (heading count))
+
+-- a store's bytes after others, with none of its records yet, and with all
+pub begun_after : (old : List ℕ) (count : ℕ) → (old ++ codes "RASERST1") ++ u32_bytes count ≡ (old ++ heading count) ++ flat_map record_bytes []
+begun_after old count =
+    append_assoc old (codes "RASERST1") (u32_bytes count) ∙ sym (append-nil (old ++ heading count))
+
+pub ended_after : (old head : List ℕ) (records : List Stored) (i : ℕ) → length records ≤ i → (old ++ head) ++ flat_map record_bytes (take i records) ≡ old ++ (head ++ flat_map record_bytes records)
+ended_after old head records i all =
+    ap (λ (some : List Stored). (old ++ head) ++ flat_map record_bytes some) (take_all i records all)
+    ∙ append_assoc old head (flat_map record_bytes records)

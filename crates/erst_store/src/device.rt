@@ -1,5 +1,5 @@
 //! The error record serialization device.
-ghost use Rattle.std.specs.Prelude.{◌≡◌, ◌≢◌, ◌+◌, ◌≤◌, ◌↔◌, length, take, drop, Some, IfOk, OnOk, OnErr, IsTrue};
+ghost use Rattle.std.specs.Prelude.{◌≡◌, ◌≢◌, ◌+◌, ◌≤◌, ◌↔◌, [], length, take, drop, Some, IfOk, OnOk, OnErr, IsTrue};
 ghost use Rattle.std.specs.Option.{option_map};
 ghost use Rattle.erst_store.specs.declared.device.Command.TheVariants.{Write};
 ghost use Rattle.erst_store.specs.Actions.{execute_operation, range_length};
@@ -147,12 +147,12 @@ impl Dev {
         })
     }
 
-    /// The device as it is, once more.
-    pub fn copy(&self, alloc: Global) -> Result<Dev, NoMemory>
-        ensures { IfOk result (λ device. device ≡ self.now) }
+    /// The device's registers and its range, once more, over a store that holds nothing.
+    pub fn without_store(&self, alloc: Global) -> Result<Dev, NoMemory>
+        ensures { IfOk result (λ device. device ≡ record self.now { store = [] }) }
     {
         Ok(Dev {
-            store: self.store.copy(alloc)?,
+            store: Store::new(alloc),
             range: Vec::from_slice(alloc, &self.range)?,
             ..*self
         })

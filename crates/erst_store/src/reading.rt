@@ -36,13 +36,32 @@ impl Store {
     pub fn to_bytes(&self, alloc: Global) -> Result<Vec<u8>, NoMemory>
         ensures { IfOk result (λ v. v.items ≡ store_bytes self.now) }
     {
-        let mut out = Vec::with_capacity(alloc, self.file_length())?;
-        out.extend_from_slice(MAGIC)?;
-        push_u32(&mut out, self.len() as u32)?;
-        for i in 0..self.len() {
-            push_record(&mut out, self.id(i), self.bytes(i))?;
-        }
+        let mut out = self.room(alloc, 0)?;
+        self.push_bytes(&mut out)?;
         Ok(out)
+    }
+
+    /// Appends the bytes of the store's file.
+    pub fn push_bytes(&self, out: &mut Vec<u8>) -> Result<(), NoMemory>
+        ensures { OnOk result (out.new.items ≡ out.old.items ++ store_bytes self.now) }
+    {
+        out.extend_from_slice(MAGIC)?;
+        push_u32(out, self.len() as u32)?;
+        for i in 0..self.len() {
+            push_record(out, self.id(i), self.bytes(i))?;
+        }
+        Ok(())
+    }
+
+    /// An empty vector with room for the store's file and so many bytes more.
+    pub fn room(&self, alloc: Global, more: usize) -> Result<Vec<u8>, NoMemory>
+        ensures { IfOk result (λ v. v.items ≡ []) }
+    {
+        let mut length = HEADING_LENGTH.saturating_add(more);
+        for i in 0..self.len() {
+            length = length.saturating_add(RECORD_HEADING_LENGTH + self.bytes(i).len());
+        }
+        Ok(Vec::with_capacity(alloc, length)?)
     }
 
     /// The store whose file these bytes are.
@@ -56,15 +75,6 @@ impl Store {
             → ReadsBack records result }
     {
         read_all(alloc, bytes)
-    }
-
-    // How many bytes the store's file has.
-    fn file_length(&self) -> usize {
-        let mut length = HEADING_LENGTH;
-        for i in 0..self.len() {
-            length = length.saturating_add(RECORD_HEADING_LENGTH + self.bytes(i).len());
-        }
-        length
     }
 
     // Puts a record after all others, if it may stand there.

@@ -3,7 +3,7 @@
 mod store;
 
 use board_core::{Board, Failed, FileNo};
-use ras_host::{FileBoard, Use};
+use ras_host::{FileBoard, RealSystem, Use};
 use std::env::Env;
 use std::fs;
 use std::test::Fail;
@@ -21,8 +21,8 @@ fn leave(rt: &HostRuntime, name: &str) -> Result<(), Fail> {
     Ok(())
 }
 
-fn board(rt: HostRuntime, how: Use) -> FileBoard {
-    FileBoard::new(rt, how)
+fn board(rt: HostRuntime, how: Use) -> FileBoard<RealSystem> {
+    FileBoard::new(rt.alloc(), how, RealSystem::new(rt))
 }
 
 fn is_missing(rt: &HostRuntime, name: &str) -> bool {
@@ -35,13 +35,13 @@ fn holds(rt: &HostRuntime, name: &str, bytes: &[u8]) -> bool {
 }
 
 // How many bytes of file 1 are read at a place, and a buffer that they are read into.
-fn read(board: &mut FileBoard, place: u64) -> (Result<usize, Failed>, [u8; 4]) {
+fn read(board: &mut FileBoard<RealSystem>, place: u64) -> (Result<usize, Failed>, [u8; 4]) {
     let mut buf = [0; 4];
     (board.read_at(FileNo::One, place, &mut buf), buf)
 }
 
 // Whether bytes are written to file 1, and whether it is synced.
-fn write(board: &mut FileBoard, bytes: &[u8]) -> (bool, bool) {
+fn write(board: &mut FileBoard<RealSystem>, bytes: &[u8]) -> (bool, bool) {
     let is_written = board.write_at(FileNo::One, 0, bytes).is_ok();
     (is_written, board.sync(FileNo::One).is_ok())
 }

@@ -32,10 +32,16 @@ told_then P trans (Some x) None c first second = absurd first
 told_then P trans (Some x) (Some y) None first second = absurd second
 told_then P trans (Some x) (Some y) (Some z) first second = trans x y z first second
 
+pub weaker : (P Q : FolderPast → FolderPast → Type 0) → ((x y : FolderPast) → P x y → Q x y) → (old new : Option FolderPast) → IfTold P old new → IfTold Q old new
+weaker P Q implies None new is = is
+weaker P Q implies (Some x) None is = is
+weaker P Q implies (Some x) (Some y) is = implies x y is
+
 -- ---- files that stay as usable as they were
 
 pub keeps_file : (file : FileNo) (x y : Folder) → entry_named (Journal file) y ≡ entry_named (Journal file) x → use_in (Journal file) y.uses ≡ use_in (Journal file) x.uses → KeepsFileIn file x y
 keeps_file file x y entry how = record {
+  held = λ is. record { there = subst (λ (e : NameEntry). IsSome (bytes_now e)) (sym entry) is.there; is_locked = how ∙ is.is_locked };
   usable = λ is. record {
     there = subst (λ (e : NameEntry). IsSome (bytes_now e)) (sym entry) is.there;
     named = ap (λ (e : NameEntry). e.others) entry ∙ is.named;
@@ -50,7 +56,7 @@ keeps_others file x y store entry how = record { settled = λ is. ap is_settled 
 keeps_then : (file : FileNo) (x y z : FolderPast) → KeepsOthers file x y → KeepsOthers file y z → KeepsOthers file x z
 keeps_then file x y z first second = record {
   settled = λ is. second.settled (first.settled is);
-  other = record { usable = λ is. second.other.usable (first.other.usable is); openable = λ is. second.other.openable (first.other.openable is) };
+  other = record { held = λ is. second.other.held (first.other.held is); usable = λ is. second.other.usable (first.other.usable is); openable = λ is. second.other.openable (first.other.openable is) };
 }
 
 -- a change of one file alone
@@ -90,8 +96,8 @@ settled_settles entry (x ∷ xs) is = absurd (false_true is)
     false_true e = cc
 
 named_keeps : (file : FileNo) (f : Folder) → KeepsFileIn file f (folder_after synced_names f)
-named_keeps Zero f = record { usable = λ is. record { there = is.there; named = refl; is_locked = is.is_locked }; openable = λ is. is }
-named_keeps One f = record { usable = λ is. record { there = is.there; named = refl; is_locked = is.is_locked }; openable = λ is. is }
+named_keeps Zero f = record { held = λ is. record { there = is.there; is_locked = is.is_locked }; usable = λ is. record { there = is.there; named = refl; is_locked = is.is_locked }; openable = λ is. is }
+named_keeps One f = record { held = λ is. record { there = is.there; is_locked = is.is_locked }; usable = λ is. record { there = is.there; named = refl; is_locked = is.is_locked }; openable = λ is. is }
 
 of_names : (file : FileNo) → IsOf file synced_names
 of_names file = record { keeps = λ f. record { settled = λ is. settled_settles f.store f.store.others is; other = named_keeps (other_than file) f }; during = λ f left may. may }
@@ -192,8 +198,9 @@ pub opened_end : {T E : Type 0} (file : FileNo) (result : Result T E) (old new :
 opened_end file (Ok x) old new ok err = did_none file (opens (Journal file)) (opens_none file) old new ok
 opened_end file (Err e) old new ok err = none_same file old new err
 
-pub locked_did : (file : FileNo) (old new : Option FolderPast) → Did (locks (Journal file)) old new → SeesNone file old new
-locked_did file old new is = did_none file (locks (Journal file)) (locks_none file) old new is
+pub locked_end : {T E : Type 0} (file : FileNo) (result : Result T E) (old new : Option FolderPast) → OnOk result (Did (locks (Journal file)) old new) → OnErr result (new ≡ old) → SeesNone file old new
+locked_end file (Ok x) old new ok err = did_none file (locks (Journal file)) (locks_none file) old new ok
+locked_end file (Err e) old new ok err = none_same file old new err
 
 pub names_end : {T E : Type 0} (file : FileNo) (result : Result T E) (old new : Option FolderPast) → OnOk result (Did synced_names old new) → OnErr result (IfTold (λ x y. ⊥) old new) → SeesNone file old new
 names_end file (Ok x) old new ok err = did_none file synced_names (names_none file) old new ok

@@ -1,7 +1,9 @@
 mod FileLemmas
 mod UseLemmas
+mod OpenLemmas
 mod WriteLemmas
 mod QuietLemmas
 mod StoreLemmas
 mod PrintLemmas
 mod MemLemmas
+mod LeftLemmas

@@ -1,19 +1,23 @@
 -- What a system in memory notes, and what it then holds.
-use Rattle.std.proofs.Common.{◌≡◌, ℕ, ◌+◌, ◌-◌, ◌≤◌, ◌++◌, ◌∷◌, [], List, length, take, drop, min, Some, refl, ap, sym, ◌∙◌, subst, arith, rules, append-nil, length-drop}
-use Rattle.std.specs.Prelude.{Bool, true, false, Option, None, IsSome}
-use Rattle.std.specs.Option.{option_map}
-use Rattle.std.proofs.lemmas.List.{take_all, take_min, drop_min}
-use Rattle.board_core.specs.Told.{overlay}
+use Rattle.std.proofs.Common.{◌≡◌, ℕ, ◌+◌, ◌-◌, ◌≤◌, ◌++◌, ◌∷◌, [], List, length, take, drop, min, refl, ap, sym, ◌∙◌, subst, arith, append-nil, length-drop, inl, inr, if◌then◌else◌}
+use Rattle.std.specs.Prelude.{true, false, Vec, Result, Ok, Err, IfOk, OnOk, OnErr}
+use Rattle.std.specs.Result.{is_ok, is_err}
+use Rattle.std.specs.declared.alloc.Global.{Global}
+use Rattle.std.proofs.lemmas.List.{take_min, drop_min}
 use Rattle.board_core.specs.declared.board.FileNo.TheVariants.{Zero, One}
-use Rattle.host_system.specs.declared.mem_files.MemFile.{MemFile}
+use Rattle.host_system.specs.declared.left_folder.LeftFolder.{LeftFolder}
 use Rattle.host_system.specs.declared.mem_files.MemFiles.{MemFiles}
+use Rattle.host_system.specs.declared.mem_system.Kept.{Kept}
+use Rattle.host_system.specs.declared.mem_system.Kept.TheVariants.{Nothing, Folder as AFolder, NoMemory}
 use Rattle.host_system.specs.declared.system.FileName.{FileName}
 use Rattle.host_system.specs.declared.system.FileName.TheVariants.{Journal, Store, New}
-use Rattle.host_system.specs.Folder.{FolderFile, Folder, FolderChange, wrote, synced, made, removed, renamed, printed, folder_after, after_writing, after_syncing, entry_named, Stopped, bytes_now, here_in}
-use Rattle.host_system.specs.FolderPast.{FolderPast, changed_by, folder_of, bytes_or, bytes_named}
-use Rattle.host_system.specs.Steps.FolderPastLemmas.{folder_of-more}
-use Rattle.host_system.specs.MemSystem.{name_numbered, change_numbered, change_noted, changes_noted, past_noted}
-use Rattle.host_system.specs.Steps.MemFiles.{number_of, seen_file, mem_file, with_mem_file, held_in, AreHeld}
+use Rattle.host_system.specs.Folder.{Folder, NameEntry, FolderChange, wrote, printed, folder_after, change_name, entry_named, Uses, Stopped, FileUse, with_use, using, bytes_now, MayLeaveFolder, settled_folder}
+use Rattle.host_system.specs.FolderPast.{FolderPast, changed_by, folder_of, bytes_or, file_bytes, MayLeaveFolderSince, MayWrite, MayPrint}
+use Rattle.host_system.specs.Steps.FolderPastLemmas.{folder_of-more, since_kept, now_counts}
+use Rattle.host_system.specs.Steps.FolderLemmas.{uses_before}
+use Rattle.host_system.specs.Steps.Kept.{IsCopied, IsOfPast, Holds}
+use Rattle.host_system.specs.MemSystem.{as_stopped, name_numbered, change_numbered, change_noted, changes_noted, past_noted}
+use Rattle.host_system.specs.Steps.MemFiles.{number_of, entry_seen, mem_entry, held_in, IsChanged, AreHeld}
 
 named_again : (name : FileName) → name_numbered (number_of name) ≡ name
 named_again (Journal Zero) = refl
@@ -25,114 +29,121 @@ noted_more : (calls : List (List ℕ × List ℕ)) (call : List ℕ × List ℕ)
 noted_more [] call = refl
 noted_more (x ∷ xs) call = ap (λ (cs : List FolderChange). change_noted x.0 x.1 ∷ cs) (noted_more xs call)
 
-pub noted : (n : ℕ) (name : FileName) (place count : ℕ) (bytes : List ℕ) (old new : List (List ℕ × List ℕ)) → new ≡ old ++ ((n ∷ number_of name ∷ place ∷ count ∷ []), bytes) ∷ []
-    → past_noted new ≡ changed_by (change_numbered n name place count bytes) (past_noted old)
-noted n name place count bytes old new is =
-    ap past_noted is
-    ∙ (ap (λ (cs : List FolderChange). record (past_noted old) { changes = cs }) (noted_more old ((n ∷ number_of name ∷ place ∷ count ∷ []), bytes))
-    ∙ ap (λ (m : FileName). changed_by (change_numbered n m place count bytes) (past_noted old)) (named_again name))
+pub noted : (first : Stopped) (n : ℕ) (name : FileName) (place count : ℕ) (bytes : List ℕ) (old new : List (List ℕ × List ℕ)) → new ≡ old ++ ((n ∷ number_of name ∷ place ∷ count ∷ []), bytes) ∷ []
+    → past_noted first new ≡ changed_by (change_numbered n name place count bytes) (past_noted first old)
+noted first n name place count bytes old new is =
+    ap (past_noted first) is
+    ∙ (ap (λ (cs : List FolderChange). record (past_noted first old) { changes = cs }) (noted_more old ((n ∷ number_of name ∷ place ∷ count ∷ []), bytes))
+    ∙ ap (λ (m : FileName). changed_by (change_numbered n m place count bytes) (past_noted first old)) (named_again name))
 
--- what is held after a change is what a read of the folder then gives
-pub held_after : (change : FolderChange) (old new : List (List ℕ × List ℕ)) (next : MemFiles) (text : List ℕ) → past_noted new ≡ changed_by change (past_noted old)
-    → held_in next text ≡ here_in (folder_after change (folder_of (past_noted old))) → AreHeld new next text
-held_after change old new next text is held = held ∙ sym (ap (λ (p : FolderPast). here_in (folder_of p)) is ∙ ap here_in (folder_of-more change (past_noted old)))
+-- ---- after a change
 
--- a file's part
-pub part_held : (name : FileName) (files : MemFiles) (out : List ℕ) (f : Folder) → held_in files out ≡ here_in f → seen_file (mem_file name files) ≡ bytes_now (entry_named name f)
-part_held (Journal Zero) files out f is = ap (λ (s : Stopped). s.zero) is
-part_held (Journal One) files out f is = ap (λ (s : Stopped). s.one) is
-part_held Store files out f is = ap (λ (s : Stopped). s.store) is
-part_held New files out f is = ap (λ (s : Stopped). s.new) is
+-- What was kept stays one of the past's moments.
+before_on : (change : FolderChange) (past : FolderPast) (kept : Kept) → IsOfPast past kept → IsOfPast (changed_by change past) kept
+before_on change past Nothing of = tt
+before_on change past (AFolder files text) of = λ uses left may. since_kept (settled_folder past.first) past.changes change 0 left (of uses left may)
+before_on change past NoMemory of = tt
 
-pub bytes_held : (file : MemFile) (now : Option (List ℕ)) → seen_file file ≡ now → IsSome now → file.bytes.items ≡ bytes_or now
-bytes_held file now is there = by_flag file.is_there file.bytes.items now is there
-  where
-    by_flag : (is_there : Bool) (bytes : List ℕ) (now : Option (List ℕ)) → Rattle.host_system.specs.Steps.MemFiles.if_there is_there bytes ≡ now → IsSome now → bytes ≡ bytes_or now
-    by_flag true bytes now is there = ap bytes_or is
-    by_flag false bytes now is there = absurd (not_there (subst (λ (n : Option (List ℕ)). IsSome n) (sym is) there))
-      where
-        not_there : IsSome {T = List ℕ} None → ⊥
-        not_there e = cc
+-- What is held is the folder after it.
+pub held_after : (change : FolderChange) (past next : FolderPast) (files after : MemFiles) (out text : List ℕ) (kept : Kept) → next ≡ changed_by change past
+    → ((uses : Uses) → held_in after text (folder_after change (held_in files out uses)).uses ≡ folder_after change (held_in files out uses))
+    → Holds past files out kept → Holds next after text kept
+held_after change past next files after out text kept is step holds =
+    subst (λ (p : FolderPast). Holds p after text kept) (sym is) (record {
+      held = subst (λ (f : Folder). held_in after text f.uses ≡ f) (sym (folder_of-more change past))
+          (subst (λ (f : Folder). held_in after text (folder_after change f).uses ≡ folder_after change f) holds.held (step (folder_of past).uses));
+      before = before_on change past kept holds.before;
+    })
 
--- a file as a read gives it
-pub seen_held : (name : FileName) (calls : List (List ℕ × List ℕ)) (files : MemFiles) (out : List ℕ) (past : FolderPast) → past_noted calls ≡ past → AreHeld calls files out → seen_file (mem_file name files) ≡ bytes_named name past
-seen_held name calls files out past is held = part_held name files out (folder_of past) (held ∙ ap (λ (p : FolderPast). here_in (folder_of p)) is)
+-- what is there now, as it is kept
+pub kept_now : (past : FolderPast) (files : MemFiles) (out : List ℕ) (kept : Kept) → AreHeld past files out → IsCopied files out kept → IsOfPast past kept
+kept_now past files out Nothing held is = tt
+kept_now past files out (AFolder kept text) held is = λ uses left may.
+    now_counts (settled_folder past.first) past.changes 0 left (omega arith)
+    (subst (λ (f : Folder). MayLeaveFolder f left) held (uses_before uses (held_in files out (folder_of past).uses) left (subst (λ (f : Folder). MayLeaveFolder f left) (is uses) may)))
+kept_now past files out NoMemory held is = tt
 
--- what a read takes of its bytes
-pub read_held : (most count len : ℕ) (bytes taken : List ℕ) (file : MemFile) (now : Option (List ℕ)) → taken ≡ take count bytes → count ≡ min most len → len ≡ length bytes → bytes ≡ file.bytes.items
-    → seen_file file ≡ now → IsSome now → taken ≡ take most (bytes_or now)
-read_held most count len bytes taken file now is counted long same seen there =
-    is ∙ (ap (λ (n : ℕ). take n bytes) (counted ∙ ap (min most) long) ∙ (take_min most bytes ∙ ap (take most) (same ∙ bytes_held file now seen there)))
+uses_named : (name : FileName) (step : NameEntry → NameEntry) (folder : Folder) → (change_name name step folder).uses ≡ folder.uses
+uses_named (Journal Zero) step folder = refl
+uses_named (Journal One) step folder = refl
+uses_named Store step folder = refl
+uses_named New step folder = refl
 
--- a part of them, which is none of a file that is missing
-part_of : (n place : ℕ) (file : MemFile) (now : Option (List ℕ)) → seen_file file ≡ now → n ≤ length (drop place (bytes_or now)) → take n (drop place file.bytes.items) ≡ take n (drop place (bytes_or now))
-part_of n place file None is within =
-    let nil : List ℕ = [] in
-    let none : n ≡ 0 = omega (arith, length-drop place nil) in
-    ap (λ (m : ℕ). take m (drop place file.bytes.items)) none ∙ ap (λ (m : ℕ). take m (drop place nil)) (sym none)
-part_of n place file (Some bytes) is within = ap (λ (b : List ℕ). take n (drop place b)) (bytes_held file (Some bytes) is (search rules))
+-- one name went on, and maybe how a run has its file
+pub changed_held : (name : FileName) (step : NameEntry → NameEntry) (files after : MemFiles) (out : List ℕ) → IsChanged name step files after
+    → (uses : Uses) → held_in after out (change_name name step (held_in files out uses)).uses ≡ change_name name step (held_in files out uses)
+changed_held name step files after out is uses = ap (held_in after out) (uses_named name step (held_in files out uses)) ∙ is out uses
 
-pub read_part : (n place start len : ℕ) (bytes given : List ℕ) (file : MemFile) (now : Option (List ℕ)) → given ≡ take ((start + n) - start) (drop start bytes) → start ≡ min place len → len ≡ length bytes → bytes ≡ file.bytes.items
-    → seen_file file ≡ now → n ≤ length (drop place (bytes_or now)) → given ≡ take n (drop place (bytes_or now))
-read_part n place start len bytes given file now is begun long same seen within =
+pub used_held : (name : FileName) (how : FileUse) (step : NameEntry → NameEntry) (files after : MemFiles) (out : List ℕ) → IsChanged name step files after
+    → (uses : Uses) → held_in after out (using name how (change_name name step (held_in files out uses))).uses ≡ using name how (change_name name step (held_in files out uses))
+used_held name how step files after out is uses =
+    ap (λ (f : Folder). record f { uses = with_use name how (change_name name step (held_in files out uses)).uses }) (is out uses)
+
+-- nothing was printed
+pub no_text : (files : MemFiles) (out : List ℕ) (uses : Uses) → held_in files out uses ≡ record (held_in files out uses) { out = out ++ [] }
+no_text files out uses = ap (λ (o : List ℕ). held_in files o uses) (sym (append-nil out))
+
+-- ---- what is read
+
+-- a name's part of what is held
+pub entry_held : (name : FileName) (past : FolderPast) (files : MemFiles) (out : List ℕ) → AreHeld past files out → entry_seen (mem_entry name files) ≡ entry_named name (folder_of past)
+entry_held (Journal Zero) past files out held = ap (λ (f : Folder). f.zero) held
+entry_held (Journal One) past files out held = ap (λ (f : Folder). f.one) held
+entry_held Store past files out held = ap (λ (f : Folder). f.store) held
+entry_held New past files out held = ap (λ (f : Folder). f.new) held
+
+pub bytes_held : (name : FileName) (past now : FolderPast) (files : MemFiles) (out : List ℕ) → past ≡ now → AreHeld past files out → bytes_or (bytes_now (entry_seen (mem_entry name files))) ≡ file_bytes name now
+bytes_held name past now files out is held = ap (λ (e : NameEntry). bytes_or (bytes_now e)) (entry_held name past files out held) ∙ ap (file_bytes name) is
+
+pub read_front : (most count len : ℕ) (bytes taken whole : List ℕ) → taken ≡ take count bytes → count ≡ min most len → len ≡ length bytes → bytes ≡ whole → taken ≡ take most whole
+read_front most count len bytes taken whole is counted long same =
+    is ∙ (ap (λ (n : ℕ). take n bytes) (counted ∙ ap (min most) long) ∙ (take_min most bytes ∙ ap (take most) same))
+
+pub read_part : (n place start len : ℕ) (bytes given whole : List ℕ) → given ≡ take ((start + n) - start) (drop start bytes) → start ≡ min place len → len ≡ length bytes → bytes ≡ whole → given ≡ take n (drop place whole)
+read_part n place start len bytes given whole is begun long same =
     let count : (start + n) - start ≡ n = omega arith in
     is ∙ (ap (λ (m : ℕ). take m (drop start bytes)) count ∙ (ap (λ (s : ℕ). take n (drop s bytes)) (begun ∙ ap (min place) long)
-    ∙ (ap (take n) (drop_min place bytes) ∙ (ap (λ (b : List ℕ). take n (drop place b)) same ∙ part_of n place file now seen within))))
+    ∙ (ap (take n) (drop_min place bytes) ∙ ap (λ (b : List ℕ). take n (drop place b)) same)))
 
--- ---- each change
+pub part_within : (n place start len : ℕ) (bytes whole : List ℕ) → start ≡ min place len → len ≡ length bytes → bytes ≡ whole → n ≤ length (drop place whole) → start + n ≤ length bytes
+part_within n place start len bytes whole begun long same within =
+    let size : length bytes ≡ length whole = ap length same in
+    omega (arith, length-drop place whole)
 
-pub made_held : (name : FileName) (files : MemFiles) (file : MemFile) (out : List ℕ) (f : Folder) → seen_file file ≡ Some [] → held_in files out ≡ here_in f → held_in (with_mem_file name file files) out ≡ here_in (folder_after (made name) f)
-made_held (Journal Zero) files file out f now is = ap (λ (b : Option (List ℕ)). record (held_in files out) { zero = b }) now ∙ ap (λ (s : Stopped). record s { zero = Some [] }) is
-made_held (Journal One) files file out f now is = ap (λ (b : Option (List ℕ)). record (held_in files out) { one = b }) now ∙ ap (λ (s : Stopped). record s { one = Some [] }) is
-made_held Store files file out f now is = ap (λ (b : Option (List ℕ)). record (held_in files out) { store = b }) now ∙ ap (λ (s : Stopped). record s { store = Some [] }) is
-made_held New files file out f now is = ap (λ (b : Option (List ℕ)). record (held_in files out) { new = b }) now ∙ ap (λ (s : Stopped). record s { new = Some [] }) is
+-- ---- what a stop leaves
 
-pub removed_held : (name : FileName) (files : MemFiles) (file : MemFile) (out : List ℕ) (f : Folder) → seen_file file ≡ None → held_in files out ≡ here_in f → held_in (with_mem_file name file files) out ≡ here_in (folder_after (removed name) f)
-removed_held (Journal Zero) files file out f now is = ap (λ (b : Option (List ℕ)). record (held_in files out) { zero = b }) now ∙ ap (λ (s : Stopped). record s { zero = None }) is
-removed_held (Journal One) files file out f now is = ap (λ (b : Option (List ℕ)). record (held_in files out) { one = b }) now ∙ ap (λ (s : Stopped). record s { one = None }) is
-removed_held Store files file out f now is = ap (λ (b : Option (List ℕ)). record (held_in files out) { store = b }) now ∙ ap (λ (s : Stopped). record s { store = None }) is
-removed_held New files file out f now is = ap (λ (b : Option (List ℕ)). record (held_in files out) { new = b }) now ∙ ap (λ (s : Stopped). record s { new = None }) is
+pub left_now : {E : Type 0} (made : Result LeftFolder E) (past now : FolderPast) (files : MemFiles) (out seen : List ℕ) → past ≡ now → AreHeld past files out → seen ≡ out
+    → IfOk made (λ left. (uses : Uses) → MayLeaveFolder (held_in files seen uses) (as_stopped left)) → IfOk made (λ left. MayLeaveFolder (folder_of now) (as_stopped left))
+left_now (Ok left) past now files out seen is held same may =
+    subst (λ (p : FolderPast). MayLeaveFolder (folder_of p) (as_stopped left)) is
+    (subst (λ (f : Folder). MayLeaveFolder f (as_stopped left)) held
+    (subst (λ (o : List ℕ). MayLeaveFolder (held_in files o (folder_of past).uses) (as_stopped left)) same (may (folder_of past).uses)))
+left_now (Err e) past now files out seen is held same may = tt
 
-synced_same : (now : Option FolderFile) → option_map (λ (f : FolderFile). f.bytes) now ≡ option_map (λ (f : FolderFile). f.bytes) (option_map after_syncing now)
-synced_same None = refl
-synced_same (Some file) = refl
+pub left_then : (past now : FolderPast) (kept : Kept) (files : MemFiles) (text : Vec ℕ Global) (seen : List ℕ) (left : Stopped) → past ≡ now → IsOfPast past kept → kept ≡ AFolder files text → seen ≡ text.items
+    → ((uses : Uses) → MayLeaveFolder (held_in files seen uses) left) → MayLeaveFolderSince (settled_folder now.first) now.changes 0 left
+left_then past now kept files text seen left same of is all may =
+    let uses : Uses = (settled_folder past.first).uses in
+    let moment : IsOfPast past (AFolder files text) = subst (λ (k : Kept). IsOfPast past k) is of in
+    subst (λ (p : FolderPast). MayLeaveFolderSince (settled_folder p.first) p.changes 0 left) same
+    (moment uses left (subst (λ (o : List ℕ). MayLeaveFolder (held_in files o uses) left) all (may uses)))
 
-pub synced_held : (name : FileName) (files : MemFiles) (out : List ℕ) (f : Folder) → held_in files out ≡ here_in f → held_in files out ≡ here_in (folder_after (synced name) f)
-synced_held (Journal Zero) files out f is = is ∙ ap (λ (b : Option (List ℕ)). record (here_in f) { zero = b }) (synced_same f.zero.now)
-synced_held (Journal One) files out f is = is ∙ ap (λ (b : Option (List ℕ)). record (here_in f) { one = b }) (synced_same f.one.now)
-synced_held Store files out f is = is ∙ ap (λ (b : Option (List ℕ)). record (here_in f) { store = b }) (synced_same f.store.now)
-synced_held New files out f is = is ∙ ap (λ (b : Option (List ℕ)). record (here_in f) { new = b }) (synced_same f.new.now)
+-- ---- what a call answers
 
-pub renamed_held : (files : MemFiles) (store fresh : MemFile) (out : List ℕ) (f : Folder) → store ≡ files.fresh → seen_file fresh ≡ None → held_in files out ≡ here_in f → held_in (record files { store = store; fresh = fresh }) out ≡ here_in (folder_after renamed f)
-renamed_held files store fresh out f moved none is =
-    ap (λ (m : MemFile). held_in (record files { store = m; fresh = fresh }) out) moved
-    ∙ (ap (λ (b : Option (List ℕ)). record (held_in files out) { store = seen_file files.fresh; new = b }) none ∙ ap (λ (s : Stopped). record s { store = s.new; new = None }) is)
+pub of_err : {T E X : Type 0} (r : Result T E) (x y : X) → is_err r ≡ true → (if is_ok r then x else y) ≡ y
+of_err (Ok v) x y is = cc
+of_err (Err e) x y is = refl
 
-pub printed_held : (files : MemFiles) (out piece : List ℕ) (f : Folder) → held_in files out ≡ here_in f → held_in files (out ++ piece) ≡ here_in (folder_after (printed piece) f)
-printed_held files out piece f is = ap (λ (s : Stopped). record s { out = s.out ++ piece }) is
+pub of_ok : {T E X : Type 0} (r : Result T E) (x y : X) → is_err r ≡ false → (if is_ok r then x else y) ≡ x
+of_ok (Ok v) x y is = refl
+of_ok (Err e) x y is = cc
 
-pub nothing_printed : (files : MemFiles) (out : List ℕ) (f : Folder) → held_in files out ≡ here_in f → held_in files out ≡ here_in (folder_after (printed []) f)
-nothing_printed files out f is = ap (λ (o : List ℕ). held_in files o) (sym (append-nil out)) ∙ printed_held files out [] f is
+-- a write that was done or wasn't
+pub may_write : {T E : Type 0} (r : Result T E) (name : FileName) (place n count : ℕ) (came : List ℕ) (old new : FolderPast) → n ≡ count → OnOk r (new ≡ changed_by (wrote name place n came) old) → OnErr r (new ≡ old) → MayWrite name place count old new
+may_write (Ok v) name place n count came old new size is same = (came, inr (is ∙ ap (λ (m : ℕ). changed_by (wrote name place m came) old) size))
+may_write (Err e) name place n count came old new size is same = (came, inl same)
 
-wrote_now : (place count : ℕ) (bytes : List ℕ) (now : Option FolderFile) → IsSome (option_map (λ (f : FolderFile). f.bytes) now)
-    → Some (overlay place (take count bytes) (bytes_or (option_map (λ (f : FolderFile). f.bytes) now))) ≡ option_map (λ (f : FolderFile). f.bytes) (option_map (after_writing place count bytes) now)
-wrote_now place count bytes None there = absurd (not_there there)
-  where
-    not_there : IsSome {T = List ℕ} None → ⊥
-    not_there e = cc
-wrote_now place count bytes (Some file) there = refl
-
--- the bytes that a file then has
-wrote_file : (place : ℕ) (bytes : List ℕ) (old next : MemFile) (now : Option FolderFile) → IsSome (option_map (λ (f : FolderFile). f.bytes) now) → seen_file old ≡ option_map (λ (f : FolderFile). f.bytes) now → seen_file next ≡ Some (overlay place bytes old.bytes.items)
-    → seen_file next ≡ option_map (λ (f : FolderFile). f.bytes) (option_map (after_writing place (length bytes) bytes) now)
-wrote_file place bytes old next now there was is =
-    is ∙ (ap (λ (b : List ℕ). Some (overlay place bytes b)) (bytes_held old (option_map (λ (f : FolderFile). f.bytes) now) was there)
-    ∙ (ap (λ (b : List ℕ). Some (overlay place b (bytes_or (option_map (λ (f : FolderFile). f.bytes) now)))) (sym (take_all (length bytes) bytes (omega arith)))
-    ∙ wrote_now place (length bytes) bytes now there))
-
-pub wrote_held : (name : FileName) (place : ℕ) (bytes : List ℕ) (files : MemFiles) (next : MemFile) (out : List ℕ) (f : Folder) → IsSome (bytes_now (entry_named name f)) → seen_file next ≡ Some (overlay place bytes (mem_file name files).bytes.items) → held_in files out ≡ here_in f
-    → held_in (with_mem_file name next files) out ≡ here_in (folder_after (wrote name place (length bytes) bytes) f)
-wrote_held (Journal Zero) place bytes files next out f there now is = ap (λ (b : Option (List ℕ)). record (held_in files out) { zero = b }) (wrote_file place bytes files.zero next f.zero.now there (ap (λ (s : Stopped). s.zero) is) now) ∙ ap (λ (s : Stopped). record s { zero = bytes_now (folder_after (wrote (Journal Zero) place (length bytes) bytes) f).zero }) is
-wrote_held (Journal One) place bytes files next out f there now is = ap (λ (b : Option (List ℕ)). record (held_in files out) { one = b }) (wrote_file place bytes files.one next f.one.now there (ap (λ (s : Stopped). s.one) is) now) ∙ ap (λ (s : Stopped). record s { one = bytes_now (folder_after (wrote (Journal One) place (length bytes) bytes) f).one }) is
-wrote_held Store place bytes files next out f there now is = ap (λ (b : Option (List ℕ)). record (held_in files out) { store = b }) (wrote_file place bytes files.store next f.store.now there (ap (λ (s : Stopped). s.store) is) now) ∙ ap (λ (s : Stopped). record s { store = bytes_now (folder_after (wrote Store place (length bytes) bytes) f).store }) is
-wrote_held New place bytes files next out f there now is = ap (λ (b : Option (List ℕ)). record (held_in files out) { new = b }) (wrote_file place bytes files.fresh next f.new.now there (ap (λ (s : Stopped). s.new) is) now) ∙ ap (λ (s : Stopped). record s { new = bytes_now (folder_after (wrote New place (length bytes) bytes) f).new }) is
+-- a print of a part, or of nothing
+pub may_print : {T E : Type 0} (r : Result T E) (piece part missing : List ℕ) (old new : FolderPast) → part ++ missing ≡ piece → OnOk r (new ≡ changed_by (printed part) old) → OnErr r (new ≡ changed_by (printed []) old) → MayPrint piece old new
+may_print (Ok v) piece part missing old new splits is none = (part, missing, splits, is)
+may_print (Err e) piece part missing old new splits is none = ([], piece, refl, none)

@@ -12,7 +12,7 @@ use Rattle.host_system.specs.Folder.{NameEntry, Folder, entry_named, use_in, set
 use Rattle.host_system.specs.FolderPast.{FolderPast, IfTold, bytes_or, folder_of}
 use Rattle.host_system.specs.Steps.Quiet.{SeesNothing, Replaces}
 use Rattle.host_system.specs.View.{seen_as, seen_now, store_in, HasSettledStore, is_settled, seen_if, told_over, with_store}
-use Rattle.host_system.proofs.FileLemmas.{keeps_file}
+use Rattle.host_system.proofs.FileLemmas.{keeps_file, weaker}
 
 told_is : (past : FolderPast) → HasSettledStore past → told_over (Some past) ≡ Some (seen_now past)
 told_is past is = ap (λ (b : Bool). seen_if b (seen_now past)) is
@@ -76,6 +76,7 @@ saved_failed (Err e) old new was err = told_kept old new was err
 
 named_file : (file : FileNo) (x y : Folder) → entry_named (Journal file) y ≡ settled_name (entry_named (Journal file) x) → use_in (Journal file) y.uses ≡ use_in (Journal file) x.uses → KeepsFileIn file x y
 named_file file x y entry how = record {
+  held = λ is. record { there = subst (λ (e : NameEntry). IsSome (bytes_now e)) (sym entry) is.there; is_locked = how ∙ is.is_locked };
   usable = λ is. record {
     there = subst (λ (e : NameEntry). IsSome (bytes_now e)) (sym entry) is.there;
     named = ap (λ (e : NameEntry). e.others) entry;
@@ -91,11 +92,6 @@ replaced_file One bytes x y is = named_file One (folder_of x) (folder_of y) is.o
 kept_file : (file : FileNo) (x y : FolderPast) → SeesNothing x y → KeepsFile file x y
 kept_file Zero x y is = keeps_file Zero (folder_of x) (folder_of y) is.zero is.zero_use
 kept_file One x y is = keeps_file One (folder_of x) (folder_of y) is.one is.one_use
-
-weaker : (P Q : FolderPast → FolderPast → Type 0) → ((x y : FolderPast) → P x y → Q x y) → (old new : Option FolderPast) → IfTold P old new → IfTold Q old new
-weaker P Q implies None new is = is
-weaker P Q implies (Some x) None is = is
-weaker P Q implies (Some x) (Some y) is = implies x y is
 
 pub files_kept : (file : FileNo) (old new : Option FolderPast) → IfTold SeesNothing old new → IfTold (KeepsFile file) old new
 files_kept file old new is = weaker SeesNothing (KeepsFile file) (kept_file file) old new is

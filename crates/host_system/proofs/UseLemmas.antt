@@ -4,8 +4,8 @@ use Rattle.std.specs.Prelude.{Option, None, IfSome, IsSome, Result, Ok, Err, OnE
 use Rattle.board_core.specs.declared.board.FileNo.{FileNo}
 use Rattle.board_core.specs.declared.board.FileNo.TheVariants.{Zero, One}
 use Rattle.host_system.specs.declared.system.FileName.TheVariants.{Journal}
-use Rattle.host_system.specs.BoardFile.{IsUsableIn, IsOpenableIn, IsUsable, IsOpenable}
-use Rattle.host_system.specs.Folder.{Folder, FileUse, opened, locked, lost, use_in, entry_named, FolderChange, made, opens, locks, synced_names, folder_after, bytes_now}
+use Rattle.host_system.specs.BoardFile.{IsUsableIn, IsHeldIn, IsOpenable, IsHeld}
+use Rattle.host_system.specs.Folder.{Folder, opened, locked, lost, use_in, entry_named, FolderChange, made, opens, locks, synced_names, folder_after, bytes_now}
 use Rattle.host_system.specs.FolderPast.{FolderPast, Did, IfTold, changed_by, folder_of, MayDo, HasFile, IsOpen}
 use Rattle.host_system.specs.Steps.FolderPastLemmas.{folder_of-more}
 use Rattle.host_system.proofs.FileLemmas.{did_by, may_by}
@@ -37,38 +37,38 @@ whatever (Some past) = tt
 abbrev HasFileIn : FileNo → Folder → Type 0
 HasFileIn file folder = IsSome (bytes_now (entry_named (Journal file) folder))
 
--- a file that is there and open, and one that is locked
-pub record IsOpenIn (file : FileNo) (how : FileUse) (folder : Folder) : Type 0 where
+-- a file that is there and open, but not locked
+pub record IsOpenIn (file : FileNo) (folder : Folder) : Type 0 where
   pub there : HasFileIn file folder
-  pub is : use_in (Journal file) folder.uses ≡ how
+  pub is : use_in (Journal file) folder.uses ≡ opened
 
-made_goes : (file : FileNo) (f : Folder) → Whatever f → IsOpenIn file opened (folder_after (made (Journal file)) f)
+made_goes : (file : FileNo) (f : Folder) → Whatever f → IsOpenIn file (folder_after (made (Journal file)) f)
 made_goes Zero f any = record { there = refl; is = refl }
 made_goes One f any = record { there = refl; is = refl }
 
-opens_goes : (file : FileNo) (f : Folder) → HasFileIn file f → IsOpenIn file opened (folder_after (opens (Journal file)) f)
+opens_goes : (file : FileNo) (f : Folder) → HasFileIn file f → IsOpenIn file (folder_after (opens (Journal file)) f)
 opens_goes Zero f there = record { there = there; is = refl }
 opens_goes One f there = record { there = there; is = refl }
 
-locks_goes : (file : FileNo) (f : Folder) → HasFileIn file f → IsOpenIn file locked (folder_after (locks (Journal file)) f)
-locks_goes Zero f there = record { there = there; is = refl }
-locks_goes One f there = record { there = there; is = refl }
+locks_goes : (file : FileNo) (f : Folder) → HasFileIn file f → IsHeldIn file (folder_after (locks (Journal file)) f)
+locks_goes Zero f there = record { there = there; is_locked = refl }
+locks_goes One f there = record { there = there; is_locked = refl }
 
-named_goes : (file : FileNo) (f : Folder) → IsOpenIn file locked f → IsUsableIn file (folder_after synced_names f)
-named_goes Zero f held = record { there = held.there; named = refl; is_locked = held.is }
-named_goes One f held = record { there = held.there; named = refl; is_locked = held.is }
+pub named_goes : (file : FileNo) (f : Folder) → IsHeldIn file f → IsUsableIn file (folder_after synced_names f)
+named_goes Zero f held = record { there = held.there; named = refl; is_locked = held.is_locked }
+named_goes One f held = record { there = held.there; named = refl; is_locked = held.is_locked }
 
-abbrev IsOpenNow : FileNo → FileUse → FolderPast → Type 0
-IsOpenNow file how past = IsOpenIn file how (folder_of past)
+abbrev IsOpenNow : FileNo → FolderPast → Type 0
+IsOpenNow file past = IsOpenIn file (folder_of past)
 
 if_some : (P Q : FolderPast → Type 0) → ((p : FolderPast) → P p → Q p) → (told : Option FolderPast) → IfSome told P → IfSome told Q
 if_some P Q implies None was = tt
 if_some P Q implies (Some past) was = implies past was
 
-is_opened : (file : FileNo) (p : FolderPast) → IsOpenNow file opened p → IsOpen (Journal file) p
+is_opened : (file : FileNo) (p : FolderPast) → IsOpenNow file p → IsOpen (Journal file) p
 is_opened file p was = inl was.is
 
-is_openable : (file : FileNo) (p : FolderPast) → IsOpenNow file opened p → IsOpenable file p
+is_openable : (file : FileNo) (p : FolderPast) → IsOpenNow file p → IsOpenable file p
 is_openable file p was = λ gone. opened_lost (sym was.is ∙ gone)
 
 -- what is known of a file once it is open
@@ -77,18 +77,18 @@ pub record Opened (file : FileNo) (told : Option FolderPast) : Type 0 where
   pub opened : IfSome told (IsOpen (Journal file))
   pub openable : IfSome told (IsOpenable file)
 
-opened_now : (file : FileNo) (told : Option FolderPast) → IfSome told (IsOpenNow file opened) → Opened file told
+opened_now : (file : FileNo) (told : Option FolderPast) → IfSome told (IsOpenNow file) → Opened file told
 opened_now file told was = record {
-  there = if_some (IsOpenNow file opened) (HasFile (Journal file)) (λ p was. was.there) told was;
-  opened = if_some (IsOpenNow file opened) (IsOpen (Journal file)) (is_opened file) told was;
-  openable = if_some (IsOpenNow file opened) (IsOpenable file) (is_openable file) told was;
+  there = if_some (IsOpenNow file) (HasFile (Journal file)) (λ p was. was.there) told was;
+  opened = if_some (IsOpenNow file) (IsOpen (Journal file)) (is_opened file) told was;
+  openable = if_some (IsOpenNow file) (IsOpenable file) (is_openable file) told was;
 }
 
 pub made_opened : (file : FileNo) (old new : Option FolderPast) → Did (made (Journal file)) old new → Opened file new
-made_opened file old new is = opened_now file new (after_did (made (Journal file)) Whatever (IsOpenIn file opened) (made_goes file) old new is (whatever old))
+made_opened file old new is = opened_now file new (after_did (made (Journal file)) Whatever (IsOpenIn file) (made_goes file) old new is (whatever old))
 
 pub opens_opened : (file : FileNo) (old new : Option FolderPast) → IfSome old (HasFile (Journal file)) → Did (opens (Journal file)) old new → Opened file new
-opens_opened file old new there is = opened_now file new (after_did (opens (Journal file)) (HasFileIn file) (IsOpenIn file opened) (opens_goes file) old new is there)
+opens_opened file old new there is = opened_now file new (after_did (opens (Journal file)) (HasFileIn file) (IsOpenIn file) (opens_goes file) old new is there)
 
 pub made_may_openable : (file : FileNo) (old new : Option FolderPast) → IfSome old (IsOpenable file) → IfTold (MayDo (made (Journal file))) old new → IfSome new (IsOpenable file)
 made_may_openable file old new was is =
@@ -96,26 +96,16 @@ made_may_openable file old new was is =
     (λ x y done w. elim done [ inl same ↦ subst (IsOpenable file) (sym same) w | inr did ↦ subst (IsOpenable file) (sym did) ((made_opened file (Some x) (Some (changed_by (made (Journal file)) x)) refl).openable) ])
     old new is was
 
-locks_held : (file : FileNo) (a b : Option FolderPast) → IfSome a (HasFile (Journal file)) → Did (locks (Journal file)) a b → IfSome b (IsOpenNow file locked)
-locks_held file a b there locks_it = after_did (locks (Journal file)) (HasFileIn file) (IsOpenIn file locked) (locks_goes file) a b locks_it there
+locks_held : (file : FileNo) (old new : Option FolderPast) → IfSome old (HasFile (Journal file)) → Did (locks (Journal file)) old new → IfSome new (IsHeld file)
+locks_held file old new there is = after_did (locks (Journal file)) (HasFileIn file) (IsHeldIn file) (locks_goes file) old new is there
 
-is_usable_openable : (file : FileNo) (f : Folder) → IsUsableIn file f → IsOpenableIn file f
-is_usable_openable file f was = λ gone. locked_lost (sym was.is_locked ∙ gone)
+pub held_end : {T E : Type 0} (file : FileNo) (result : Result T E) (old new : Option FolderPast) → IfSome old (HasFile (Journal file)) → OnOk result (Did (locks (Journal file)) old new) → OnOk result (IfSome new (IsHeld file))
+held_end file (Ok x) old new there ok = locks_held file old new there ok
+held_end file (Err e) old new there ok = ok
 
-pub usable_did : (file : FileNo) (a b c : Option FolderPast) → IfSome a (HasFile (Journal file)) → Did (locks (Journal file)) a b → Did synced_names b c → IfSome c (IsUsable file)
-usable_did file a b c there locks_it names = after_did synced_names (IsOpenIn file locked) (IsUsableIn file) (named_goes file) b c names (locks_held file a b there locks_it)
-
-pub usable_end : {T E : Type 0} (file : FileNo) (result : Result T E) (a b c : Option FolderPast) → IfSome a (HasFile (Journal file)) → Did (locks (Journal file)) a b → OnOk result (Did synced_names b c) → OnOk result (IfSome c (IsUsable file))
-usable_end file (Ok x) a b c there locks_it ok = usable_did file a b c there locks_it ok
-usable_end file (Err e) a b c there locks_it ok = ok
-
-pub usable_openable : (file : FileNo) (told : Option FolderPast) → IfSome told (IsUsable file) → IfSome told (IsOpenable file)
-usable_openable file told was = if_some (IsUsable file) (IsOpenable file) (λ p is. is_usable_openable file (folder_of p) is) told was
-
--- a folder's sync that fails is of a system that tells nothing
-pub openable_end : {T E : Type 0} (file : FileNo) (result : Result T E) (a b c : Option FolderPast) → IfSome a (HasFile (Journal file)) → Did (locks (Journal file)) a b → OnOk result (Did synced_names b c) → OnErr result (IfTold (λ x y. ⊥) b c) → IfSome c (IsOpenable file)
-openable_end file (Ok x) a b c there locks_it ok err = usable_openable file c (usable_did file a b c there locks_it ok)
-openable_end file (Err e) a b c there locks_it ok err = may_by (λ x y. ⊥) (λ (o n : Option FolderPast). IfSome n (IsOpenable file)) tt (λ x y never. absurd never) b c err
+pub locked_openable : {T E : Type 0} (file : FileNo) (result : Result T E) (old new : Option FolderPast) → IfSome old (HasFile (Journal file)) → IfSome old (IsOpenable file) → OnOk result (Did (locks (Journal file)) old new) → OnErr result (new ≡ old) → IfSome new (IsOpenable file)
+locked_openable file (Ok x) old new there was ok err = if_some (IsHeld file) (IsOpenable file) (λ p held gone. locked_lost (sym held.is_locked ∙ gone)) new (locks_held file old new there ok)
+locked_openable file (Err e) old new there was ok err = kept_same (IsOpenable file) old new err was
 
 -- ---- a call at the end of an opening, however it ended
 

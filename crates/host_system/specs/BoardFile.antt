@@ -28,13 +28,35 @@ IsUsable file past = IsUsableIn file (folder_of past)
 abbrev pub IsOpenable : FileNo → FolderPast → Type 0
 IsOpenable file past = IsOpenableIn file (folder_of past)
 
+-- A file is there and locked. Its name may not be on the disk yet.
+pub record IsHeldIn (file : FileNo) (folder : Folder) : Type 0 where
+  pub there : IsSome (bytes_now (entry_named (Journal file) folder))
+  pub is_locked : use_in (Journal file) folder.uses ≡ locked
+
+abbrev pub IsHeld : FileNo → FolderPast → Type 0
+IsHeld file past = IsHeldIn file (folder_of past)
+
 -- A file stays as usable as it was.
 pub record KeepsFileIn (file : FileNo) (old new : Folder) : Type 0 where
+  pub held : IsHeldIn file old → IsHeldIn file new
   pub usable : IsUsableIn file old → IsUsableIn file new
   pub openable : IsOpenableIn file old → IsOpenableIn file new
 
 abbrev pub KeepsFile : FileNo → FolderPast → FolderPast → Type 0
 KeepsFile file old new = KeepsFileIn file (folder_of old) (folder_of new)
+
+-- both files
+pub record AreOpenable (past : FolderPast) : Type 0 where
+  pub zero : IsOpenable Zero past
+  pub one : IsOpenable One past
+
+pub record AreUsable (past : FolderPast) : Type 0 where
+  pub zero : IsUsable Zero past
+  pub one : IsUsable One past
+
+-- A call leaves nothing of the store's file on its way that wasn't.
+abbrev pub KeepsSettled : FolderPast → FolderPast → Type 0
+KeepsSettled old new = is_settled (folder_of old).store ≡ true → is_settled (folder_of new).store ≡ true
 
 abbrev pub other_than : FileNo → FileNo
 other_than Zero = One

@@ -1,10 +1,35 @@
--- What a system in memory keeps: what was done, by numbers and bytes.
-use Rattle.std.specs.Prelude.{ℕ, zero, suc, List, [], ◌∷◌, None}
+-- What a system in memory keeps: what it began with, and what was done, by numbers and bytes.
+use Rattle.std.specs.Prelude.{ℕ, zero, suc, List, [], ◌∷◌, Option, None, Vec}
+use Rattle.std.specs.Option.{option_map}
+use Rattle.std.specs.declared.alloc.Global.{Global}
 use Rattle.board_core.specs.declared.board.FileNo.TheVariants.{Zero, One}
+use Rattle.host_system.specs.declared.left_folder.LeftFolder.{LeftFolder}
 use Rattle.host_system.specs.declared.system.FileName.{FileName}
 use Rattle.host_system.specs.declared.system.FileName.TheVariants.{Journal, Store, New}
 use Rattle.host_system.specs.Folder.{FolderChange, wrote, synced, made, opens, locks, loses, removed, renamed, synced_names, printed, Stopped}
 use Rattle.host_system.specs.FolderPast.{FolderPast}
+
+-- the bytes of a file that may be missing
+abbrev pub items_in : Option (Vec ℕ Global) → Option (List ℕ)
+items_in bytes = option_map (λ v. v.items) bytes
+
+abbrev pub as_stopped : LeftFolder → Stopped
+as_stopped left = record {
+  zero = items_in left.zero;
+  one = items_in left.one;
+  store = items_in left.store;
+  new = items_in left.fresh;
+  out = left.out.items;
+}
+
+abbrev pub nothing_there : Stopped
+nothing_there = record { zero = None; one = None; store = None; new = None; out = [] }
+
+-- a system that begins over these files, with nothing printed
+abbrev pub begun_over : Stopped → FolderPast
+begun_over start = record { first = record start { out = [] }; changes = [] }
+
+-- ---- what was done, as it is noted
 
 abbrev pub nth_or : {T : Type 0} → T → ℕ → List T → T
 nth_or last n [] = last
@@ -28,9 +53,6 @@ abbrev pub changes_noted : List (List ℕ × List ℕ) → List FolderChange
 changes_noted [] = []
 changes_noted (call ∷ calls) = change_noted call.0 call.1 ∷ changes_noted calls
 
-abbrev pub nothing_there : Stopped
-nothing_there = record { zero = None; one = None; store = None; new = None; out = [] }
-
--- what was done to an empty folder
-abbrev pub past_noted : List (List ℕ × List ℕ) → FolderPast
-past_noted calls = record { first = nothing_there; changes = changes_noted calls }
+-- what was done to a folder that began so
+abbrev pub past_noted : Stopped → List (List ℕ × List ℕ) → FolderPast
+past_noted first calls = record { first = first; changes = changes_noted calls }

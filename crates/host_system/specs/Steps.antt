@@ -4,3 +4,5 @@ pub mod FolderPastLemmas
 pub mod LawLemmas
 pub mod Quiet
 pub mod MemFiles
+pub mod LeftFolder
+pub mod Kept

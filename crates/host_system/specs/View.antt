@@ -3,10 +3,14 @@ use Rattle.std.specs.Prelude.{◌≡◌, ℕ, List, [], ◌∷◌, length, Bool,
 use Rattle.erst_store.specs.Store.{Stored}
 use Rattle.erst_store.specs.StoreReading.{file_at}
 use Rattle.erst_store.specs.declared.reading.StoreRefused.{StoreRefused}
+use Rattle.ras_base.specs.LittleEndian.{AreBytes}
 use Rattle.board_core.specs.Clock.{Clock, untold}
+use Rattle.board_core.specs.declared.board.FileNo.TheVariants.{Zero, One}
+use Rattle.host_system.specs.declared.system.FileName.{FileName}
+use Rattle.host_system.specs.declared.system.FileName.TheVariants.{Journal, Store, New}
 use Rattle.board_core.specs.Stop.{Left}
 use Rattle.host_system.specs.Folder.{FolderFile, NameEntry, Stopped, here_in, settled_folder}
-use Rattle.host_system.specs.FolderPast.{FolderPast, MayLeaveFolderSince, bytes_or, folder_of}
+use Rattle.host_system.specs.FolderPast.{FolderPast, MayLeaveFolderSince, bytes_or, folder_of, file_bytes, IsNotLost}
 
 -- The store that a file holds: none if it is missing or holds no store.
 abbrev pub store_or : Result (List Stored) StoreRefused → List Stored
@@ -66,3 +70,18 @@ HasSettledStore past = is_settled (folder_of past).store ≡ true
 
 abbrev pub with_store : List Stored → Left → Left
 with_store store left = record left { store = store }
+
+-- A read gives what was written, unless a sync of the file failed. The record store's file is never
+-- written in its place, so nothing of it may be on its way to the disk.
+abbrev pub MayBeRead : FileName → FolderPast → Type 0
+MayBeRead (Journal file) past = IsNotLost (Journal file) past
+MayBeRead Store past = HasSettledStore past
+MayBeRead New past = IsNotLost New past
+
+-- A folder that a board may begin over: no sync of a journal file failed, nothing of the record
+-- store's file is on its way, and that file is made of bytes.
+pub record MayBegin (past : FolderPast) : Type 0 where
+  pub zero : IsNotLost (Journal Zero) past
+  pub one : IsNotLost (Journal One) past
+  pub settled : HasSettledStore past
+  pub bytes : AreBytes (file_bytes Store past)

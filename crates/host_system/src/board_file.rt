@@ -4,7 +4,7 @@ ghost use Rattle.board_core.specs.Clock.{Passes, Leads, IsSynced};
 ghost use Rattle.board_core.specs.Stop.{Same, InFile, InOut, Begins, Appends, file_in};
 ghost use Rattle.board_core.specs.declared.board.FileNo.{FileNo};
 ghost use Rattle.board_core.specs.Told.{ReadsBytes, Torn};
-ghost use Rattle.host_system.specs.BoardFile.{IsUsable, IsOpenable, KeepsOthers, SeesSame, SeesWritten, SeesTorn, SeesPrinted, SeesBegun};
+ghost use Rattle.host_system.specs.BoardFile.{IsUsable, IsOpenable, IsHeld, AreOpenable, AreUsable, KeepsSettled, KeepsOthers, SeesSame, SeesWritten, SeesTorn, SeesPrinted, SeesBegun};
 ghost use Rattle.host_system.specs.FolderPast.{IfTold, HasFile, IsOpen};
 ghost use Rattle.host_system.specs.View.{clock_over, seen_now};
 ghost use Rattle.host_system.specs.declared.system.FileName.TheVariants.{Journal};
@@ -12,19 +12,32 @@ ghost use Rattle.host_system.specs.declared.system.FileName.TheVariants.{Journal
 use crate::{FileName, System};
 use board_core::{Failed, FileNo};
 
-/// Opens a file of which no sync failed and locks it: a missing one is made. Its name is brought to
-/// the disk, whether this call made it or not.
-pub fn open_file<S: System>(file: FileNo, system: &mut S) -> Result<(), Failed>
+/// Opens both files, of which no sync failed, and locks them: a missing one is made. Then their
+/// names are brought to the disk, whether this call made them or not.
+pub fn open_files<S: System>(system: &mut S) -> Result<(), Failed>
+    requires { IfSome (S.told system.old) AreOpenable }
+    ensures told { IfTold SeesSame (S.told system.old) (S.told system.new) }
+    ensures settled { IfTold KeepsSettled (S.told system.old) (S.told system.new) }
+    ensures stops { Passes Same (clock_over (S.told system.old)) (clock_over (S.told system.new)) }
+    ensures openable { IfSome (S.told system.new) AreOpenable }
+    ensures usable { OnOk result (IfSome (S.told system.new) AreUsable) }
+{
+    open_file(FileNo::Zero, system)?;
+    open_file(FileNo::One, system)?;
+    system.sync_names()
+}
+
+// Opens a file and locks it: a missing one is made.
+fn open_file<S: System>(file: FileNo, system: &mut S) -> Result<(), Failed>
     requires { IfSome (S.told system.old) (IsOpenable file) }
     ensures told { IfTold SeesSame (S.told system.old) (S.told system.new) }
     ensures keeps { IfTold (KeepsOthers file) (S.told system.old) (S.told system.new) }
     ensures stops { Passes Same (clock_over (S.told system.old)) (clock_over (S.told system.new)) }
     ensures openable { IfSome (S.told system.new) (IsOpenable file) }
-    ensures usable { OnOk result (IfSome (S.told system.new) (IsUsable file)) }
+    ensures held { OnOk result (IfSome (S.told system.new) (IsHeld file)) }
 {
     open_or_make(file, system)?;
-    system.lock(FileName::Journal(file))?;
-    system.sync_names()
+    system.lock(FileName::Journal(file))
 }
 
 // Opens a file: a missing one is made.

@@ -1,9 +1,11 @@
 //! What holds of each past of a folder, seen as a board.
-ghost use Rattle.std.specs.Prelude.{◌≡◌, ℕ, ◌≤◌, Option, Some};
+ghost use Rattle.std.specs.Prelude.{◌≡◌, ℕ, ◌≤◌, [], Option, Some};
+ghost use Rattle.ras_base.specs.LittleEndian.{AreBytes};
 ghost use Rattle.board_core.specs.Clock.{LeftNow};
 ghost use Rattle.board_core.specs.Stop.{Left};
-ghost use Rattle.host_system.specs.FolderPast.{FolderPast};
-ghost use Rattle.host_system.specs.View.{told_over, clock_over};
+ghost use Rattle.host_system.specs.FolderPast.{FolderPast, bytes_or};
+ghost use Rattle.host_system.specs.Folder.{Stopped};
+ghost use Rattle.host_system.specs.View.{MayBegin, told_over, clock_over};
 
 /// The laws of a board, of what is told over a system and of its moments: they hold whatever was
 /// done. The function does nothing: its clauses are what it is for.
@@ -21,4 +23,8 @@ pub fn system_laws()
     // What counts from a moment on counts from an earlier one on too.
     ensures earlier { (past : Option FolderPast) (s t : ℕ) (left : Left) → s ≤ t
         → (clock_over past).may_leave_since t left → (clock_over past).may_leave_since s left }
+
+    // A board may begin over whatever files a stop has left.
+    ensures begins { (start : Stopped) → AreBytes (bytes_or start.store)
+        → MayBegin (record { first = start; changes = [] }) }
 {}

@@ -3,15 +3,17 @@
 
 mod board_file;
 mod laws;
+mod left_folder;
 mod mem_files;
 mod mem_system;
 mod notes;
 mod store_file;
 mod system;
 
-pub use board_file::{file_size, open_file, print, read_file, sync_file, write_file};
+pub use board_file::{file_size, open_files, print, read_file, sync_file, write_file};
 pub use laws::system_laws;
-pub use mem_system::MemSystem;
+pub use left_folder::{LeftFolder, NamePick, StopPick, WriteLeft};
+pub use mem_system::{Effect, MemSystem};
 pub use notes::Notes;
 pub use store_file::replace_store;
 pub use system::{FileName, Input, System};

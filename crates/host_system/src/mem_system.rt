@@ -1,42 +1,90 @@
 //! A system in memory.
-ghost use Rattle.std.specs.Prelude.{◌≡◌, [], ◌∷◌, ◌++◌, false, length, Some, IfSome};
-ghost use Rattle.host_system.specs.FolderPast.{file_bytes};
-ghost use Rattle.host_system.specs.MemSystem.{past_noted};
+ghost use Rattle.std.specs.Prelude.{◌≡◌, ◌+◌, ◌^◌, ◌<◌, ◌≤◌, [], ◌∷◌, ◌++◌, length, Some, IfSome, IfOk, OnOk, OnErr};
+ghost use Rattle.host_system.specs.Folder.{MayLeaveFolder, settled_folder, made, removed, wrote, printed};
+ghost use Rattle.host_system.specs.FolderPast.{MayLeaveFolderSince, HasFile, MayWrite, MayPrint, changed_by, file_bytes, folder_of};
+ghost use Rattle.host_system.specs.MemSystem.{as_stopped, nothing_there, begun_over};
+ghost use Rattle.host_system.specs.Steps.Kept.{IsCopied};
 ghost use Rattle.host_system.specs.Steps.MemFiles.{number_of};
 
-use crate::mem_files::{MemFile, MemFiles, overlaid};
+use crate::left_folder::{LeftFolder, StopPick, left_of_folder};
+use crate::mem_files::{MemEntry, MemFile, MemFiles};
 use crate::notes::Notes;
 use crate::{FileName, System};
 use board_core::{Failed, FileNo};
 use ras_base::NoMemory;
 use std::alloc::Global;
 use std::marker::Model;
-use std::mem;
 
 /// A system in memory, which tells all and fails at chosen calls.
 ///
-/// A call that fails has done nothing, but for a sync, after which the file is lost. A call that is
-/// refused memory fails.
+/// It keeps what the disk may have of each file and of each name, so that it can tell what a stop
+/// leaves. A call that is refused memory fails, and has done nothing.
 #[derive(Drop)]
 pub struct MemSystem {
     alloc: Global,
+    first: LeftFolder,
     files: MemFiles,
     out: Vec<u8>,
-    fails: Vec<u64>,
+    fails: Vec<ChosenFailure>,
     made: u64,
+    stop: u64,
+    kept: Kept,
     notes: Notes,
+}
+
+/// What there was before a call.
+#[derive(Drop)]
+enum Kept {
+    /// The call hasn't come.
+    Nothing,
+    /// These files, and this output.
+    Folder(MemFiles, Vec<u8>),
+    /// Memory ran out.
+    NoMemory,
+}
+
+#[derive(Clone, Copy)]
+struct ChosenFailure {
+    call: u64,
+    effect: Effect,
+}
+
+/// What a call has done that fails. A sync that fails loses its file, whatever is chosen.
+#[derive(Clone, Copy, Debug, PartialEq, Eq)]
+pub enum Effect {
+    /// Nothing.
+    Nothing,
+    /// All that it was asked for: of a write, of a print, or of making or removing a file.
+    All,
+    /// So many bytes of a write or of a print.
+    Part(u64),
+    /// A write of this byte in the place of each that was to be written.
+    Other(u8),
 }
 
 impl Model for MemSystem {
     ghost use Rattle.host_system.specs.FolderPast.{FolderPast};
-    ghost use Rattle.host_system.specs.MemSystem.{past_noted};
-    ghost use Rattle.host_system.specs.Steps.MemFiles.{AreHeld};
+    ghost use Rattle.host_system.specs.MemSystem.{as_stopped, past_noted};
+    ghost use Rattle.host_system.specs.Steps.Kept.{Holds};
 
     ghost Value = { FolderPast };
 
-    ghost view = { λ s. past_noted s.notes.calls };
+    ghost view = { λ s. past_noted (as_stopped s.first) s.notes.calls };
 
-    ghost invariant = { λ s. AreHeld s.notes.calls s.files s.out.items };
+    ghost invariant = { λ s.
+        Holds (past_noted (as_stopped s.first) s.notes.calls) s.files s.out.items s.kept };
+}
+
+fn kept_folder(alloc: Global, files: &MemFiles, out: &[u8]) -> Kept
+    ensures { IsCopied files.now out.now result }
+{
+    let Ok(files) = files.copy(alloc) else {
+        return Kept::NoMemory;
+    };
+    let Ok(out) = Vec::from_slice(alloc, out) else {
+        return Kept::NoMemory;
+    };
+    Kept::Folder(files, out)
 }
 
 fn number(name: FileName) -> u64
@@ -50,60 +98,238 @@ fn number(name: FileName) -> u64
     }
 }
 
-fn note(notes: &mut Notes, change: u64, name: FileName, place: u64, bytes: &[u8])
+fn note(notes: &mut Notes, change: u64, name: FileName, place: u64, count: u64, bytes: &[u8])
     ensures { notes.new.calls ≡ notes.old.calls
-        ++ ((change ∷ number_of name ∷ place ∷ length bytes.now ∷ []), bytes.now) ∷ [] }
+        ++ ((change ∷ number_of name ∷ place ∷ count ∷ []), bytes.now) ∷ [] }
 {
-    notes.note(&[change, number(name), place, bytes.len() as u64], bytes);
-}
-
-fn no_file(alloc: Global) -> MemFile
-    ensures { result.is_there ≡ false }
-{
-    MemFile {
-        is_there: false,
-        bytes: Vec::new(alloc),
-    }
+    notes.note(&[change, number(name), place, count], bytes);
 }
 
 impl MemSystem {
     /// An empty folder, with nothing printed.
     pub fn new(alloc: Global) -> MemSystem
-        ensures { result ≡ past_noted [] }
+        ensures { result ≡ begun_over nothing_there }
     {
+        MemSystem::begun(alloc, LeftFolder::empty(alloc), LeftFolder::empty(alloc))
+    }
+
+    /// A folder with these files, all of it on the disk, and with nothing printed.
+    pub fn over(alloc: Global, start: &LeftFolder) -> Result<MemSystem, NoMemory>
+        ensures { IfOk result (λ system. system ≡ begun_over (as_stopped start.now)) }
+    {
+        let first = start.copy(alloc)?;
+        Ok(MemSystem::begun(alloc, first, start.copy(alloc)?))
+    }
+
+    // A folder that begins with these files, given twice.
+    fn begun(alloc: Global, first: LeftFolder, start: LeftFolder) -> MemSystem
+        requires { as_stopped start ≡ as_stopped first }
+        ensures { result ≡ begun_over (as_stopped first) }
+    {
+        let first = LeftFolder {
+            zero: first.zero,
+            one: first.one,
+            store: first.store,
+            fresh: first.fresh,
+            out: Vec::new(alloc),
+        };
         MemSystem {
             alloc,
+            first,
             files: MemFiles {
-                zero: no_file(alloc),
-                one: no_file(alloc),
-                store: no_file(alloc),
-                fresh: no_file(alloc),
+                zero: MemEntry::settled(alloc, start.zero),
+                one: MemEntry::settled(alloc, start.one),
+                store: MemEntry::settled(alloc, start.store),
+                fresh: MemEntry::settled(alloc, start.fresh),
             },
             out: Vec::new(alloc),
             fails: Vec::new(alloc),
             made: 0,
+            stop: 0,
+            kept: Kept::Nothing,
             notes: Notes::new(),
         }
     }
 
-    /// Makes the call of this number fail. All calls of the trait but `sync_names` are numbered
-    /// from 1.
-    pub fn fail_at(&mut self, call: u64) -> Result<(), NoMemory>
+    /// Makes the call of this number fail, with this done. All calls of the trait are numbered from
+    /// 1, but `sync_names` doesn't fail.
+    pub fn fail_at(&mut self, call: u64, effect: Effect) -> Result<(), NoMemory>
         ensures { self.new ≡ self.old }
     {
-        self.fails.push(call)?;
+        self.fails.push(ChosenFailure { call, effect })?;
         Ok(())
     }
 
-    // Counts a call, and fails if its number was chosen to.
-    fn begin(&mut self) -> Result<(), Failed>
+    /// What a stop now leaves, by this choice.
+    pub fn left(&self, pick: &StopPick) -> Result<LeftFolder, NoMemory>
+        ensures { IfOk result (λ left. MayLeaveFolder (folder_of self.now) (as_stopped left)) }
+    {
+        left_of_folder(self.alloc, &self.files, &self.out, pick)
+    }
+
+    /// Chooses the moment before the call of this number, of which `left_before` tells. The last
+    /// choice stands, and it is to be made before that call.
+    pub fn stop_before(&mut self, call: u64)
+        ensures { self.new ≡ self.old }
+    {
+        self.stop = call;
+    }
+
+    /// What a stop at the chosen moment left, by this choice: none if it hasn't come.
+    pub fn left_before(&self, pick: &StopPick) -> Result<Option<LeftFolder>, NoMemory>
+        ensures { IfOk result (λ found. IfSome found (λ left.
+            MayLeaveFolderSince (settled_folder self.now.first) self.now.changes 0
+            (as_stopped left))) }
+    {
+        match &self.kept {
+            Kept::Nothing => Ok(None),
+            Kept::Folder(files, out) => {
+                let left = left_of_folder(self.alloc, files, out, pick)?;
+                Ok(Some(left))
+            }
+            Kept::NoMemory => Err(NoMemory),
+        }
+    }
+
+    // Counts a call. If a stop is to come before it, what is there is kept.
+    fn count(&mut self)
         ensures { self.new ≡ self.old }
     {
         self.made = self.made.saturating_add(1);
-        if self.fails.contains(&self.made) {
+        if self.made == self.stop {
+            self.keep();
+        }
+    }
+
+    // Keeps what is there now for `left_before`.
+    fn keep(&mut self)
+        ensures { self.new ≡ self.old }
+    {
+        self.kept = kept_folder(self.alloc, &self.files, &self.out);
+    }
+
+    // Counts a call, and says what it has done if it was chosen to fail.
+    fn fault(&mut self) -> Option<Effect>
+        ensures { self.new ≡ self.old }
+    {
+        self.count();
+        let made = self.made;
+        match self.fails.iter().find(|fails| fails.call == made) {
+            Some(fails) => Some(fails.effect),
+            None => None,
+        }
+    }
+
+    // Counts a call, and fails if it was chosen to.
+    fn begin(&mut self) -> Result<(), Failed>
+        ensures { self.new ≡ self.old }
+    {
+        match self.fault() {
+            Some(_) => Err(Failed),
+            None => Ok(()),
+        }
+    }
+
+    fn make_file(&mut self, name: FileName) -> Result<(), Failed>
+        ensures ok { OnOk result (self.new ≡ changed_by (made name) self.old) }
+        ensures err { OnErr result (self.new ≡ self.old) }
+    {
+        let file = MemFile::empty(self.alloc);
+        let Ok(()) = self.files.renew(name, Some(file)) else {
+            return Err(Failed);
+        };
+        note(&mut self.notes, 2, name, 0, 0, &[]);
+        Ok(())
+    }
+
+    fn remove_file(&mut self, name: FileName) -> Result<(), Failed>
+        ensures ok { OnOk result (self.new ≡ changed_by (removed name) self.old) }
+        ensures err { OnErr result (self.new ≡ self.old) }
+    {
+        let Ok(()) = self.files.renew(name, None) else {
+            return Err(Failed);
+        };
+        note(&mut self.notes, 6, name, 0, 0, &[]);
+        Ok(())
+    }
+
+    // A write of which so many bytes are missing.
+    fn write(
+        &mut self,
+        name: FileName,
+        place: u64,
+        bytes: &[u8],
+        missing: u64,
+    ) -> Result<(), Failed>
+        requires there { HasFile name self.old }
+        requires within { place ≤ length (file_bytes name self.old) }
+        requires fits { length bytes.now + missing < 2 ^ 64 }
+        ensures ok { OnOk result (self.new ≡ changed_by
+            (wrote name place (length bytes.now + missing) bytes.now) self.old) }
+        ensures err { OnErr result (self.new ≡ self.old) }
+    {
+        let Ok(()) = self.files.write(self.alloc, name, place, bytes, missing) else {
+            return Err(Failed);
+        };
+        let count = bytes.len() as u64 + missing;
+        note(&mut self.notes, 0, name, place, count, bytes);
+        Ok(())
+    }
+
+    // A write that fails.
+    fn write_badly(
+        &mut self,
+        effect: Effect,
+        name: FileName,
+        place: u64,
+        bytes: &[u8],
+    ) -> Result<(), Failed>
+        requires there { HasFile name self.old }
+        requires within { place ≤ length (file_bytes name self.old) }
+        ensures { MayWrite name place (length bytes.now) self.old self.new }
+    {
+        match effect {
+            Effect::Nothing => Ok(()),
+            Effect::All => self.write(name, place, bytes, 0),
+            Effect::Part(most) => {
+                let count = bytes.len() as u64;
+                let came = most.min(count);
+                self.write(name, place, &bytes[..came as usize], count - came)
+            }
+            Effect::Other(byte) => {
+                let Ok(other) = vec![in self.alloc; byte; bytes.len()] else {
+                    return Err(Failed);
+                };
+                self.write(name, place, &other, 0)
+            }
+        }
+    }
+
+    // Appends to the output. If memory runs out, nothing is appended.
+    fn append(&mut self, bytes: &[u8]) -> Result<(), Failed>
+        ensures ok { OnOk result (self.new ≡ changed_by (printed bytes.now) self.old) }
+        ensures err { OnErr result (self.new ≡ changed_by (printed []) self.old) }
+    {
+        if self.out.extend_from_slice(bytes).is_err() {
+            note(&mut self.notes, 9, FileName::New, 0, 0, &[]);
             return Err(Failed);
         }
+        note(&mut self.notes, 9, FileName::New, 0, 0, bytes);
         Ok(())
+    }
+
+    // A print that fails.
+    fn print_badly(&mut self, effect: Effect, bytes: &[u8]) -> Result<(), Failed>
+        ensures { MayPrint bytes.now self.old self.new }
+    {
+        match effect {
+            Effect::Nothing | Effect::Other(_) => self.append(&[]),
+            Effect::All => self.append(bytes),
+            Effect::Part(most) => {
+                let part = most.min(bytes.len() as u64) as usize;
+                self.append(&bytes[..part])
+            }
+        }
     }
 }
 
@@ -112,115 +338,106 @@ impl System for MemSystem {
 
     fn find(&mut self, name: FileName) -> Result<Option<u64>, Failed> {
         self.begin()?;
-        let file = self.files.get(name);
-        Ok(if file.is_there {
-            Some(file.bytes.len() as u64)
-        } else {
-            None
-        })
+        Ok(self.files.get(name).length())
     }
 
     fn open(&mut self, name: FileName) -> Result<(), Failed> {
         self.begin()?;
-        note(&mut self.notes, 3, name, 0, &[]);
+        note(&mut self.notes, 3, name, 0, 0, &[]);
         Ok(())
     }
 
     fn make(&mut self, name: FileName) -> Result<(), Failed> {
-        self.begin()?;
-        let bytes = Vec::new(self.alloc);
-        self.files.set(
-            name,
-            MemFile {
-                is_there: true,
-                bytes,
-            },
-        );
-        note(&mut self.notes, 2, name, 0, &[]);
-        Ok(())
+        match self.fault() {
+            None => self.make_file(name),
+            Some(Effect::All) => {
+                self.make_file(name)?;
+                Err(Failed)
+            }
+            Some(_) => Err(Failed),
+        }
     }
 
     fn lock(&mut self, name: FileName) -> Result<(), Failed> {
         self.begin()?;
-        note(&mut self.notes, 4, name, 0, &[]);
+        note(&mut self.notes, 4, name, 0, 0, &[]);
         Ok(())
     }
 
-    fn read(&mut self, name: FileName, most: u64) -> Result<Vec<u8>, Failed> {
+    fn read(&mut self, name: FileName, most: u64) -> Result<Option<Vec<u8>>, Failed> {
         self.begin()?;
-        let bytes = &self.files.get(name).bytes;
-        let count = most.min(bytes.len() as u64) as usize;
-        let Ok(read) = Vec::from_slice(self.alloc, &bytes[..count]) else {
+        let Ok(front) = self.files.get(name).front(self.alloc, most) else {
             return Err(Failed);
         };
-        Ok(read)
+        Ok(front)
     }
 
     fn read_at(&mut self, name: FileName, place: u64, buf: &mut [u8]) -> Result<(), Failed> {
         self.begin()?;
-        let bytes = &self.files.get(name).bytes;
+        let bytes = self.files.get(name).bytes();
         let start = place.min(bytes.len() as u64) as usize;
         buf.copy_from_slice(&bytes[start..start + buf.len()]);
         Ok(())
     }
 
     fn write_at(&mut self, name: FileName, place: u64, bytes: &[u8]) -> Result<(), Failed> {
-        self.begin()?;
-        let old = &self.files.get(name).bytes;
-        let Ok(made) = overlaid(self.alloc, old, place as usize, bytes) else {
-            return Err(Failed);
-        };
-        self.files.set(
-            name,
-            MemFile {
-                is_there: true,
-                bytes: made,
-            },
-        );
-        note(&mut self.notes, 0, name, place, bytes);
-        Ok(())
+        match self.fault() {
+            None => self.write(name, place, bytes, 0),
+            Some(effect) => {
+                self.write_badly(effect, name, place, bytes)?;
+                Err(Failed)
+            }
+        }
     }
 
     fn sync(&mut self, name: FileName) -> Result<(), Failed> {
         if self.begin().is_err() {
-            note(&mut self.notes, 5, name, 0, &[]);
+            note(&mut self.notes, 5, name, 0, 0, &[]);
             return Err(Failed);
         }
-        note(&mut self.notes, 1, name, 0, &[]);
+        self.files.sync(name);
+        note(&mut self.notes, 1, name, 0, 0, &[]);
         Ok(())
     }
 
+    fn sync_read(&mut self, _file: FileNo) -> Result<(), Failed> {
+        self.begin()
+    }
+
     fn remove(&mut self, name: FileName) -> Result<(), Failed> {
-        self.begin()?;
-        let missing = no_file(self.alloc);
-        self.files.set(name, missing);
-        note(&mut self.notes, 6, name, 0, &[]);
-        Ok(())
+        match self.fault() {
+            None => self.remove_file(name),
+            Some(Effect::All) => {
+                self.remove_file(name)?;
+                Err(Failed)
+            }
+            Some(_) => Err(Failed),
+        }
     }
 
     fn rename(&mut self) -> Result<(), Failed> {
         self.begin()?;
-        let missing = no_file(self.alloc);
-        self.files.store = mem::replace(&mut self.files.fresh, missing);
-        note(&mut self.notes, 7, FileName::New, 0, &[]);
+        let Ok(()) = self.files.rename(self.alloc) else {
+            return Err(Failed);
+        };
+        note(&mut self.notes, 7, FileName::New, 0, 0, &[]);
         Ok(())
     }
 
     fn sync_names(&mut self) -> Result<(), Failed> {
-        note(&mut self.notes, 8, FileName::New, 0, &[]);
+        self.count();
+        self.files.settle();
+        note(&mut self.notes, 8, FileName::New, 0, 0, &[]);
         Ok(())
     }
 
     fn print(&mut self, bytes: &[u8]) -> Result<(), Failed> {
-        if self.begin().is_err() {
-            note(&mut self.notes, 9, FileName::New, 0, &[]);
-            return Err(Failed);
+        match self.fault() {
+            None => self.append(bytes),
+            Some(effect) => {
+                self.print_badly(effect, bytes)?;
+                Err(Failed)
+            }
         }
-        if self.out.extend_from_slice(bytes).is_err() {
-            note(&mut self.notes, 9, FileName::New, 0, &[]);
-            return Err(Failed);
-        }
-        note(&mut self.notes, 9, FileName::New, 0, bytes);
-        Ok(())
     }
 }

@@ -1,8 +1,10 @@
 //! The calls of the operating system.
 ghost use Rattle.std.specs.Prelude.{◌≡◌, ℕ, ◌<◌, ◌≤◌, List, Option, length, take, drop, IfOk, OnOk, OnErr, IfSome};
+ghost use Rattle.std.specs.Option.{option_map};
 ghost use Rattle.board_core.specs.Takes.{Takes};
 ghost use Rattle.host_system.specs.Folder.{wrote, synced, made, opens, locks, loses, removed, renamed, synced_names, printed};
-ghost use Rattle.host_system.specs.FolderPast.{FolderPast, Did, IfTold, HasFile, IsMissing, IsOpen, IsNotLost, MayBeWritten, file_bytes, length_told, MayDo, MayWrite, MayPrint};
+ghost use Rattle.host_system.specs.FolderPast.{FolderPast, Did, IfTold, HasFile, IsMissing, IsOpen, IsNotLost, MayBeWritten, bytes_named, file_bytes, length_told, MayDo, MayWrite, MayPrint};
+ghost use Rattle.host_system.specs.View.{MayBeRead};
 
 use board_core::{Failed, FileNo};
 
@@ -52,12 +54,12 @@ pub trait System {
         ensures told { OnOk result (Did (locks name) (told self.old) (told self.new)) }
         ensures failed { OnErr result (told self.new ≡ told self.old) };
 
-    /// Reads a file from its start, at most so many bytes. It need not be open.
-    fn read(&mut self, name: FileName, most: u64) -> Result<Vec<u8>, Failed>
-        requires there { IfSome (told self.old) (HasFile name) }
-        requires kept { IfSome (told self.old) (IsNotLost name) }
+    /// Reads a file from its start, at most so many bytes; none if it is missing. It need not be
+    /// open.
+    fn read(&mut self, name: FileName, most: u64) -> Result<Option<Vec<u8>>, Failed>
         ensures read { IfOk result (λ found. IfSome (told self.old)
-            (λ p. found.items ≡ take most (file_bytes name p))) }
+            (λ p. MayBeRead name p → option_map (λ v. v.items) found
+            ≡ option_map (take most) (bytes_named name p))) }
         ensures told { told self.new ≡ told self.old };
 
     /// Reads an open file from a place on, all of the buffer.
@@ -87,6 +89,11 @@ pub trait System {
         requires open { IfSome (told self.old) (IsOpen name) }
         ensures told { OnOk result (Did (synced name) (told self.old) (told self.new)) }
         ensures failed { OnErr result (Did (loses name) (told self.old) (told self.new)) };
+
+    /// Brings to the disk what another run wrote to a file that this one only reads, if there is
+    /// such a file.
+    fn sync_read(&mut self, file: FileNo) -> Result<(), Failed>
+        ensures { told self.new ≡ told self.old };
 
     /// Removes a name, and the file if it has no other.
     fn remove(&mut self, name: FileName) -> Result<(), Failed>

@@ -19,7 +19,7 @@ use Rattle.entry_format.proofs.FieldLemmas.{u32_read, tested}
 use Rattle.entry_format.proofs.EntryLemmas.{entry_read}
 use Rattle.journal_format.specs.declared.link.TheConstants.{MOST_LINK_ENTRIES}
 use Rattle.journal_format.specs.Links.{payload_bytes, IsPayload}
-use Rattle.journal_format.specs.PayloadReading.{found_in, is_link_count, count_at, payload_at, payload_of}
+use Rattle.journal_format.specs.PayloadReading.{found_in, is_link_count, link_count_at, payload_at, payload_of}
 use Rattle.journal_format.proofs.WholeLemmas.{whole_takes, whole_again, found_is}
 
 abbrev IsCount : ℕ → Type 0
@@ -31,8 +31,8 @@ count_makes =
     (λ n lt is. let h = and_parts (leb 1 n) (leb n MOST_LINK_ENTRIES) is in (leb-true 1 n h.0, leb-true n MOST_LINK_ENTRIES h.1))
     (λ n v. let most = v.1 in (and_from (leb 1 n) (leb n MOST_LINK_ENTRIES) (le-leb 1 n v.0) (le-leb n MOST_LINK_ENTRIES v.1), omega arith))
 
-count_read : Reads count_at u32_bytes IsCount
-unfolding count_at
+count_read : Reads link_count_at u32_bytes IsCount
+unfolding link_count_at
 count_read = made_read (if_passes is_link_count) (λ n. n) u32_at u32_bytes (λ n. n < 2 ^ 32) IsCount count_makes u32_read
 
 -- so many entries of a version as a link has
@@ -42,7 +42,7 @@ AreLinked version entries = IsCount (length entries) × AllByRecursion (IsEntryO
 payload_takes : (version : Version) (bytes : List ℕ) (es : List Entry) (rest : List ℕ) → AreBytes bytes → payload_at version bytes ≡ Ok (es, rest) → (bytes ≡ payload_bytes es ++ rest) × AreLinked version es
 unfolding payload_at payload_bytes
 payload_takes version bytes es rest fits e =
-    let p = bind_ok (count_at bytes) (λ n. many_at (entry_at version) n.0 n.1) (es, rest) e in
+    let p = bind_ok (link_count_at bytes) (λ n. many_at (entry_at version) n.0 n.1) (es, rest) e in
     let t = count_read.takes bytes p.0.0 p.0.1 fits p.1 in
     let many = (many_read (entry_at version) entry_bytes (IsEntryOf version) (entry_read version) p.0.0).takes p.0.1 es rest (rest_fits bytes (u32_bytes p.0.0) p.0.1 fits t.0) p.2 in
     let len : length es ≡ p.0.0 = many.1.0 in
@@ -90,7 +90,7 @@ abbrev pub Read : Type 0
 Read = Result (Vec Entry) EntryRefused
 
 -- what is counted and listed is a payload
-pub list_is_payload : (version : Version) (bytes : List ℕ) (n : ℕ) (rest : List ℕ) (r : Read) → AreBytes bytes → count_at bytes ≡ Ok (n, rest)
+pub list_is_payload : (version : Version) (bytes : List ℕ) (n : ℕ) (rest : List ℕ) (r : Read) → AreBytes bytes → link_count_at bytes ≡ Ok (n, rest)
     → IfOk r (λ v. AreEntriesOf version v.items rest) → IfOk r (λ v. length v.items ≡ n) → IfOk r (λ v. IsPayload version v.items bytes)
 unfolding payload_bytes
 list_is_payload version bytes n rest (Err refused) fits counted found len = tt
@@ -106,11 +106,11 @@ list_is_payload version bytes n rest (Ok v) fits counted found len =
     }
 
 -- the count of a payload is read
-counted : (version : Version) (bytes : List ℕ) (es : List Entry) → IsPayload version es bytes → count_at bytes ≡ Ok (length es, entries_bytes es)
+counted : (version : Version) (bytes : List ℕ) (es : List Entry) → IsPayload version es bytes → link_count_at bytes ≡ Ok (length es, entries_bytes es)
 unfolding payload_bytes
-counted version bytes es is = ap count_at is.spelled ∙ count_read.again (length es) (entries_bytes es) (is.some, is.few)
+counted version bytes es is = ap link_count_at is.spelled ∙ count_read.again (length es) (entries_bytes es) (is.some, is.few)
 
-pub payload_is_listed : (version : Version) (bytes : List ℕ) (n : ℕ) (rest : List ℕ) (r : Read) → count_at bytes ≡ Ok (n, rest)
+pub payload_is_listed : (version : Version) (bytes : List ℕ) (n : ℕ) (rest : List ℕ) (r : Read) → link_count_at bytes ≡ Ok (n, rest)
     → ((es : List Entry) → AreEntriesOf version es rest → length es ≡ n → (r ≡ Err NoMemory → ⊥) → IsOkAnd r (λ v. v.items ≡ es))
     → (es : List Entry) → IsPayload version es bytes → (r ≡ Err NoMemory → ⊥) → IsOkAnd r (λ v. v.items ≡ es)
 payload_is_listed version bytes n rest r read listed es is enough =
@@ -119,7 +119,7 @@ payload_is_listed version bytes n rest r read listed es is enough =
     listed es (record { each = is.each; spelled = ap (λ (p : ℕ × List ℕ). p.1) same }) (sym (ap (λ (p : ℕ × List ℕ). p.0) same)) enough
 
 -- no payload is refused for its count
-pub payload_is_counted : (version : Version) (bytes : List ℕ) (es : List Entry) (refused : EntryRefused) → IsPayload version es bytes → RefusesExactly refused (count_at bytes) → ⊥
+pub payload_is_counted : (version : Version) (bytes : List ℕ) (es : List Entry) (refused : EntryRefused) → IsPayload version es bytes → RefusesExactly refused (link_count_at bytes) → ⊥
 payload_is_counted version bytes es NoMemory is refused = refused
 payload_is_counted version bytes es Bad is refused = let wrong = sym refused ∙ counted version bytes es is in absurd cc
 

@@ -17,13 +17,13 @@ found_in (Err refused) = None
 abbrev pub is_link_count : ℕ → Bool
 is_link_count count = nat_le 1 count && nat_le count MOST_LINK_ENTRIES
 
-unfoldable pub count_at : Reader ℕ
-count_at = made_at (if_passes is_link_count) u32_at
+unfoldable pub link_count_at : Reader ℕ
+link_count_at = made_at (if_passes is_link_count) u32_at
 
 -- entries after their number
 unfoldable pub payload_at : Version → Reader (List Entry)
 payload_at version bytes = do
-  count ← count_at bytes
+  count ← link_count_at bytes
   many_at (entry_at version) count.0 count.1
 
 -- the entries whose payload the bytes are, if they are one

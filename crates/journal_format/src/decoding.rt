@@ -8,7 +8,7 @@ ghost use Rattle.ras_facts.specs.Valid.{IsPage};
 ghost use Rattle.ras_account.specs.Accounts.{IsModuleRow};
 ghost use Rattle.ras_account.specs.declared.limits.TheConstants.{MOST_ENTRIES};
 ghost use Rattle.ras_account.specs.Modules.{Module};
-ghost use Rattle.ras_account.specs.Account.{State, weight_in};
+ghost use Rattle.ras_account.specs.Account.{State};
 ghost use Rattle.ras_account.specs.Rows.{row_of, with_name, with_module, with_page};
 ghost use Rattle.ras_account.specs.View.{nothing};
 ghost use Rattle.entry_format.specs.Reading.{name_at};
@@ -21,8 +21,21 @@ use crate::row_reading::{CheckpointFront, floor_in, front_at, module_at, page_ro
 use entry_format::{EntryRefused, Version, name_at, u64_at};
 use page_policy::{Bucket, PageState, RowRefused};
 use ras_account::{Account, ModuleRow, PushRefused, Rebuilt};
+use ras_base::NoMemory;
 use ras_facts::Name;
 use std::alloc::Global;
+
+// The fewest bytes that a name has: those of its kind and of one number.
+const LEAST_NAME: usize = 9;
+
+// Takes room at once for the names at the front of the bytes. Their number comes from a file, so it
+// may be any: room is taken for no more names than the bytes can hold.
+fn make_room(account: &mut Rebuilt, count: u64, bytes: &[u8]) -> Result<(), NoMemory>
+    ensures { account.new ≡ account.old }
+{
+    let most = (bytes.len() / LEAST_NAME) as u64;
+    account.make_room_for_names(count.min(most) as usize)
+}
 
 // Puts a name after those of an account that has no floor. `Bad` comes exactly if it is there
 // or the account is full.
@@ -56,6 +69,7 @@ fn names_at<'a>(account: &mut Rebuilt, bytes: &'a [u8]) -> Result<&'a [u8], Entr
         Ok(found) => found,
         Err(refused) => return Err(refused),
     };
+    make_room(account, count, rest)?;
     for _ in 0..count {
         let (name, after) = match name_at(rest) {
             Ok(found) => found,

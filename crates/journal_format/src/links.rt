@@ -5,7 +5,7 @@ ghost use Rattle.std.specs.List.{flat_map};
 ghost use Rattle.ras_facts.specs.Entries.{IsValidEntry};
 ghost use Rattle.entry_format.specs.Spelling.{entry_bytes};
 ghost use Rattle.entry_format.specs.Reading.{ReadsExactly};
-ghost use Rattle.journal_format.specs.PayloadReading.{count_at};
+ghost use Rattle.journal_format.specs.PayloadReading.{link_count_at};
 ghost use Rattle.journal_format.specs.Links.{payload_bytes, link_bytes, IsPayload, CanLink, link_length, ends_early, payload_in};
 
 use crate::{Link, LinkRefused, MOST_LINK_ENTRIES, MOST_PAYLOAD};
@@ -94,9 +94,9 @@ fn payload_in(bytes: &[u8]) -> &[u8]
 }
 
 // The number of a link's entries.
-#[tactic(auto, unfolding(crate::specs::PayloadReading::count_at))]
-fn count_at(bytes: &[u8]) -> Result<(u32, &[u8]), EntryRefused>
-    ensures { ReadsExactly (λ x. (x.0, x.1.now)) result (count_at bytes.now) }
+#[tactic(auto, unfolding(crate::specs::PayloadReading::link_count_at))]
+fn link_count_at(bytes: &[u8]) -> Result<(u32, &[u8]), EntryRefused>
+    ensures { ReadsExactly (λ x. (x.0, x.1.now)) result (link_count_at bytes.now) }
 {
     let (count, rest) = u32_at(bytes)?;
     if 1 <= count && count <= MOST_LINK_ENTRIES as u32 {
@@ -112,7 +112,7 @@ fn read_payload(alloc: Global, version: Version, bytes: &[u8]) -> Result<Vec<Ent
     ensures entries { (entries : List Entry) → IsPayload version entries bytes.now
         → result ≢ Err EntryRefused.NoMemory → IsOkAnd result (λ read. read.items ≡ entries) }
 {
-    match count_at(bytes) {
+    match link_count_at(bytes) {
         Ok((count, rest)) => read_list(alloc, version, count, rest),
         Err(refused) => Err(refused),
     }

@@ -10,4 +10,4 @@ mod words;
 
 pub use codes::{Code, code_of};
 pub use marks::{Mark, mark_of};
-pub use texts::{Text, code_text};
+pub use texts::{Text, code_text, push_code_text};

@@ -1,13 +1,13 @@
 //! The text of an error code, and the type of texts.
 
-ghost use Rattle.std.specs.Prelude.{◌≡◌, IfOk, string_bytes, map};
+ghost use Rattle.std.specs.Prelude.{◌≡◌, ◌++◌, IfOk, OnOk, map};
 ghost use Rattle.mca_codes.specs.Codes.{HasFieldsInRange};
 ghost use Rattle.mca_codes.specs.Texts.{code_text_of, compound_text, IsWord};
 
 use crate::codes::Code;
 use crate::words;
 use ras_base::NoMemory;
-use std::alloc::{AllocError, Global};
+use std::alloc::Global;
 use std::marker::Model;
 
 /// A text to print, which contracts see as the list of its bytes.
@@ -40,10 +40,11 @@ impl Text {
     }
 }
 
-/// The text of an error code: a word for its kind, then the words of its subfields with a colon
-/// before each, then `/F` if a compound code has its filter set. It refuses only for want of
-/// memory. (The subfields are those of the Intel SDM, volume 3, "Compound Error Codes".)
-#[tactic(auto, using(crate::proofs::WordLemmas::text_of_word))]
+/// The text of an error code, as `push_code_text` puts it.
+///
+/// # Errors
+///
+/// `NoMemory` comes only if memory runs out.
 pub fn code_text(alloc: Global, code: Code) -> Result<Text, NoMemory>
     requires { HasFieldsInRange code }
     ensures text { IfOk result (λ text. text ≡ code_text_of code) }
@@ -51,45 +52,66 @@ pub fn code_text(alloc: Global, code: Code) -> Result<Text, NoMemory>
     // A text is one word of a printed line.
     ensures word { IfOk result IsWord }
 {
-    let text = code_string(alloc, code)?;
-    Ok(Text::new(text.into_bytes()))
+    let mut text = Vec::new(alloc);
+    push_code_text(&mut text, code)?;
+    Ok(Text::new(text))
 }
 
-// The text of an error code, as a string.
-fn code_string(alloc: Global, code: Code) -> Result<String, AllocError>
+/// Adds the text of an error code: a word for its kind, then the words of its subfields with a colon
+/// before each, then `/F` if a compound code has its filter set. (The subfields are those of the
+/// Intel SDM, volume 3, "Compound Error Codes".)
+///
+/// # Errors
+///
+/// `NoMemory` comes only if memory runs out.
+#[tactic(auto, using(crate::proofs::WordLemmas::text_of_word))]
+pub fn push_code_text(text: &mut Vec<u8>, code: Code) -> Result<(), NoMemory>
     requires { HasFieldsInRange code }
-    ensures { IfOk result (λ text. string_bytes text ≡ code_text_of code) }
+    ensures text { OnOk result (text.new.items ≡ text.old.items ++ code_text_of code) }
+
+    // A text is one word of a printed line.
+    ensures word { IsWord (code_text_of code) }
 {
     match code {
-        Code::NoError => String::from_str(alloc, "none"),
-        Code::Unclassified => String::from_str(alloc, "unclassified"),
-        Code::MicrocodeRom => String::from_str(alloc, "microcode-rom-parity"),
-        Code::External => String::from_str(alloc, "external"),
-        Code::Frc => String::from_str(alloc, "frc"),
-        Code::InternalParity => String::from_str(alloc, "internal-parity"),
-        Code::InternalTimer => String::from_str(alloc, "internal-timer"),
-        Code::InternalUnclassified => String::from_str(alloc, "internal-unclassified"),
-        Code::GenericIo => String::from_str(alloc, "generic-io"),
-        Code::Other => String::from_str(alloc, "OTHER"),
+        Code::NoError => Ok(text.extend_from_slice(b"none")?),
+        Code::Unclassified => Ok(text.extend_from_slice(b"unclassified")?),
+        Code::MicrocodeRom => Ok(text.extend_from_slice(b"microcode-rom-parity")?),
+        Code::External => Ok(text.extend_from_slice(b"external")?),
+        Code::Frc => Ok(text.extend_from_slice(b"frc")?),
+        Code::InternalParity => Ok(text.extend_from_slice(b"internal-parity")?),
+        Code::InternalTimer => Ok(text.extend_from_slice(b"internal-timer")?),
+        Code::InternalUnclassified => Ok(text.extend_from_slice(b"internal-unclassified")?),
+        Code::GenericIo => Ok(text.extend_from_slice(b"generic-io")?),
+        Code::Other => Ok(text.extend_from_slice(b"OTHER")?),
         Code::GenericCache { ll, filter } => {
             let words = [words::level(ll)];
-            compound_text(alloc, "gencache", &words, filter)
+            push_compound(text, b"gencache", &words, filter)
         }
         Code::Tlb { tt, ll, filter } => {
             let words = [words::transaction(tt), words::level(ll)];
-            compound_text(alloc, "tlb", &words, filter)
+            push_compound(text, b"tlb", &words, filter)
         }
         Code::Memory {
             mmm,
             channel,
             filter,
-        } => memory_text(alloc, mmm, channel, filter),
+        } => {
+            let words = [words::memory(mmm), words::channel(channel)];
+            push_compound(text, b"memory", &words, filter)
+        }
         Code::Cache {
             rrrr,
             tt,
             ll,
             filter,
-        } => cache_text(alloc, rrrr, tt, ll, filter),
+        } => {
+            let words = [
+                words::transaction(tt),
+                words::level(ll),
+                words::request(rrrr),
+            ];
+            push_compound(text, b"cache", &words, filter)
+        }
         Code::Bus {
             pp,
             t,
@@ -97,47 +119,23 @@ fn code_string(alloc: Global, code: Code) -> Result<String, AllocError>
             ii,
             ll,
             filter,
-        } => bus_text(alloc, pp, t, rrrr, ii, ll, filter),
+        } => push_bus(text, pp, t, rrrr, ii, ll, filter),
     }
 }
 
-// The text of a memory controller code, whose channel 15 is one that isn't told.
-fn memory_text(alloc: Global, mmm: u8, channel: u8, filter: bool) -> Result<String, AllocError>
-    ensures { IfOk result (λ text. string_bytes text ≡ code_text_of (Code.Memory mmm channel filter)) }
-{
-    let memory = words::memory(mmm);
-    if channel == 15 {
-        return compound_text(alloc, "memory", &[memory, "-"], filter);
-    }
-    let channel = channel.to_string(alloc)?;
-    compound_text(alloc, "memory", &[memory, channel.as_str()], filter)
-}
-
-// The text of a cache hierarchy code.
-fn cache_text(alloc: Global, rrrr: u8, tt: u8, ll: u8, filter: bool) -> Result<String, AllocError>
-    requires { HasFieldsInRange (Code.Cache rrrr tt ll filter) }
-    ensures { IfOk result (λ text. string_bytes text ≡ code_text_of (Code.Cache rrrr tt ll filter)) }
-{
-    let words = [
-        words::transaction(tt),
-        words::level(ll),
-        words::request(rrrr),
-    ];
-    compound_text(alloc, "cache", &words, filter)
-}
-
-// The text of a bus and interconnect code.
-fn bus_text(
-    alloc: Global,
+// Adds the text of a bus and interconnect code.
+fn push_bus(
+    text: &mut Vec<u8>,
     pp: u8,
     t: u8,
     rrrr: u8,
     ii: u8,
     ll: u8,
     filter: bool,
-) -> Result<String, AllocError>
+) -> Result<(), NoMemory>
     requires { HasFieldsInRange (Code.Bus pp t rrrr ii ll filter) }
-    ensures { IfOk result (λ text. string_bytes text ≡ code_text_of (Code.Bus pp t rrrr ii ll filter)) }
+    ensures { OnOk result (text.new.items
+        ≡ text.old.items ++ code_text_of (Code.Bus pp t rrrr ii ll filter)) }
 {
     let words = [
         words::level(ll),
@@ -146,24 +144,24 @@ fn bus_text(
         words::target(ii),
         words::timeout(t),
     ];
-    compound_text(alloc, "bus", &words, filter)
+    push_compound(text, b"bus", &words, filter)
 }
 
-// The text of a compound code, by the word for its kind and the words of its subfields.
-fn compound_text(
-    alloc: Global,
-    kind: &str,
-    words: &[&str],
+// Adds the text of a compound code, by the word for its kind and the words of its subfields.
+fn push_compound(
+    text: &mut Vec<u8>,
+    kind: &[u8],
+    words: &[&[u8]],
     filter: bool,
-) -> Result<String, AllocError>
-    ensures { IfOk result (λ text. string_bytes text
-        ≡ compound_text kind.now (map (λ word. word.now) words.now) filter) }
+) -> Result<(), NoMemory>
+    ensures { OnOk result (text.new.items ≡ text.old.items
+        ++ compound_text kind.now (map (λ word. word.now) words.now) filter) }
 {
-    let mut text = String::from_str(alloc, kind)?;
+    text.extend_from_slice(kind)?;
     for word in words {
-        text.push_str(":")?;
-        text.push_str(word)?;
+        text.push(b':')?;
+        text.extend_from_slice(word)?;
     }
-    text.push_str(words::ending(filter))?;
-    Ok(text)
+    text.extend_from_slice(words::ending(filter))?;
+    Ok(())
 }

@@ -143,6 +143,13 @@ impl Names {
         self.table.retain(&NotRetired { floor });
     }
 
+    // Takes room for this many names more at once. What is counted and what waits stays.
+    pub(crate) fn make_room(&mut self, additional: usize) -> Result<(), NoMemory>
+        ensures { self.new ≡ self.old }
+    {
+        self.table.make_room(additional)
+    }
+
     // Counts a name after the others. None waits. After a refusal the names stay.
     pub(crate) fn push(&mut self, name: Name) -> Result<(), RowRefused>
         requires { self.old.waiting ≡ [] }

@@ -20,6 +20,7 @@ ghost use Rattle.ras_account.specs.History.{empty};
 use crate::{Account, MOST_ENTRIES, MOST_NAMES, MOST_TOTAL, ModuleRow};
 use mca_status::CLASS_COUNT;
 use page_policy::{Bucket, Limit, PageState};
+use ras_base::NoMemory;
 use ras_facts::Name;
 use row_tables::RowRefused;
 use std::alloc::Global;
@@ -103,6 +104,13 @@ impl Rebuilt {
         }
         self.account.in_force.floor = floor;
         true
+    }
+
+    /// Takes room at once for this many names more, and for no more than `MOST_NAMES`. All stays.
+    pub fn make_room_for_names(&mut self, additional: usize) -> Result<(), NoMemory>
+        ensures { self.new ≡ self.old }
+    {
+        self.account.names.make_room(additional.min(MOST_NAMES))
     }
 
     /// Puts a name after the others, whose boot isn't retired. After a refusal all stays.

@@ -1,9 +1,12 @@
 //! The program: the daemon over standard input, standard output and the working folder's files.
 #![tactic(auto)]
 
+mod over_folder;
+
+pub use over_folder::rasd_over;
 use ras_base::NoMemory;
-use ras_daemon::{Exit, RasWord, Task, rasd, task_of};
-use ras_host::{FileBoard, FileSource, Use};
+use ras_daemon::{Exit, RasWord};
+use ras_host::{RealInput, RealSystem};
 use std::env::{Env, FillError};
 use std::process::ExitCode;
 
@@ -13,14 +16,8 @@ const LONGEST_WORD: usize = 64;
 fn main(rt: HostRuntime) -> ExitCode {
     let exit = match words_of(rt) {
         Ok(words) => {
-            // A run is to be the only one in its folder.
-            let how = match task_of(&words) {
-                Some(Task::Run) => Use::Alone,
-                _ => Use::Reading,
-            };
-            let mut source = FileSource::new(rt);
-            let mut board = FileBoard::new(rt, how);
-            rasd(rt.alloc(), &words, &mut source, &mut board)
+            let (input, system) = (RealInput::new(rt), RealSystem::new(rt));
+            rasd_over(rt.alloc(), &words, input, system).0
         }
         Err(NoMemory) => Exit::NoMemory,
     };

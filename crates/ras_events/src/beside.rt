@@ -16,8 +16,8 @@ use ras_reports::Detail;
 use ras_texts::{push_entry, push_repeat, push_unreadable};
 use std::alloc::Global;
 
-// Room for the lines of most events, which is taken at once.
-const TEXT_LENGTH: usize = 256;
+// Room for the lines of most events and of their orders, which is taken at once.
+const TEXT_LENGTH: usize = 384;
 
 /// What an event tells: its lines, and its entries that are news, both in order.
 #[derive(Drop)]
@@ -47,13 +47,13 @@ pub(crate) fn text_and_news(
         (λ told. told.news.items ≡ fresh_entries_in account.old.state (entries_in made)) }
 {
     let mut text = Vec::with_capacity(alloc, TEXT_LENGTH)?;
-    let mut news = Vec::new(alloc);
-    for piece in made.into_pieces() {
+    let pieces = made.into_pieces();
+    let mut news = Vec::with_capacity(alloc, pieces.len())?;
+    for piece in pieces {
         match piece {
             Piece::Counted { entry, details } => {
                 let is_news = account.wait_if_fresh(tally, &entry)?;
                 push_counted(
-                    alloc,
                     account,
                     is_news,
                     entry,
@@ -71,7 +71,6 @@ pub(crate) fn text_and_news(
 // Adds the lines of an entry, after those of the earlier ones of its event: all that is told of it
 // if it is news, and else that it was told before. News go after the earlier news.
 fn push_counted(
-    alloc: Global,
     account: &Account,
     is_news: bool,
     entry: Entry,
@@ -85,7 +84,7 @@ fn push_counted(
     if !is_news {
         return push_repeat(text, account, &entry);
     }
-    push_entry(alloc, text, details, account, &entry)?;
+    push_entry(text, details, account, &entry)?;
     news.push(entry)?;
     Ok(())
 }

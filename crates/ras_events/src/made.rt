@@ -54,12 +54,8 @@ impl Made {
     pub fn of_entry(alloc: Global, entry: Entry) -> Result<Made, NoMemory>
         ensures { IfOk result (λ made. made ≡ made_of_entry entry) }
     {
-        let mut made = Made::new(alloc);
-        made.push(Piece::Counted {
-            entry,
-            details: Details::new(alloc),
-        })?;
-        Ok(made)
+        let details = Details::new(alloc);
+        Made::one(alloc, Piece::Counted { entry, details })
     }
 
     /// What an event makes of a report, or of none.
@@ -70,11 +66,10 @@ impl Made {
     pub fn of_report(alloc: Global, report: Option<Report>) -> Result<Made, NoMemory>
         ensures { IfOk result (λ made. made ≡ option_map_or made_by_report report []) }
     {
-        let mut made = Made::new(alloc);
-        if let Some(report) = report {
-            made.push_report(report)?;
+        match report {
+            Some(report) => Made::one(alloc, piece_of_report(report)),
+            None => Ok(Made::new(alloc)),
         }
-        Ok(made)
     }
 
     /// Puts the piece of a report after the others: its fact, and what is told of its items.
@@ -85,11 +80,7 @@ impl Made {
     pub fn push_report(&mut self, report: Report) -> Result<(), NoMemory>
         ensures { OnOk result (self.new ≡ self.old ++ piece_of_report report ∷ []) }
     {
-        let Report { fact, details } = report;
-        self.push(Piece::Counted {
-            entry: Entry::Fact(fact),
-            details,
-        })
+        self.push(piece_of_report(report))
     }
 
     /// Puts a record of the store that can't be read after the other pieces.
@@ -101,6 +92,14 @@ impl Made {
         ensures { OnOk result (self.new ≡ self.old ++ PieceFor.Unread id why ∷ []) }
     {
         self.push(Piece::Unread { id, why })
+    }
+
+    // One piece, with room for no other.
+    fn one(alloc: Global, piece: Piece) -> Result<Made, NoMemory>
+        ensures { IfOk result (λ made. made ≡ piece ∷ []) }
+    {
+        let pieces = vec![in alloc; piece]?;
+        Ok(Made { pieces })
     }
 
     // The pieces, in order.
@@ -116,5 +115,16 @@ impl Made {
     {
         self.pieces.push(piece)?;
         Ok(())
+    }
+}
+
+// The piece of a report: its fact, and what is told of its items.
+fn piece_of_report(report: Report) -> Piece
+    ensures { result ≡ piece_of_report report }
+{
+    let Report { fact, details } = report;
+    Piece::Counted {
+        entry: Entry::Fact(fact),
+        details,
     }
 }

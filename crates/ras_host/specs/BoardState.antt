@@ -1,8 +1,16 @@
--- What contracts see of the board of the working folder: how often its calls have failed, and the
--- device that it keeps.
+-- What contracts see of a board over a system.
+use Rattle.std.specs.Prelude.{ℕ, List, Option}
 use Rattle.board_core.specs.Cause.{Faults}
+use Rattle.host_system.specs.FolderPast.{FolderPast}
+use Rattle.ras_host.specs.declared.journal.JournalFiles.{JournalFiles}
 use Rattle.ras_host.specs.declared.kept.Kept.{Kept}
 
+-- what was done to the folder, where the system tells it; the journal's files and the device as the
+-- board has them; how often its calls have failed; the calls that it lists, as they are noted
 pub record BoardState : Type 0 where
-  pub faults : Faults
+  pub past : Option FolderPast
+  pub files : JournalFiles
   pub kept : Kept
+  pub faults : Faults
+  pub disk_calls : List (List ℕ × List ℕ)
+  pub accesses : List (List ℕ × List ℕ)

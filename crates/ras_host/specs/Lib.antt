@@ -1,3 +1,4 @@
 pub mod BoardState
-pub mod KeptDevice
+pub mod JournalFiles
+pub mod SourceState
 pub mod Steps

@@ -1,2 +1,5 @@
 -- What only proofs use: no public clause comes to it.
-pub mod JournalFiles
+pub mod BoardLaws
+pub mod KeptDevice
+pub mod Listed
+pub mod Telling

@@ -1,244 +1,186 @@
 //! The working folder's files and standard output as a board.
-ghost use Rattle.std.specs.Prelude.{◌≡◌, ◌+◌, ◌≤◌, length, take, drop, None, OnOk, IfOk, IsOk};
-ghost use Rattle.board_core.specs.Cause.{FailsAs, device_call, disk_call, print_call, put_failure};
-ghost use Rattle.board_core.specs.Clock.{untold};
-ghost use Rattle.board_core.specs.Steps.ClockLemmas.{not_told};
-ghost use Rattle.board_core.specs.Told.{register_in, after_reg_write, after_range_write};
-ghost use Rattle.erst_store.specs.Actions.{range_length};
-ghost use Rattle.erst_store.specs.Device.{Device, act};
-ghost use Rattle.erst_store.specs.StoreFile.{store_bytes};
-ghost use Rattle.ras_host.specs.KeptDevice.{Does, IsHere, IsThere, IsUsed, Puts};
+ghost use Rattle.std.specs.Prelude.{◌≡◌, [], IfSome};
+ghost use Rattle.board_core.specs.Clock.{LeftNow};
+ghost use Rattle.board_core.specs.Stop.{Left};
+ghost use Rattle.host_system.specs.View.{MayBegin};
+ghost use Rattle.ras_host.specs.Steps.Telling.{clock_of, told_of};
+ghost use Rattle.ras_host.specs.JournalFiles.{files_for};
+ghost use Rattle.ras_host.specs.Steps.BoardLaws.{board_told_left, board_text_left, board_store_left, board_earlier_left};
 
-use crate::faults::counted;
-use crate::files::{Files, Use};
-use crate::kept::{Kept, Saved, put_and_encode};
-use crate::system::replace_store;
-use board_core::{Board, BoardPut, Failed, FileNo, Reg};
-use erst_store::Dev;
-use std::io::Write;
+use crate::faults::{count_put, counted};
+use crate::journal::{JournalFiles, Use};
+use crate::kept::Kept;
+use crate::listed::{list_access, list_disk_call};
+use board_core::{Access, Board, BoardPut, DiskCall, Failed, FileNo, Reg};
+use erst_store::file_laws;
+use host_system::{Notes, System, print};
+use std::alloc::Global;
 use std::marker::Model;
-use std::mem::replace;
-use std::os::unix::fs::FileExt;
 
-/// The files `rasd.0`, `rasd.1` and `rasd.store` of the working folder, and standard output. It
-/// tells nothing of what they hold. Each call that fails is counted, by its kind.
+/// The files `rasd.0`, `rasd.1` and `rasd.store` of the working folder, and standard output. A run's
+/// board tells what a system tells of them; a report's tells nothing. Each call that fails is
+/// counted, by its kind.
 ///
 /// The record store is read at the device's first use, and empty if its file is missing. Each
 /// change of it is brought into its file before the call answers.
 #[derive(Drop)]
-pub struct FileBoard {
-    rt: HostRuntime,
-    files: Files,
+pub struct FileBoard<S: System + Drop> {
+    alloc: Global,
+    system: S,
+    files: JournalFiles,
     kept: Kept,
     disk_faults: u64,
     register_faults: u64,
     print_faults: u64,
+    disk_calls: Notes,
+    accesses: Notes,
 }
 
-impl Model for FileBoard {
+impl<S: System + Drop> Model for FileBoard<S> {
+    ghost use Rattle.std.specs.Prelude.{IfSome};
     ghost use Rattle.ras_host.specs.BoardState.{BoardState};
+    ghost use Rattle.ras_host.specs.JournalFiles.{AreHeld};
+    ghost use Rattle.ras_host.specs.Steps.KeptDevice.{IsInStep};
 
     ghost Value = { BoardState };
 
     ghost view = { λ b. record {
+      past = S.told b.system;
+      files = b.files;
+      kept = b.kept;
       faults = record {
         disk = b.disk_faults;
         registers = b.register_faults;
         prints = b.print_faults;
       };
-      kept = b.kept;
+      disk_calls = b.disk_calls.calls;
+      accesses = b.accesses.calls;
     } };
+
+    ghost invariant = { λ b. IfSome (S.told b.system) (AreHeld b.files)
+        × IfSome (S.told b.system) (IsInStep b.kept) };
 }
 
-impl FileBoard {
-    /// The board of the working folder, with no faults. No file is opened yet.
-    pub fn new(rt: HostRuntime, how: Use) -> FileBoard
+impl<S: System + Drop> FileBoard<S> {
+    /// The board over a system, with no faults. No file is opened yet.
+    pub fn new(alloc: Global, how: Use, system: S) -> FileBoard<S>
+        requires { IfSome (S.told system) MayBegin }
+        ensures past { result.past ≡ S.told system }
+        ensures files { result.files ≡ files_for how }
         ensures faults { result.faults ≡ record { disk = 0; registers = 0; prints = 0 } }
         ensures unread { result.kept ≡ Kept.Unread }
+        ensures unlisted { (result.disk_calls ≡ []) × (result.accesses ≡ []) }
     {
+        file_laws();
         FileBoard {
-            rt,
-            files: Files::new(rt, how),
+            alloc,
+            system,
+            files: JournalFiles::new(how),
             kept: Kept::Unread,
             disk_faults: 0,
             register_faults: 0,
             print_faults: 0,
+            disk_calls: Notes::new(),
+            accesses: Notes::new(),
         }
     }
 
-    // Takes the device out, which is lost unless the call puts it back.
-    fn take(&mut self) -> Result<Saved, Failed>
-        ensures used { IfOk result (λ it. IsUsed self.old.kept it.device) }
-        ensures answers { IsThere self.old.kept → IsOk result }
-        ensures cause { FailsAs device_call self.old.faults self.new.faults result }
+    /// The system that the board is over.
+    pub fn into_system(self) -> S
+        ensures { S.told result ≡ self.past }
     {
-        match replace(&mut self.kept, Kept::Lost) {
-            Kept::Here(saved) => Ok(saved),
-            Kept::Unread => counted(Saved::read(&self.rt), &mut self.register_faults),
-            Kept::Lost => counted(Err(Failed), &mut self.register_faults),
-        }
-    }
-
-    // Does an action, and brings what it changes in the store into the store's file.
-    #[tactic(auto, using(erst_store::specs::Steps::ActionLemmas::kept))]
-    fn act(&mut self, saved: Saved, action: u64) -> Result<(), Failed>
-        ensures does { OnOk result (IsHere self.new.kept (act action saved.device)) }
-        ensures cause { FailsAs device_call self.old.faults self.new.faults result }
-    {
-        let Saved { mut device, file } = saved;
-        let may_change = device.may_change(action);
-        counted(device.write_action(action), &mut self.register_faults)?;
-        if !may_change {
-            self.kept = Kept::Here(Saved { device, file });
-            return Ok(());
-        }
-        let new = device.store().to_bytes(self.rt.alloc());
-        let new = counted(new, &mut self.register_faults)?;
-        self.save(device, &file, new)
-    }
-
-    // Puts the device back, and its store's bytes into the file if they aren't those that it has.
-    fn save(&mut self, device: Dev, file: &[u8], new: Vec<u8>) -> Result<(), Failed>
-        requires { new.items ≡ store_bytes device.store }
-        ensures kept { OnOk result (IsHere self.new.kept device) }
-        ensures cause { FailsAs device_call self.old.faults self.new.faults result }
-    {
-        if new.as_slice() != file {
-            counted(replace_store(&self.rt, &new), &mut self.register_faults)?;
-        }
-        self.kept = Kept::Here(Saved { device, file: new });
-        Ok(())
+        self.system
     }
 }
 
-impl Board for FileBoard {
-    ghost told = { λ _. None };
+impl<S: System + Drop> Board for FileBoard<S> {
+    ghost told = { λ b. told_of b };
 
-    ghost clock = { λ _. untold };
+    ghost clock = { λ b. clock_of b };
 
     ghost faults = { λ b. b.faults };
 
-    ghost told_may_be_left = { λ _ t told. not_told t told };
+    ghost told_may_be_left = { λ b t told. board_told_left b t told };
 
-    ghost text_is_left = { λ _ t left told now. absurd now };
+    ghost text_is_left = { λ b t left told now. board_text_left b t left told now };
 
-    ghost store_is_left = { λ _ t left told now. absurd now };
+    ghost store_is_left = { λ b t left told now. board_store_left b t left told now };
 
-    ghost counts_earlier = { λ _ s t left within may. may };
+    ghost counts_earlier = { λ b s t left within may. board_earlier_left b s t left within may };
 
-    fn size(&mut self, file: FileNo) -> Result<u64, Failed>
-        ensures device { self.new.kept ≡ self.old.kept }
-        ensures cause { FailsAs disk_call self.old.faults self.new.faults result }
-    {
-        counted(self.files.size(file), &mut self.disk_faults)
+    fn size(&mut self, file: FileNo) -> Result<u64, Failed> {
+        let answer = self.files.size(self.alloc, file, &mut self.system);
+        list_disk_call(DiskCall::Size(file), &mut self.disk_calls);
+        counted(answer, &mut self.disk_faults)
     }
 
-    fn read_at(&mut self, file: FileNo, place: u64, buf: &mut [u8]) -> Result<usize, Failed>
-        ensures device { self.new.kept ≡ self.old.kept }
-        ensures within { IfOk result (λ n. n ≤ length buf.old) }
-        ensures cause { FailsAs disk_call self.old.faults self.new.faults result }
-    {
-        let read = self.files.read_at(file, place, buf);
-        counted(read, &mut self.disk_faults)
+    fn read_at(&mut self, file: FileNo, place: u64, buf: &mut [u8]) -> Result<usize, Failed> {
+        let call = DiskCall::ReadAt(file, place, buf.len() as u64);
+        let answer = self
+            .files
+            .read_at(self.alloc, file, place, buf, &mut self.system);
+        list_disk_call(call, &mut self.disk_calls);
+        counted(answer, &mut self.disk_faults)
     }
 
-    fn write_at(&mut self, file: FileNo, place: u64, bytes: &[u8]) -> Result<(), Failed>
-        ensures device { self.new.kept ≡ self.old.kept }
-        ensures cause { FailsAs disk_call self.old.faults self.new.faults result }
-    {
-        counted(self.files.ready_to_write(place), &mut self.disk_faults)?;
-        let done = match self.files.opened(file) {
-            Ok(file) => file.write_all_at(bytes, place),
-            Err(error) => Err(error),
-        };
-        counted(done, &mut self.disk_faults)
+    fn write_at(&mut self, file: FileNo, place: u64, bytes: &[u8]) -> Result<(), Failed> {
+        let answer = self
+            .files
+            .write_at(self.alloc, file, place, bytes, &mut self.system);
+        list_disk_call(
+            DiskCall::WriteAt(file, place, bytes.len() as u64),
+            &mut self.disk_calls,
+        );
+        counted(answer, &mut self.disk_faults)
     }
 
-    fn sync(&mut self, file: FileNo) -> Result<(), Failed>
-        ensures device { self.new.kept ≡ self.old.kept }
-        ensures cause { FailsAs disk_call self.old.faults self.new.faults result }
-    {
-        counted(self.files.sync(file), &mut self.disk_faults)
+    fn sync(&mut self, file: FileNo) -> Result<(), Failed> {
+        let answer = self.files.sync(self.alloc, file, &mut self.system);
+        list_disk_call(DiskCall::Sync(file), &mut self.disk_calls);
+        counted(answer, &mut self.disk_faults)
     }
 
-    fn reg_read(&mut self, reg: Reg) -> Result<u64, Failed>
-        ensures same { OnOk result (Does (λ d. d) self.old.kept self.new.kept) }
-        ensures answers { IsThere self.old.kept → IsOk result }
-        ensures value { IfOk result (λ n. (d : Device) → IsHere self.new.kept d
-            → n ≡ register_in reg d) }
-        ensures cause { FailsAs device_call self.old.faults self.new.faults result }
-    {
-        let saved = self.take()?;
-        let number = match reg {
-            Reg::Action => saved.device.read_action(),
-            Reg::Value => saved.device.read_value(),
-        };
-        self.kept = Kept::Here(saved);
-        Ok(number)
+    fn reg_read(&mut self, reg: Reg) -> Result<u64, Failed> {
+        let answer = self.kept.reg_read(self.alloc, reg, &mut self.system);
+        list_access(Access::Read(reg, answer.unwrap_or(0)), &mut self.accesses);
+        counted(answer, &mut self.register_faults)
     }
 
-    fn reg_write(&mut self, reg: Reg, value: u64) -> Result<(), Failed>
-        ensures does { OnOk result (Does (after_reg_write reg value) self.old.kept self.new.kept) }
-        ensures cause { FailsAs device_call self.old.faults self.new.faults result }
-    {
-        let mut saved = self.take()?;
-        match reg {
-            Reg::Action => self.act(saved, value),
-            Reg::Value => {
-                saved.device.write_value(value);
-                self.kept = Kept::Here(saved);
-                Ok(())
-            }
-        }
+    fn reg_write(&mut self, reg: Reg, value: u64) -> Result<(), Failed> {
+        let answer = self
+            .kept
+            .reg_write(self.alloc, reg, value, &mut self.system);
+        list_access(Access::Write(reg, value), &mut self.accesses);
+        counted(answer, &mut self.register_faults)
     }
 
-    fn range_read(&mut self, place: u32, buf: &mut [u8]) -> Result<(), Failed>
-        requires { place + length buf.old ≤ range_length }
-        ensures same { OnOk result (Does (λ d. d) self.old.kept self.new.kept) }
-        ensures answers { IsThere self.old.kept → IsOk result }
-        ensures read { OnOk result ((d : Device) → IsHere self.new.kept d
-            → buf.new ≡ take (length buf.old) (drop place d.range)) }
-        ensures cause { FailsAs device_call self.old.faults self.new.faults result }
-    {
-        let saved = self.take()?;
-        saved.device.range_read(place, buf);
-        self.kept = Kept::Here(saved);
-        Ok(())
+    fn range_read(&mut self, place: u32, buf: &mut [u8]) -> Result<(), Failed> {
+        let access = Access::RangeRead(place, buf.len() as u32);
+        let answer = self
+            .kept
+            .range_read(self.alloc, place, buf, &mut self.system);
+        list_access(access, &mut self.accesses);
+        counted(answer, &mut self.register_faults)
     }
 
-    fn range_write(&mut self, place: u32, bytes: &[u8]) -> Result<(), Failed>
-        requires { place + length bytes.now ≤ range_length }
-        ensures does { OnOk result (Does (after_range_write place bytes.now)
-            self.old.kept self.new.kept) }
-        ensures answers { IsThere self.old.kept → IsOk result }
-        ensures cause { FailsAs device_call self.old.faults self.new.faults result }
-    {
-        let mut saved = self.take()?;
-        saved.device.range_write(place, bytes);
-        self.kept = Kept::Here(saved);
-        Ok(())
+    fn range_write(&mut self, place: u32, bytes: &[u8]) -> Result<(), Failed> {
+        let answer = self
+            .kept
+            .range_write(self.alloc, place, bytes, &mut self.system);
+        list_access(
+            Access::RangeWrite(place, bytes.len() as u32),
+            &mut self.accesses,
+        );
+        counted(answer, &mut self.register_faults)
     }
 
-    fn put(&mut self, id: u64, bytes: &[u8]) -> Result<(), BoardPut>
-        ensures put { OnOk (put_failure result)
-            (Puts id bytes.now result self.old.kept self.new.kept) }
-        ensures cause { FailsAs device_call self.old.faults self.new.faults
-            (put_failure result) }
-    {
-        let Saved { mut device, file } = self.take().map_err(|_| BoardPut::Failed)?;
-        match put_and_encode(self.rt.alloc(), &mut device, id, bytes) {
-            Ok(new) => self.save(device, &file, new).map_err(|_| BoardPut::Failed),
-            Err(refused) => {
-                self.kept = Kept::Here(Saved { device, file });
-                Err(BoardPut::Refused(refused))
-            }
-        }
+    fn put(&mut self, id: u64, bytes: &[u8]) -> Result<(), BoardPut> {
+        let answer = self.kept.put(self.alloc, id, bytes, &mut self.system);
+        count_put(&answer, &mut self.register_faults);
+        answer
     }
 
-    fn print(&mut self, bytes: &[u8]) -> Result<(), Failed>
-        ensures device { self.new.kept ≡ self.old.kept }
-        ensures cause { FailsAs print_call self.old.faults self.new.faults result }
-    {
-        counted(self.rt.stdout().write_all(bytes), &mut self.print_faults)
+    fn print(&mut self, bytes: &[u8]) -> Result<(), Failed> {
+        counted(print(bytes, &mut self.system), &mut self.print_faults)
     }
 }

@@ -1,42 +1,42 @@
-//! Standard input as a source.
-ghost use Rattle.std.specs.Prelude.{◌≡◌, None};
+//! An input as a source.
+ghost use Rattle.std.specs.Prelude.{◌≡◌};
 
 use crate::faults::counted;
-use crate::system::read_input;
 use board_core::{Failed, Source};
+use host_system::Input;
 use std::marker::Model;
 
-/// The bytes of standard input, which it doesn't tell. Each read that fails is counted.
+/// The bytes of an input, which it tells if the input does. Each read that fails is counted.
 #[derive(Drop)]
-pub struct FileSource {
-    rt: HostRuntime,
+pub struct FileSource<I: Input + Drop> {
+    input: I,
     faults: u64,
 }
 
-// Contracts see how often a read has failed.
-impl Model for FileSource {
-    ghost use Rattle.std.specs.Prelude.{ℕ};
+impl<I: Input + Drop> Model for FileSource<I> {
+    ghost use Rattle.ras_host.specs.SourceState.{SourceState};
 
-    ghost Value = { ℕ };
+    ghost Value = { SourceState };
 
-    ghost view = { λ s. s.faults };
+    ghost view = { λ s. record { left = I.left s.input; faults = s.faults } };
 }
 
-impl FileSource {
-    /// Standard input from where it stands, with no faults.
-    pub fn new(rt: HostRuntime) -> FileSource
-        ensures { result ≡ 0 }
+impl<I: Input + Drop> FileSource<I> {
+    /// The input from where it stands, with no faults.
+    pub fn new(input: I) -> FileSource<I>
+        ensures left { result.left ≡ I.left input }
+        ensures faults { result.faults ≡ 0 }
     {
-        FileSource { rt, faults: 0 }
+        FileSource { input, faults: 0 }
     }
 }
 
-impl Source for FileSource {
-    ghost left = { λ _. None };
+impl<I: Input + Drop> Source for FileSource<I> {
+    ghost left = { λ s. s.left };
 
-    ghost faults = { λ s. s };
+    ghost faults = { λ s. s.faults };
 
     fn read(&mut self, buf: &mut [u8]) -> Result<usize, Failed> {
-        counted(read_input(&self.rt, buf), &mut self.faults)
+        counted(self.input.read(buf), &mut self.faults)
     }
 }

@@ -1,25 +1,21 @@
 //! The device that a board keeps, over the record store of the working folder.
-ghost use Rattle.std.specs.Prelude.{◌≡◌, [], OnOk, OnErr, IfOk, IfSome, IsNone};
-ghost use Rattle.erst_store.specs.Device.{new_device, with_put};
+ghost use Rattle.std.specs.Prelude.{◌≡◌, ◌+◌, ◌≤◌, [], length, take, drop, IsOk, OnOk, OnErr, IfOk, IfSome};
+ghost use Rattle.board_core.specs.Cause.{put_failure};
+ghost use Rattle.board_core.specs.Told.{AnswersPut, after_put, after_range_write, after_reg_write, register_in};
+ghost use Rattle.erst_store.specs.Actions.{range_length};
+ghost use Rattle.erst_store.specs.Device.{Device, act, with_put};
+ghost use Rattle.erst_store.specs.DeviceLaws.{IsDevice, MayChange};
 ghost use Rattle.erst_store.specs.Store.{AnswersRefusal, refusal_of};
 ghost use Rattle.erst_store.specs.StoreFile.{store_bytes};
+ghost use Rattle.host_system.specs.View.{seen_now};
+ghost use Rattle.ras_host.specs.Steps.KeptDevice.{Acts, Does, IfRefused, IsHere, IsInStep, IsThere, IsUsed, Keeps, Puts, Turned, after_answer, device_in};
 
-use crate::system::read_store;
-use board_core::Failed;
-use erst_store::{Dev, MOST_BYTES, MOST_RECORDS, PutRefused, Store};
+use crate::saved::{RECORD_HEADING, Saved, write_store};
+use board_core::{BoardPut, Failed, Reg};
+use erst_store::{Dev, PutRefused, file_laws};
+use host_system::System;
 use std::alloc::Global;
-
-// The most bytes of the record store's file: letters and the number of records, and for each record
-// its identifier, its length and its bytes.
-const LONGEST_STORE: u64 = 12 + MOST_RECORDS as u64 * (12 + MOST_BYTES as u64);
-
-/// A device whose record store is in its file: the bytes are what the file has.
-#[derive(Drop)]
-pub struct Saved {
-    pub device: Dev,
-    pub file: Vec<u8>,
-    ghost same: { file.items ≡ store_bytes device.store },
-}
+use std::mem::replace;
 
 /// The device that a board keeps.
 #[derive(Drop)]
@@ -28,56 +24,297 @@ pub enum Kept {
     Unread,
     /// It is there.
     Here(Saved),
-    /// A call on it failed, so it isn't used again: what it held may not be on the disk.
-    Lost,
+    /// A call on it failed, so it isn't used again: what it held may not be on the disk. These are
+    /// its registers and its range before that call, if it was ever there, over an empty store.
+    Lost(Option<Dev>),
 }
 
-impl Saved {
-    /// A new device over the record store of the working folder.
-    pub fn read(rt: &HostRuntime) -> Result<Saved, Failed>
-        ensures { IfOk result (λ it. it.device ≡ new_device it.device.store 0) }
+impl Kept {
+    // Takes the device out, which is read at its first use. It is lost unless the call puts it back.
+    fn take<S: System>(&mut self, alloc: Global, system: &mut S) -> Result<Saved, Failed>
+        requires { IfSome (S.told system.old) (IsInStep self.old) }
+        ensures taken { IfOk result (λ saved. IfSome (S.told system.old)
+            (λ p. saved.device ≡ device_in self.old p)) }
+        ensures used { IfOk result (λ saved. IsUsed self.old saved.device) }
+        ensures answers { IsThere self.old → IsOk result }
+        ensures told { S.told system.new ≡ S.told system.old }
+        ensures lost { OnErr result (IfSome (S.told system.old) (Keeps self.old self.new)) }
+        ensures in_step { OnErr result (IfSome (S.told system.new) (IsInStep self.new)) }
     {
-        let found = read_store(rt, LONGEST_STORE).map_err(|_| Failed)?;
-        Saved::over(rt.alloc(), found)
+        match replace(self, Kept::Lost(None)) {
+            Kept::Here(saved) => Ok(saved),
+            Kept::Unread => Saved::read(alloc, system),
+            Kept::Lost(device) => {
+                *self = Kept::Lost(device);
+                Err(Failed)
+            }
+        }
     }
 
-    // A new device over the store whose file has these bytes, which is empty if there is none.
-    fn over(alloc: Global, found: Option<Vec<u8>>) -> Result<Saved, Failed>
-        ensures new { IfOk result (λ it. it.device ≡ new_device it.device.store 0) }
-        ensures missing { IsNone found → IfOk result (λ it. it.device.store ≡ []) }
-        ensures found { IfSome found (λ v. IfOk result (λ it.
-            v.items ≡ store_bytes it.device.store)) }
+    // Puts the device back.
+    fn put_back(&mut self, saved: Saved)
+        ensures here { self.new ≡ Kept.Here saved }
+        ensures device { IsDevice saved.device }
     {
-        let store = match found {
-            Some(bytes) => Store::from_bytes(alloc, &bytes).map_err(|_| Failed)?,
-            None => Store::new(alloc),
+        let _store = saved.device.store();
+        *self = Kept::Here(saved);
+    }
+
+    /// Reads a register.
+    pub fn reg_read<S: System>(
+        &mut self,
+        alloc: Global,
+        reg: Reg,
+        system: &mut S,
+    ) -> Result<u64, Failed>
+        requires { IfSome (S.told system.old) (IsInStep self.old) }
+        ensures value { IfOk result (λ n. IfSome (S.told system.old)
+            (λ p. n ≡ register_in reg (device_in self.old p))) }
+        ensures reads { IfOk result (λ n. (d : Device) → IsHere self.new d → n ≡ register_in reg d) }
+        ensures does { OnOk result (Does (λ d. d) self.old self.new) }
+        ensures answers { IsThere self.old → IsOk result }
+        ensures told { S.told system.new ≡ S.told system.old }
+        ensures same { IfSome (S.told system.old) (Keeps self.old self.new) }
+        ensures in_step { IfSome (S.told system.new) (IsInStep self.new) }
+    {
+        let saved = self.take(alloc, system)?;
+        let number = register_of(reg, &saved.device);
+        self.put_back(saved);
+        Ok(number)
+    }
+
+    /// Writes a number to a register. What an action changes in the store is brought into the
+    /// store's file.
+    pub fn reg_write<S: System>(
+        &mut self,
+        alloc: Global,
+        reg: Reg,
+        value: u64,
+        system: &mut S,
+    ) -> Result<(), Failed>
+        requires { IfSome (S.told system.old) (IsInStep self.old) }
+        ensures turned { Turned (after_reg_write reg value) self.old self.new result
+            (S.told system.old) (S.told system.new) }
+        ensures does { OnOk result (Does (after_reg_write reg value) self.old self.new) }
+    {
+        let saved = self.take(alloc, system)?;
+        match reg {
+            Reg::Action if saved.device.may_change(value) => self.act(alloc, saved, value, system),
+            Reg::Action => self.act_alone(saved, value),
+            Reg::Value => {
+                self.write_value(saved, value);
+                Ok(())
+            }
+        }
+    }
+
+    // Writes a number to the Value register.
+    fn write_value(&mut self, mut saved: Saved, value: u64)
+        ensures { Acts (after_reg_write Reg.Value value) saved.device self.new }
+    {
+        saved.device.write_value(value);
+        self.put_back(saved);
+    }
+
+    // Does an action that doesn't change the store.
+    fn act_alone(&mut self, mut saved: Saved, action: u64) -> Result<(), Failed>
+        requires { ¬ MayChange action saved.device }
+        ensures ok { OnOk result (Acts (after_reg_write Reg.Action action) saved.device self.new) }
+        ensures err { OnErr result (Acts (λ d. d) saved.device self.new) }
+    {
+        let answer = saved.device.write_action(action);
+        self.put_back(saved);
+        answer.or(Err(Failed))
+    }
+
+    // Does an action that may change the store, and brings the store into its file.
+    fn act<S: System>(
+        &mut self,
+        alloc: Global,
+        saved: Saved,
+        action: u64,
+        system: &mut S,
+    ) -> Result<(), Failed>
+        requires { IfSome (S.told system.old) (IsInStep (Kept.Here saved)) }
+        ensures turned { Turned (act action) (Kept.Here saved) self.new result
+            (S.told system.old) (S.told system.new) }
+        ensures here { OnOk result (IsHere self.new (act action saved.device)) }
+    {
+        let Saved { mut device, file } = saved;
+        let Ok(before) = device.without_store(alloc) else {
+            self.put_back(Saved { device, file });
+            return Err(Failed);
         };
-        let file = store.to_bytes(alloc).map_err(|_| Failed)?;
-        let device = Dev::new(alloc, store, 0).map_err(|_| Failed)?;
-        Ok(Saved { device, file })
+        *self = Kept::Lost(Some(before));
+        let Ok(()) = device.write_action(action) else {
+            return Err(Failed);
+        };
+        let Ok(bytes) = device.store().to_bytes(alloc) else {
+            return Err(Failed);
+        };
+        self.save(device, &file, bytes, system)
+    }
+
+    // Puts a device back once the bytes of its store are in the file, which has other ones.
+    fn save<S: System>(
+        &mut self,
+        device: Dev,
+        had: &[u8],
+        bytes: Vec<u8>,
+        system: &mut S,
+    ) -> Result<(), Failed>
+        requires in_step { IfSome (S.told system.old) (IsInStep self.old) }
+        requires device { IsDevice device }
+        requires bytes { bytes.items ≡ store_bytes device.store }
+        requires had { IfSome (S.told system.old)
+            (λ p. had.now ≡ store_bytes (seen_now p).store) }
+        ensures turned { Turned (λ _. device) self.old self.new result
+            (S.told system.old) (S.told system.new) }
+        ensures here { OnOk result (IsHere self.new device) }
+    {
+        file_laws();
+        write_store(had, &bytes, system)?;
+        *self = Kept::Here(Saved {
+            device,
+            file: bytes,
+        });
+        Ok(())
+    }
+
+    /// Copies the bytes of the range from a place on into a buffer.
+    pub fn range_read<S: System>(
+        &mut self,
+        alloc: Global,
+        place: u32,
+        buf: &mut [u8],
+        system: &mut S,
+    ) -> Result<(), Failed>
+        requires within { place + length buf.old ≤ range_length }
+        requires in_step { IfSome (S.told system.old) (IsInStep self.old) }
+        ensures read { OnOk result (IfSome (S.told system.old)
+            (λ p. buf.new ≡ take (length buf.old) (drop place (device_in self.old p).range))) }
+        ensures copies { OnOk result ((d : Device) → IsHere self.new d
+            → buf.new ≡ take (length buf.old) (drop place d.range)) }
+        ensures does { OnOk result (Does (λ d. d) self.old self.new) }
+        ensures answers { IsThere self.old → IsOk result }
+        ensures told { S.told system.new ≡ S.told system.old }
+        ensures same { IfSome (S.told system.old) (Keeps self.old self.new) }
+        ensures still { IfSome (S.told system.new) (IsInStep self.new) }
+    {
+        let saved = self.take(alloc, system)?;
+        saved.device.range_read(place, buf);
+        self.put_back(saved);
+        Ok(())
+    }
+
+    /// Writes bytes into the range from a place on.
+    pub fn range_write<S: System>(
+        &mut self,
+        alloc: Global,
+        place: u32,
+        bytes: &[u8],
+        system: &mut S,
+    ) -> Result<(), Failed>
+        requires within { place + length bytes.now ≤ range_length }
+        requires in_step { IfSome (S.told system.old) (IsInStep self.old) }
+        ensures turned { Turned (after_range_write place bytes.now) self.old self.new result
+            (S.told system.old) (S.told system.new) }
+        ensures does { OnOk result (Does (after_range_write place bytes.now) self.old self.new) }
+        ensures answers { IsThere self.old → IsOk result }
+        ensures told { S.told system.new ≡ S.told system.old }
+    {
+        let mut saved = self.take(alloc, system)?;
+        saved.device.range_write(place, bytes);
+        self.put_back(saved);
+        Ok(())
+    }
+
+    /// Puts a record, and brings the store into its file. All memory of that is taken before the
+    /// device is changed.
+    pub fn put<S: System>(
+        &mut self,
+        alloc: Global,
+        id: u64,
+        bytes: &[u8],
+        system: &mut S,
+    ) -> Result<(), BoardPut>
+        requires { IfSome (S.told system.old) (IsInStep self.old) }
+        ensures turned { Turned (after_put id bytes.now) self.old self.new result
+            (S.told system.old) (S.told system.new) }
+        ensures puts { OnOk (put_failure result)
+            (Puts id bytes.now result self.old self.new) }
+        ensures answers { IfSome (S.told system.old)
+            (λ p. AnswersPut result (refusal_of id bytes.now (seen_now p).store)) }
+        ensures refused { IfRefused result (S.told system.new ≡ S.told system.old) }
+    {
+        match self.take(alloc, system) {
+            Ok(saved) => self.put_into(alloc, saved, id, bytes, system),
+            Err(Failed) => Err(BoardPut::Failed),
+        }
+    }
+
+    // Puts a record into the device that was taken out, and brings the store into its file.
+    fn put_into<S: System>(
+        &mut self,
+        alloc: Global,
+        saved: Saved,
+        id: u64,
+        bytes: &[u8],
+        system: &mut S,
+    ) -> Result<(), BoardPut>
+        requires { IfSome (S.told system.old) (IsInStep (Kept.Here saved)) }
+        ensures turned { Turned (after_put id bytes.now) (Kept.Here saved) self.new result
+            (S.told system.old) (S.told system.new) }
+        ensures answers { AnswersPut result (refusal_of id bytes.now saved.device.store) }
+        ensures here { OnOk (put_failure result)
+            (IsHere self.new (after_answer id bytes.now result saved.device)) }
+        ensures refused { IfRefused result (S.told system.new ≡ S.told system.old) }
+    {
+        let Saved { mut device, file } = saved;
+        let (before, mut new) = match put_alone(alloc, id, bytes, &mut device) {
+            Ok(made) => made,
+            Err(refused) => {
+                self.put_back(Saved { device, file });
+                return Err(BoardPut::Refused(refused));
+            }
+        };
+        *self = Kept::Lost(Some(before));
+        let Ok(()) = device.store().push_bytes(&mut new) else {
+            return Err(BoardPut::Failed);
+        };
+        self.save(device, &file, new, system)
+            .or(Err(BoardPut::Failed))
     }
 }
 
-/// Puts a record, and answers the bytes of the store's file after it. All memory of these is taken
-/// before the device is changed.
-#[tactic(auto, unfolding(erst_store::specs::Device::with_put))]
-pub fn put_and_encode(
+// What a register of a device holds.
+fn register_of(reg: Reg, device: &Dev) -> u64
+    ensures { result ≡ register_in reg device.now }
+{
+    match reg {
+        Reg::Action => device.read_action(),
+        Reg::Value => device.read_value(),
+    }
+}
+
+// Puts a record into a device. Answers the device before that over an empty store, and an empty
+// vector with room for the bytes of the store's file.
+fn put_alone(
     alloc: Global,
-    device: &mut Dev,
     id: u64,
     bytes: &[u8],
-) -> Result<Vec<u8>, PutRefused>
-    ensures ok { OnOk result (device.new ≡ with_put id bytes.now device.old) }
+    device: &mut Dev,
+) -> Result<(Dev, Vec<u8>), PutRefused>
+    ensures ok { IfOk result (λ made. (device.new ≡ with_put id bytes.now device.old)
+        × (made.0 ≡ record device.old { store = [] }) × (made.1.items ≡ [])) }
     ensures err { OnErr result (device.new ≡ device.old) }
     ensures refused { AnswersRefusal result (refusal_of id bytes.now device.old.store) }
-    ensures file { IfOk result (λ v. v.items ≡ store_bytes device.new.store) }
 {
     if let Some(refused) = device.store().refusal(id, bytes) {
         return Err(refused);
     }
-    let mut store = device.store().copy(alloc)?;
-    store.put(id, bytes)?;
-    let file = store.to_bytes(alloc)?;
+    let before = device.without_store(alloc)?;
+    let room = device.store().room(alloc, RECORD_HEADING + bytes.len())?;
     device.put(id, bytes)?;
-    Ok(file)
+    Ok((before, room))
 }

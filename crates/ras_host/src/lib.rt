@@ -1,20 +1,26 @@
-//! A real system as a board and a source: the working folder's files, the record store among them,
-//! and the standard streams.
+//! The working folder and standard output as a board, and standard input as a source, over a system
+//! and an input.
 //!
-//! The board and the source are proved for their counts of faults, and the board for what a call
-//! does to the error record device that it keeps. What the system is asked for is in no clause:
-//! `names` looks at names, `system` opens, locks, reads and replaces files, `files` writes, syncs
-//! and measures the journal's, and `file_board` prints.
+//! `journal` opens, reads, writes and syncs the journal's files, `kept` keeps the device and brings
+//! its record store into its file, and `file_board` counts what failed: all three are proved over
+//! every system that tells. `real_system` and `real_input` make the calls of the operating system
+//! that no clause speaks of, and `names` looks at what stands under a name before one is made.
 #![tactic(auto)]
 
 mod faults;
 mod file_board;
 mod file_source;
-mod files;
+mod journal;
 mod kept;
+mod listed;
 mod names;
-mod system;
+mod reading;
+mod real_input;
+mod real_system;
+mod saved;
 
 pub use file_board::FileBoard;
 pub use file_source::FileSource;
-pub use files::Use;
+pub use journal::Use;
+pub use real_input::RealInput;
+pub use real_system::RealSystem;

@@ -1,64 +1,131 @@
-//! What the system tells of the names in the working folder, as no clause says it.
+//! What stands under the names in the working folder, as no clause says it.
+ghost use Rattle.std.specs.Prelude.{◌<◌};
 
+use board_core::FileNo;
+use host_system::FileName;
 use std::fs::{File, Metadata, canonicalize, metadata, symlink_metadata};
 use std::io;
 use std::io::ErrorKind;
 use std::os::unix::fs::MetadataExt;
 
-/// What the system tells of a journal file that is to be read, or none if it is missing. A link that
-/// leads nowhere is an error: the disk that it leads to may not be there.
-pub(crate) fn look(rt: &HostRuntime, name: &str) -> io::Result<Option<Metadata>> {
-    let is_link = is_link(rt, name)?;
-    match if_regular(metadata(rt, name))? {
-        None if is_link => Err(io::Error::from(ErrorKind::NotFound)),
+const NAMES: [&str; 4] = ["rasd.0", "rasd.1", "rasd.store", "rasd.new"];
+
+pub(crate) fn number(name: FileName) -> usize
+    ensures { result < 4 }
+{
+    match name {
+        FileName::Journal(FileNo::Zero) => 0,
+        FileName::Journal(FileNo::One) => 1,
+        FileName::Store => 2,
+        FileName::New => 3,
+    }
+}
+
+pub(crate) fn path(name: FileName) -> &'static str {
+    NAMES[number(name)]
+}
+
+/// What the system tells of a file, or none if it is missing. Only a journal file may be behind a
+/// link. What is no regular file is an error, but for `rasd.new`: a call on it might wait without
+/// end.
+pub(crate) fn look(rt: &HostRuntime, name: FileName) -> io::Result<Option<Metadata>> {
+    let found = match (name, if_there(symlink_metadata(rt, path(name)))?) {
+        (FileName::Journal(_), Some(link)) if link.is_symlink() => follow(rt, name, &link)?,
+        (_, found) => found,
+    };
+    match found {
+        Some(file) if !file.is_file() && name != FileName::New => Err(refused()),
         found => Ok(found),
     }
 }
 
-/// Whether a name is a link's. A link of another user than root and the one whose process this is is
-/// an error, since what it leads to may be a file that isn't rasd's.
-pub(crate) fn is_link(rt: &HostRuntime, name: &str) -> io::Result<bool> {
-    match if_there(symlink_metadata(rt, name))? {
-        Some(found) if found.is_symlink() => {
-            if found.uid() != 0 && found.uid() != metadata(rt, "/proc/self")?.uid() {
-                return Err(io::Error::from(ErrorKind::PermissionDenied));
-            }
-            Ok(true)
+// What a link leads to. A link of another user than root and the one whose process this is is an
+// error, since what it leads to may be a file that isn't rasd's.
+fn follow(rt: &HostRuntime, name: FileName, link: &Metadata) -> io::Result<Option<Metadata>> {
+    if link.uid() != 0 && link.uid() != metadata(rt, "/proc/self")?.uid() {
+        return Err(refused());
+    }
+    if_there(metadata(rt, path(name)))
+}
+
+/// Opens a file to read it, unless it is missing. A link that leads nowhere is an error: the disk
+/// that it leads to may not be there.
+pub(crate) fn open_to_read(rt: &HostRuntime, name: FileName) -> io::Result<Option<File>> {
+    let found = look(rt, name)?;
+    if found.is_none() && if_there(symlink_metadata(rt, path(name)))?.is_none() {
+        return Ok(None);
+    }
+    let file = File::open(rt, path(name))?;
+    // A link may have come into the store's place since.
+    if name == FileName::Store && !is_same(&found, &Some(file.metadata()?)) {
+        return Err(refused());
+    }
+    Ok(Some(file))
+}
+
+/// Fails if the name of an open journal file no longer stands for it, as when that was removed or
+/// another one was moved there, or if two names stand for one file: what is written would be lost.
+pub(crate) fn check_names(rt: &HostRuntime, open: &[Option<File>; 4]) -> io::Result<()> {
+    let zero = check_name(rt, NAMES[0], &open[0])?;
+    let one = check_name(rt, NAMES[1], &open[1])?;
+    let store = if_there(symlink_metadata(rt, path(FileName::Store)))?;
+    if is_same(&zero, &one) || is_same(&zero, &store) || is_same(&one, &store) {
+        return Err(refused());
+    }
+    Ok(())
+}
+
+// What the system tells of a file, which has to be the one that is open, or none if it is missing.
+fn check_name(rt: &HostRuntime, path: &str, open: &Option<File>) -> io::Result<Option<Metadata>> {
+    let found = if_there(metadata(rt, path))?;
+    if let Some(open) = open {
+        let open = open.metadata()?;
+        if !open.is_file() || !is_same(&found, &Some(open)) {
+            return Err(refused());
         }
-        _ => Ok(false),
     }
+    Ok(found)
 }
 
-/// What the system tells of a file, or none if it is missing. What is no regular file is an error: a
-/// call on it might wait without end.
-pub(crate) fn if_regular(told: io::Result<Metadata>) -> io::Result<Option<Metadata>> {
-    match if_there(told)? {
-        Some(found) if !found.is_file() => Err(io::Error::from(ErrorKind::InvalidInput)),
-        found => Ok(found),
+/// Opens the folder that a file's link leads into, if the name is a link's, and that is neither the
+/// working folder nor an open one.
+pub(crate) fn open_linked(
+    rt: &HostRuntime,
+    name: FileName,
+    open: &mut Vec<File>,
+) -> io::Result<()> {
+    if !symlink_metadata(rt, path(name))?.is_symlink() {
+        return Ok(());
     }
+    let leads_to = canonicalize(rt, path(name))?;
+    let folder = File::open(rt, leads_to.parent().ok_or(ErrorKind::NotFound)?)?;
+    let found = Some(folder.metadata()?);
+    let mut is_open = is_same(&found, &Some(metadata(rt, ".")?));
+    for other in &*open {
+        is_open = is_open || is_same(&found, &Some(other.metadata()?));
+    }
+    if !is_open {
+        open.push(folder)?;
+    }
+    Ok(())
 }
 
-/// What the system tells of a file, or none if it is missing.
-pub(crate) fn if_there(told: io::Result<Metadata>) -> io::Result<Option<Metadata>> {
+// What the system tells of a file, or none if it is missing.
+fn if_there(told: io::Result<Metadata>) -> io::Result<Option<Metadata>> {
     match told {
-        Ok(found) => Ok(Some(found)),
         Err(error) if error.kind() == ErrorKind::NotFound => Ok(None),
-        Err(error) => Err(error),
+        told => told.map(Some),
     }
 }
 
-pub(crate) fn is_same(one: &Metadata, other: &Metadata) -> bool {
-    one.dev() == other.dev() && one.ino() == other.ino()
+// Whether both are there, and are one file.
+fn is_same(one: &Option<Metadata>, other: &Option<Metadata>) -> bool {
+    match (one, other) {
+        (Some(one), Some(other)) => one.dev() == other.dev() && one.ino() == other.ino(),
+        _ => false,
+    }
 }
 
-/// The folder that a file lies in. If its name is a link's, that is the folder of the file that the
-/// link leads to.
-pub(crate) fn open_folder(rt: &HostRuntime, name: &str) -> io::Result<File> {
-    if !symlink_metadata(rt, name)?.is_symlink() {
-        return File::open(rt, ".");
-    }
-    match canonicalize(rt, name)?.parent() {
-        Some(folder) => File::open(rt, folder),
-        None => Err(io::Error::from(ErrorKind::NotFound)),
-    }
+fn refused() -> io::Error {
+    io::Error::from(ErrorKind::InvalidInput)
 }

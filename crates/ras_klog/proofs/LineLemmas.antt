@@ -1,12 +1,14 @@
 -- Words by the places of spaces, and what follows a marker.
-use Rattle.std.proofs.Common.{◌≡◌, ℕ, zero, suc, ◌+◌, ◌-◌, ◌<◌, ◌≤◌, ◌==◌, ◌&&◌, Bool, true, false, cond, if◌then◌else◌, nat_eq, nat_lt, List, [], ◌∷◌, length, take, drop, refl, sym, ap, ◌∙◌, arith, Some, None, length-drop, length-take}
+use Rattle.std.proofs.Common.{◌≡◌, ℕ, zero, suc, ◌+◌, ◌-◌, ◌<◌, ◌≤◌, ◌==◌, ◌&&◌, Bool, true, false, cond, if◌then◌else◌, nat_eq, nat_lt, List, [], ◌∷◌, length, take, drop, get_or, refl, sym, ap, subst, ◌∙◌, arith, inl, inr, Some, None, length-drop, length-take}
 use Rattle.std.proofs.Math.Seq.{take-length}
+use Rattle.std.proofs.lemmas.Bool.{cases_lt}
 use Rattle.std.proofs.lemmas.Bool.Decides.{nat_tests}
+use Rattle.std.proofs.lemmas.List.{get_or-drop}
 use Rattle.std.proofs.lemmas.List.Splits.{slice_split_first, slice_split_none}
 use Rattle.std.proofs.lemmas.List.Sums.{fails_before_first}
 use Rattle.std.specs.List.{All, list_all, onto_first, position, position_or_len, slice_split, starts_with}
 use Rattle.std.proofs.lemmas.Slice.Eq.{bytes_eq-Decides}
-use Rattle.memchr.specs.Find.{OccursAt, NoneBefore, Nowhere}
+use Rattle.memchr.specs.Find.{OccursAt, NoneBefore, Nowhere, Passes, is_byte}
 use Rattle.memchr.proofs.lemmas.MatchLemmas.{OccursAt-part, OccursAt-from_part}
 use Rattle.ras_klog.specs.Reading.{after_marker, is_empty, marker, parts_of}
 
@@ -22,6 +24,9 @@ no_place place size h = grind (arith, nat_tests, h)
 -- the rest as the code cuts it
 pub rest_is : (n : ℕ) (text : List ℕ) → take (length text - n) (drop n text) ≡ drop n text
 rest_is n text = ap (λ k. take k (drop n text)) (sym (length-drop n text)) ∙ take-length (drop n text)
+
+pub rest_size : (n : ℕ) (text : List ℕ) → length (take (length text - n) (drop n text)) ≡ length text - n
+rest_size n text = ap length (rest_is n text) ∙ length-drop n text
 
 -- a text with a space: the first word ends at the first one
 pub parts_cut : (text : List ℕ) (end : ℕ) → Some end ≡ position (λ b. b == 32) text → parts_of text ≡ take end text ∷ parts_of (take (length text - (end + 1)) (drop (end + 1) text))
@@ -99,3 +104,39 @@ after-at (b ∷ line) (suc k) first occurs = by (starts_with nat_eq (b ∷ line)
           before = λ j low high earlier. first.before (suc j) (omega arith) (omega (arith, high)) (further b line j earlier);
         }) (nearer b line k occurs)
         ∙ ap Some moved
+
+-- a marker at a place, by what stands from there on
+pub starts-at : (line : List ℕ) (k : ℕ) → k ≤ length line → starts_with nat_eq (drop k line) marker ≡ true → OccursAt line marker k
+starts-at line k inside is =
+    let front : marker ≡ take (length marker) (drop k line) = (bytes_eq-Decides marker (take (length marker) (drop k line))).0 is in
+    OccursAt-from_part line marker k (omega (arith, inside, ap length front, length-take (length marker) (drop k line), length-drop k line)) (sym front)
+
+pub at-starts : (line : List ℕ) (k : ℕ) → OccursAt line marker k → starts_with nat_eq (drop k line) marker ≡ true
+at-starts line k occurs = (bytes_eq-Decides marker (take (length marker) (drop k line))).1 (sym (OccursAt-part line marker k occurs))
+
+-- no marker has its second byte before a place
+abbrev pub NoneBelow : List ℕ → ℕ → Type 0
+NoneBelow line end = (k : ℕ) → k + 1 < end → ¬ OccursAt line marker k
+
+-- a search for the second byte passes no marker
+pub none-passed : (line : List ℕ) (from passed : ℕ) → from + passed ≤ length line → NoneBelow line from
+    → Nowhere (Passes (is_byte 72) (take (length line - from) (drop from line))) 0 passed → NoneBelow line (from + passed)
+none-passed line from passed inside before nowhere k below occurs = elim (cases_lt (k + 1) from) [
+  | inl early ↦ before k early occurs
+  | inr late ↦
+      let there : from + (k + 1 - from) ≡ k + 1 = omega arith in
+      let second : get_or line (k + 1) 0 ≡ 72 = occurs.reads 1 (omega arith) in
+      let byte : get_or (take (length line - from) (drop from line)) (k + 1 - from) 0 ≡ 72 =
+      ap (λ text. get_or text (k + 1 - from) 0) (rest_is from line) ∙ get_or-drop from line (k + 1 - from) 0 ∙ ap (λ i. get_or line i 0) there ∙ second in
+      nowhere (k + 1 - from) (omega arith) (omega arith) (ap (λ b. b == 72) byte)
+]
+
+-- nor does a step past a second byte that no marker stands round
+pub none-round : (line : List ℕ) (second : ℕ) → NoneBelow line second → ¬ ((1 ≤ second) × OccursAt line marker (second - 1)) → NoneBelow line (second + 1)
+none-round line second before not k below occurs = elim (cases_lt (k + 1) second) [
+  | inl early ↦ before k early occurs
+  | inr last ↦ let same : k ≡ second - 1 = omega arith in not (omega arith, subst (OccursAt line marker) same occurs)
+]
+
+pub none-at-all : (line : List ℕ) → NoneBelow line (length line) → Nowhere (OccursAt line marker) 0 (length line + 1)
+none-at-all line none k low high occurs = none k (omega (arith, occurs.fits)) occurs

@@ -5,7 +5,7 @@ ghost use Rattle.ras_klog.specs.Along.{counts_with, makes_of};
 ghost use Rattle.ras_klog.specs.Klog.{klog_filter};
 
 use crate::texts::{push_counts, push_out};
-use crate::{KlogOut, KlogState, klog_line};
+use crate::{KlogLine, KlogOut, KlogState, klog_line};
 use line_filters::LineFilter;
 use mca_status::Status;
 use ras_base::NoMemory;
@@ -95,7 +95,14 @@ impl LineFilter for KlogFilter {
     ghost none = { λ _. refl };
 
     fn take(&mut self, alloc: Global, line: &[u8], text: &mut Vec<u8>) -> Result<(), LineRefused> {
-        let out = self.state.step(klog_line(line), self.boot, self.cap);
+        let told = match klog_line(line) {
+            KlogLine::Other => {
+                self.taken += 1;
+                return Ok(());
+            }
+            told => told,
+        };
+        let out = self.state.step(told, self.boot, self.cap);
         match push_out(alloc, text, &out) {
             Ok(()) => {
                 self.taken += 1;

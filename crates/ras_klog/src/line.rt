@@ -1,12 +1,13 @@
 //! What a line of a kernel log tells.
 
-ghost use Rattle.std.specs.Prelude.{◌≡◌, ◌≤◌, IfSome};
+ghost use Rattle.std.specs.Prelude.{◌≡◌, ◌-◌, ◌≤◌, ◌↔◌, length, IfSome, IsTrue};
 ghost use Rattle.std.specs.Option.{option_map};
-ghost use Rattle.ras_klog.specs.Reading.{after_marker, bank_of, check_of, colon_number, is_vendor_and_model, klog_line_of, named, parts_of, processor_line_of, start_line_of, told_by_words, tsc_of};
+ghost use Rattle.memchr.specs.Find.{FindsNeedle, OccursAt};
+ghost use Rattle.ras_klog.specs.Reading.{after_marker, bank_of, check_of, colon_number, is_vendor_and_model, klog_line_of, marker, named, parts_of, processor_line_of, start_line_of, told_by_words, tsc_of};
 ghost use Rattle.ras_klog.specs.Steps.Words.{words_in};
 
 use crate::words::{Words, position_of};
-use memchr::memmem;
+use memchr::memchr;
 use ras_script::{decimal, hexadecimal};
 
 /// What a line of a kernel log tells.
@@ -67,10 +68,34 @@ pub fn klog_line(bytes: &[u8]) -> KlogLine
 fn after_marker(line: &[u8]) -> Option<&[u8]>
     ensures { option_map (λ text. text.now) result ≡ after_marker line.now }
 {
-    match memmem::find(line, MARKER) {
+    match marker_in(line) {
         Some(place) => Some(&line[place + MARKER.len()..]),
         None => None,
     }
+}
+
+// The place of the first marker of a line. Its second byte is looked for, which few lines without a
+// marker have: a search for the whole of it costs more to set up than a line to look through.
+fn marker_in(line: &[u8]) -> Option<usize>
+    ensures { FindsNeedle line.now marker 0 result }
+{
+    let mut from = 0;
+    while let Some(passed) = memchr(b'H', &line[from..]) {
+        let second = from + passed;
+        if has_marker_round(line, second) {
+            return Some(second - 1);
+        }
+        from = second + 1;
+    }
+    None
+}
+
+// Whether a marker has its second byte at a place of a line.
+fn has_marker_round(line: &[u8], second: usize) -> bool
+    requires { second ≤ length line.now }
+    ensures { IsTrue result ↔ ((1 ≤ second) × OccursAt line.now marker (second - 1)) }
+{
+    second >= 1 && line[second - 1..].starts_with(MARKER)
 }
 
 // What a text tells after a marker.

@@ -27,7 +27,7 @@ fn push_bank(alloc: Global, text: &mut Vec<u8>, bank: &BankReport) -> Result<(),
     ensures { OnOk result (text.new.items ≡ text.old.items ++ bank_text bank.now) }
 {
     match report_of_bank(alloc, bank, &Topology::new(alloc))? {
-        Some(report) => push_report(alloc, text, &report.fact, report.details.as_slice()),
+        Some(report) => push_report(text, &report.fact, report.details.as_slice()),
         None => Ok(()),
     }
 }

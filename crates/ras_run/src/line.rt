@@ -30,7 +30,7 @@ use ras_events::{Event, EventRefused, LineRefusal, Settings};
 use ras_exit::Exit;
 use ras_facts::Name;
 use ras_ledger::Ledger;
-use ras_script::read_line;
+use ras_script::{Line, read_line};
 use ras_texts::{done_line, push_done, push_known, standing_lines};
 use std::alloc::Global;
 
@@ -69,6 +69,7 @@ pub fn take_line<B: Board>(
     ensures faults { Causes BoardCause result (B.faults board.old) (B.faults board.new) }
 {
     let line = match read_line(alloc, bytes) {
+        Ok(Line::Nothing) => return Ok(()),
         Ok(line) => line,
         Err(refused) => return Err(Exit::of_unread(number, refused)),
     };

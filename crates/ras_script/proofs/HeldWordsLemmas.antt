@@ -27,31 +27,22 @@ none_held f n before text fits none =
 pub no_room : {A : Type 0} (f : A → List ℕ) (n : ℕ) (before : List A) (text : List ℕ) → length before ≡ n → map f before ≡ take n (map f before ++ words_of text)
 no_room f n before text full = sym (take_at (map f before) (words_of text) n (length-map before f ∙ full))
 
--- a text and a byte after it
-lacks_more : (byte b : ℕ) (text : List ℕ) → Lacks byte text → ¬ (b ≡ byte) → Lacks byte (text ++ b ∷ [])
-lacks_more byte b [] lacks other = (other, tt)
-lacks_more byte b (c ∷ text) lacks other = (lacks.0, lacks_more byte b text lacks.1 other)
-
-pub unbroken_more : (start place : ℕ) (line : List ℕ) → start ≤ place → place < length line → ¬ (get_or line place 0 ≡ 32) → Lacks 32 (take (place - start) (drop start line)) → Lacks 32 (take (place + 1 - start) (drop start line))
-unbroken_more start place line ahead inside other lacks =
-    let size : place - start < length (drop start line) = omega (arith, length-drop start line) in
-    let next : place + 1 - start ≡ (place - start) + 1 = omega arith in
-    let reached : start + (place - start) ≡ place = omega arith in
-    let byte : get_or (drop start line) (place - start) 0 ≡ get_or line place 0 = get_or-drop start line (place - start) 0 ∙ ap (λ i. get_or line i 0) reached in
-    let all : take (place + 1 - start) (drop start line) ≡ take (place - start) (drop start line) ++ get_or line place 0 ∷ [] = ap (λ k. take k (drop start line)) next ∙ take_more (drop start line) (place - start) 0 size ∙ ap (λ b. take (place - start) (drop start line) ++ b ∷ []) byte in
-    rw all (lacks_more 32 (get_or line place 0) (take (place - start) (drop start line)) lacks other)
-
 back_is : (start place : ℕ) (line : List ℕ) → start ≤ place → place < length line → get_or line place 0 ≡ 32 → drop (place - start) (drop start line) ≡ 32 ∷ drop (place + 1) line
 back_is start place line ahead inside space =
     let reached : start + (place - start) ≡ place = omega arith in
     let here : drop (place - start) (drop start line) ≡ drop place line = drop-drop (place - start) start line ∙ ap (λ k. drop k line) reached in
     here ∙ drop_more line place 0 inside ∙ ap (λ b. b ∷ drop (place + 1) line) space
 
--- a space ends a word
-pub space_ends : (n : ℕ) (start place : ℕ) (line : List ℕ) (before after : List (List ℕ)) → start ≤ place → place < length line → get_or line place 0 ≡ 32 → take n (before ++ words_of (drop start line)) ≡ take n (words_of line) → after ≡ take n (before ++ words_of (take (place - start) (drop start line))) → take n (after ++ words_of (drop (place + 1) line)) ≡ take n (words_of line)
-space_ends n start place line before after ahead inside space held is =
+-- a space ends a word: then `whole`, the words that are held in the end, is made of what is held
+-- and of the words behind the space
+pub space_ends : (n : ℕ) (start place : ℕ) (line : List ℕ) (before after whole : List (List ℕ)) → start ≤ place → place < length line → get_or line place 0 ≡ 32 → take n (before ++ words_of (drop start line)) ≡ whole → after ≡ take n (before ++ words_of (take (place - start) (drop start line))) → take n (after ++ words_of (drop (place + 1) line)) ≡ whole
+space_ends n start place line before after whole ahead inside space held is =
     let text : List ℕ = take (place - start) (drop start line) in
     let rest : List ℕ = drop (place + 1) line in
     let parts : drop start line ≡ text ++ 32 ∷ rest = sym (take-append-drop (place - start) (drop start line)) ∙ ap (λ back. text ++ back) (back_is start place line ahead inside space) in
     let words : words_of (drop start line) ≡ words_of text ++ words_of rest = ap words_of parts ∙ words_separated text rest in
     ap (λ front. take n (front ++ words_of rest)) is ∙ take_again n (before ++ words_of text) (words_of rest) ∙ ap (take n) (append_assoc before (words_of text) (words_of rest)) ∙ ap (λ more. take n (before ++ more)) (sym words) ∙ held
+
+-- once there is no room for a word more, those held are all that will be
+pub all_held : {A : Type 0} (f : A → List ℕ) (n : ℕ) (held : List A) (rest whole : List (List ℕ)) → length held ≡ n → take n (map f held ++ rest) ≡ whole → map f held ≡ whole
+all_held f n held rest whole full is = sym (take_at (map f held) rest n (length-map held f ∙ full)) ∙ is

@@ -2,6 +2,7 @@ pub mod NumberLemmas
 pub mod ByteLemmas
 pub mod SplittingLemmas
 pub mod HeldWordsLemmas
+pub mod SpaceLemmas
 pub mod HeldLineLemmas
 pub mod LineAndWordLemmas
 pub mod FieldLemmas

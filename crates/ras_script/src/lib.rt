@@ -8,6 +8,7 @@ mod laws;
 mod line;
 mod number;
 mod reader;
+mod spaces;
 mod splitting;
 mod window;
 

@@ -1,6 +1,6 @@
 //! What a line of a script asks for.
 
-ghost use Rattle.std.specs.Prelude.{◌≡◌, ℕ, ◌<◌, List, length, map, IfOk, IsErr};
+ghost use Rattle.std.specs.Prelude.{◌≡◌, ℕ, ◌<◌, List, length, map, IfOk, IsErr, IsTrue};
 ghost use Rattle.ras_script.specs.Line.{GivesLine, ReadsLine, line_of, line_of_words};
 ghost use Rattle.ras_script.specs.LineLaws.{IsInRange, line_text};
 ghost use Rattle.ras_script.specs.Refusals.{line_number};
@@ -124,7 +124,19 @@ pub fn read_line(alloc: Global, bytes: &[u8]) -> Result<Line, LineRefused>
     ensures read { ReadsLine result bytes.now }
     ensures range { IfOk result IsInRange }
 {
+    if asks_nothing(bytes) {
+        return Ok(Line::Nothing);
+    }
     line_of_words(alloc, &words(bytes))
+}
+
+// Whether a line's first byte tells that it asks for nothing: there is none, or it begins a
+// comment.
+#[tactic(auto, using(crate::proofs::SpaceLemmas::empty_asks, crate::proofs::SpaceLemmas::comment_asks))]
+fn asks_nothing(bytes: &[u8]) -> bool
+    ensures { IsTrue result → line_of bytes.now ≡ Ok Line.Nothing }
+{
+    bytes.is_empty() || bytes[0] == b'#'
 }
 
 // What a line asks for, whose words `words` gave.

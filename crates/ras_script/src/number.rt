@@ -14,10 +14,27 @@ pub const HEXADECIMAL_DIGITS: usize = 16;
 // This many digits, in any radix up to 16, are a value below 2^64.
 const FITTING_DIGITS: usize = 16;
 
-// The codes of the first and of the last decimal digit.
-const ZERO: u64 = b'0' as u64;
+// What stands in the table for a byte that is no digit of any radix.
+const NONE: u8 = 36;
 
-const NINE: u64 = b'9' as u64;
+// The value of each byte as a digit, of a radix up to 36.
+static DIGIT_VALUES: [u8; 256] = [
+    NONE, NONE, NONE, NONE, NONE, NONE, NONE, NONE, NONE, NONE, NONE, NONE, NONE, NONE, NONE, NONE,
+    NONE, NONE, NONE, NONE, NONE, NONE, NONE, NONE, NONE, NONE, NONE, NONE, NONE, NONE, NONE, NONE,
+    NONE, NONE, NONE, NONE, NONE, NONE, NONE, NONE, NONE, NONE, NONE, NONE, NONE, NONE, NONE, NONE,
+    0, 1, 2, 3, 4, 5, 6, 7, 8, 9, NONE, NONE, NONE, NONE, NONE, NONE, NONE, 10, 11, 12, 13, 14, 15,
+    16, 17, 18, 19, 20, 21, 22, 23, 24, 25, 26, 27, 28, 29, 30, 31, 32, 33, 34, 35, NONE, NONE,
+    NONE, NONE, NONE, NONE, 10, 11, 12, 13, 14, 15, 16, 17, 18, 19, 20, 21, 22, 23, 24, 25, 26, 27,
+    28, 29, 30, 31, 32, 33, 34, 35, NONE, NONE, NONE, NONE, NONE, NONE, NONE, NONE, NONE, NONE,
+    NONE, NONE, NONE, NONE, NONE, NONE, NONE, NONE, NONE, NONE, NONE, NONE, NONE, NONE, NONE, NONE,
+    NONE, NONE, NONE, NONE, NONE, NONE, NONE, NONE, NONE, NONE, NONE, NONE, NONE, NONE, NONE, NONE,
+    NONE, NONE, NONE, NONE, NONE, NONE, NONE, NONE, NONE, NONE, NONE, NONE, NONE, NONE, NONE, NONE,
+    NONE, NONE, NONE, NONE, NONE, NONE, NONE, NONE, NONE, NONE, NONE, NONE, NONE, NONE, NONE, NONE,
+    NONE, NONE, NONE, NONE, NONE, NONE, NONE, NONE, NONE, NONE, NONE, NONE, NONE, NONE, NONE, NONE,
+    NONE, NONE, NONE, NONE, NONE, NONE, NONE, NONE, NONE, NONE, NONE, NONE, NONE, NONE, NONE, NONE,
+    NONE, NONE, NONE, NONE, NONE, NONE, NONE, NONE, NONE, NONE, NONE, NONE, NONE, NONE, NONE, NONE,
+    NONE, NONE, NONE, NONE, NONE, NONE, NONE, NONE, NONE, NONE, NONE,
+];
 
 /// The value of a decimal word of 1 to 20 digits, if it is at most `most`.
 pub fn decimal(word: &[u8], most: u64) -> Option<u64>
@@ -68,16 +85,25 @@ fn number(word: &[u8], radix: u32, longest: usize, most: u64) -> Option<u64>
     if value <= most { Some(value) } else { None }
 }
 
-// The value of a digit. The decimal digits come first, since most digits are decimal.
+// The value of a digit.
 #[inline(always)]
 fn digit_of(byte: u8, radix: u32) -> Option<u64>
     requires some_radix { 10 ≤ radix }
     requires small_radix { radix ≤ 16 }
     ensures { SomeIff result (digit_value byte < radix) (digit_value byte) }
 {
-    let code = u64::from(byte);
-    if ZERO <= code && code <= NINE {
-        return Some(code - ZERO);
+    let digit = value_of(byte);
+    if u32::from(digit) < radix {
+        Some(u64::from(digit))
+    } else {
+        None
     }
-    Some(u64::from(char::from(byte).to_digit(radix)?))
+}
+
+// The value of a byte as a digit, `NONE` if it is none.
+#[inline(always)]
+fn value_of(byte: u8) -> u8
+    ensures { result ≡ digit_value byte }
+{
+    DIGIT_VALUES[usize::from(byte)]
 }

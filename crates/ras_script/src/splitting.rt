@@ -1,31 +1,90 @@
 //! The lines of a script, and the words of a line.
 
-ghost use Rattle.std.specs.Prelude.{◌≡◌, ℕ, ◌+◌, ◌<◌, ◌≤◌, List, [], ◌∷◌, ◌++◌, length, map, take};
+ghost use Rattle.std.specs.Prelude.{◌≡◌, ℕ, ◌+◌, ◌<◌, ◌≤◌, List, [], ◌∷◌, ◌++◌, length, map, take, drop};
 ghost use Rattle.std.specs.List.{AllByRecursion, join_with_byte};
 ghost use Rattle.ras_script.specs.Splitting.{AreHeldWords, lines_of, words_of};
+ghost use Rattle.ras_script.specs.Steps.Spaces.{HasNoSpace};
+ghost use Rattle.ras_script.specs.declared.spaces.TheConstants.{BLOCK_BYTES};
 ghost use Rattle.ras_script.specs.SplittingLaws.{Lacks, IsWord, script_of, with_last_line_feed};
 
 use crate::kinds::MOST_WORDS;
+use crate::spaces::{BLOCK_BYTES, lowest, spaces_at, without};
 use arrayvec::ArrayVec;
 
 /// The words of a line that are held: one more than a line of any kind has, so that a line of too
 /// many words is known as one.
 pub(crate) const HELD_WORDS: usize = MOST_WORDS + 1;
 
-/// The words of a line, which spaces separate, up to the first `HELD_WORDS`. They take no memory.
+/// The words of a line, which spaces separate, up to the first `HELD_WORDS`. They take no memory,
+/// and the line is read no further than they reach.
 pub(crate) fn words(line: &[u8]) -> ArrayVec<&[u8], HELD_WORDS>
     ensures { AreHeldWords (map (λ word. word.now) result.items) line.now }
 {
     let mut words = ArrayVec::new();
     let mut start = 0;
-    for (place, byte) in line.iter().enumerate() {
-        if *byte == b' ' {
-            hold(&mut words, &line[start..place]);
+    let mut at = 0;
+    while line.len() - at >= BLOCK_BYTES {
+        start = hold_in_block(&mut words, line, start, at);
+        if words.is_full() {
+            return words;
+        }
+        at += BLOCK_BYTES;
+    }
+    hold_rest(&mut words, line, start, at);
+    words
+}
+
+// Holds the words that end in the block from `at` on, of which the first begins at `first`, and
+// returns where the next one begins.
+#[inline(always)]
+fn hold_in_block<'a>(
+    words: &mut ArrayVec<&'a [u8], HELD_WORDS>,
+    line: &'a [u8],
+    first: usize,
+    at: usize,
+) -> usize
+    requires ordered { first ≤ at }
+    requires unbroken { HasNoSpace line.now first at }
+    requires room { at + BLOCK_BYTES ≤ length line.now }
+    ensures ordered { result ≤ at + BLOCK_BYTES }
+    ensures unbroken { HasNoSpace line.now result (at + BLOCK_BYTES) }
+    ensures held { take HELD_WORDS (map (λ word. word.now) words.new.items ++ words_of (drop result line.now))
+        ≡ take HELD_WORDS (map (λ word. word.now) words.old.items ++ words_of (drop first line.now)) }
+{
+    let mut start = first;
+    let mut spaces = spaces_at(line, at);
+    while spaces != 0 {
+        let bit = lowest(spaces);
+        let place = at + bit;
+        hold(words, &line[start..place]);
+        start = place + 1;
+        spaces = without(spaces, bit);
+    }
+    start
+}
+
+// Holds the words from `first` on, whose spaces all stand at `from` or later.
+#[inline(always)]
+fn hold_rest<'a>(
+    words: &mut ArrayVec<&'a [u8], HELD_WORDS>,
+    line: &'a [u8],
+    first: usize,
+    from: usize,
+)
+    requires ordered { first ≤ from }
+    requires within { from ≤ length line.now }
+    requires unbroken { HasNoSpace line.now first from }
+    ensures { map (λ word. word.now) words.new.items
+        ≡ take HELD_WORDS (map (λ word. word.now) words.old.items ++ words_of (drop first line.now)) }
+{
+    let mut start = first;
+    for place in from..line.len() {
+        if line[place] == b' ' {
+            hold(words, &line[start..place]);
             start = place + 1;
         }
     }
-    hold(&mut words, &line[start..]);
-    words
+    hold(words, &line[start..]);
 }
 
 // Holds a text without a space as the next word, unless it is empty, or no room is left.

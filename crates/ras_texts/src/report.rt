@@ -13,7 +13,6 @@ use ras_account::Account;
 use ras_base::NoMemory;
 use ras_facts::{Entry, Fact, Item};
 use ras_reports::Detail;
-use std::alloc::Global;
 
 /// Adds the lines of an entry that is fresh in an account, with the details of its items: those of
 /// a fact's report, and none of other entries. The details are beside the items, one for each.
@@ -22,7 +21,6 @@ use std::alloc::Global;
 ///
 /// `NoMemory` comes only if memory runs out.
 pub fn push_entry(
-    alloc: Global,
     text: &mut Vec<u8>,
     details: &[Detail],
     account: &Account,
@@ -32,7 +30,7 @@ pub fn push_entry(
         ≡ text.old.items ++ entry_lines details.now account.now.state entry.now) }
 {
     match entry {
-        Entry::Fact(fact) => push_report(alloc, text, fact, details),
+        Entry::Fact(fact) => push_report(text, fact, details),
         Entry::Limit(limit) => push_limit(text, b"limit ", *limit),
         Entry::Retire(boot) => push_retire(text, account, *boot),
         Entry::ModuleLimit(limit) => push_limit(text, b"module-limit ", *limit),
@@ -45,18 +43,13 @@ pub fn push_entry(
 /// # Errors
 ///
 /// `NoMemory` comes only if memory runs out.
-pub fn push_report(
-    alloc: Global,
-    text: &mut Vec<u8>,
-    fact: &Fact,
-    details: &[Detail],
-) -> Result<(), NoMemory>
+pub fn push_report(text: &mut Vec<u8>, fact: &Fact, details: &[Detail]) -> Result<(), NoMemory>
     ensures { OnOk result (text.new.items ≡ text.old.items ++ report_lines fact.now details.now) }
 {
     if fact.items.as_slice().is_empty() {
         push_empty(text, fact)
     } else {
-        push_items(alloc, text, fact, details)
+        push_items(text, fact, details)
     }
 }
 
@@ -65,11 +58,11 @@ pub fn push_report(
 /// # Errors
 ///
 /// `NoMemory` comes only if memory runs out.
-pub fn push_detail(alloc: Global, text: &mut Vec<u8>, detail: &Detail) -> Result<(), NoMemory>
+pub fn push_detail(text: &mut Vec<u8>, detail: &Detail) -> Result<(), NoMemory>
     ensures { OnOk result (text.new.items ≡ text.old.items ++ detail_text detail.now) }
 {
     match detail {
-        Detail::Bank(bank) => push_bank(alloc, text, bank),
+        Detail::Bank(bank) => push_bank(text, bank),
         Detail::Memory(memory) => push_memory(text, memory),
         Detail::Processor(processor) => push_processor(text, processor),
         Detail::X64(x64) => push_x64(text, x64),
@@ -91,31 +84,20 @@ fn push_empty(text: &mut Vec<u8>, fact: &Fact) -> Result<(), NoMemory>
 }
 
 // Adds the line of each item with its detail.
-fn push_items(
-    alloc: Global,
-    text: &mut Vec<u8>,
-    fact: &Fact,
-    details: &[Detail],
-) -> Result<(), NoMemory>
+fn push_items(text: &mut Vec<u8>, fact: &Fact, details: &[Detail]) -> Result<(), NoMemory>
     ensures { OnOk result (text.new.items
         ≡ text.old.items ++ flat_map (told_line fact.now) (zip fact.now.items details.now)) }
 {
     let items = fact.items.as_slice();
     for i in 0..items.len().min(details.len()) {
-        push_item(alloc, text, fact, &items[i], &details[i])?;
+        push_item(text, fact, &items[i], &details[i])?;
     }
     Ok(())
 }
 
 // Adds the line of an item with its detail.
 #[tactic(auto, unfolding(crate::specs::Text::item_line))]
-fn push_item(
-    alloc: Global,
-    text: &mut Vec<u8>,
-    fact: &Fact,
-    item: &Item,
-    detail: &Detail,
-) -> Result<(), NoMemory>
+fn push_item(text: &mut Vec<u8>, fact: &Fact, item: &Item, detail: &Detail) -> Result<(), NoMemory>
     ensures { OnOk result
         (text.new.items ≡ text.old.items ++ told_line fact.now (item.now, detail.now)) }
 {
@@ -124,9 +106,9 @@ fn push_item(
     push_label(text, &item.label)?;
     text.extend_from_slice(b" page=")?;
     push_page(text, item.page)?;
-    text.extend_from_slice(b" ")?;
-    push_detail(alloc, text, detail)?;
-    text.extend_from_slice(b"\n")?;
+    text.push(b' ')?;
+    push_detail(text, detail)?;
+    text.push(b'\n')?;
     Ok(())
 }
 

@@ -189,6 +189,15 @@ impl<K: Hash + ExactEq + Copy, R: Copy> RowTable<K, R> {
         }
     }
 
+    /// Takes room for this many keys more at once, so that the table needn't grow again and again
+    /// as it is filled. What it holds stays.
+    pub fn make_room(&mut self, additional: usize) -> Result<(), NoMemory>
+        ensures { self.new ≡ self.old }
+    {
+        self.table.reserve(additional)?;
+        Ok(())
+    }
+
     /// Lets no key wait any longer.
     pub fn give_up(&mut self)
         ensures rows { self.new.rows ≡ self.old.rows }

@@ -6,7 +6,7 @@ use erst_store::actions::{
     BEGIN_CLEAR_OPERATION, EXECUTE_OPERATION, GET_COMMAND_STATUS, GET_RECORD_COUNT,
     SET_RECORD_IDENTIFIER,
 };
-use ras_host::{FileBoard, Use};
+use ras_host::{FileBoard, RealSystem, Use};
 use std::fs;
 use std::fs::Permissions;
 use std::os::unix::fs::{MetadataExt, PermissionsExt, chown, symlink};
@@ -24,12 +24,12 @@ const NONE: &[u8] = b"RASERST1\0\0\0\0";
 // The longest file of a store has a byte less.
 const TOO_LONG: u64 = 16_789_517;
 
-fn act(board: &mut FileBoard, action: u64) -> bool {
+fn act(board: &mut FileBoard<RealSystem>, action: u64) -> bool {
     board.reg_write(Reg::Action, action).is_ok()
 }
 
 // Does an action that answers in the register Value.
-fn ask(board: &mut FileBoard, action: u64) -> Option<u64> {
+fn ask(board: &mut FileBoard<RealSystem>, action: u64) -> Option<u64> {
     if !act(board, action) {
         return None;
     }
@@ -41,7 +41,7 @@ fn count_anew(rt: HostRuntime) -> Option<u64> {
 }
 
 // Clears the record of an identifier, and answers the status.
-fn clear(board: &mut FileBoard, id: u64) -> Option<u64> {
+fn clear(board: &mut FileBoard<RealSystem>, id: u64) -> Option<u64> {
     let is_set = board.reg_write(Reg::Value, id).is_ok() && act(board, SET_RECORD_IDENTIFIER);
     if !is_set || !act(board, BEGIN_CLEAR_OPERATION) || !act(board, EXECUTE_OPERATION) {
         return None;
@@ -50,7 +50,7 @@ fn clear(board: &mut FileBoard, id: u64) -> Option<u64> {
 }
 
 // Puts the record (id, 00).
-fn put(board: &mut FileBoard, id: u64) -> Result<(), BoardPut> {
+fn put(board: &mut FileBoard<RealSystem>, id: u64) -> Result<(), BoardPut> {
     board.put(id, &[0])
 }
 

@@ -26,7 +26,7 @@ pub record AreConsistent (folder : Folder) : Type 0 where
   pub new : IsConsistent folder.new
 
 -- a range that is no shorter
-wider : (file : DiskFile) (place n count : ℕ) (bytes : List ℕ) → n ≤ count → MayLeaveFile (with_range place n file) bytes → MayLeaveFile (with_range place count file) bytes
+pub wider : (file : DiskFile) (place n count : ℕ) (bytes : List ℕ) → n ≤ count → MayLeaveFile (with_range place n file) bytes → MayLeaveFile (with_range place count file) bytes
 wider file place n count bytes within may = record {
   stays = λ k below outside. may.stays k below (outside_more file.written (record { place = place; count = n }) k
       (outside_front file.written (record { place = place; count = count }) k outside)

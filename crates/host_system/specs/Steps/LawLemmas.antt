@@ -1,17 +1,18 @@
 -- Only for proofs: the laws of a board over a system. They hold of each past, whatever was done in it.
 use Rattle.std.specs.Prelude.{◌≡◌, ℕ, ◌≤◌, List, [], ◌∷◌, length, Bool, true, false, ◌&&◌, Option, None, Some, refl}
 use Rattle.std.specs.Option.{option_map}
-use Rattle.std.proofs.Common.{sym, ◌∙◌, ap, inl, inr, arith}
+use Rattle.std.proofs.Common.{sym, ◌∙◌, ap, subst, inl, inr, arith}
+use Rattle.ras_base.specs.LittleEndian.{AreBytes}
 use Rattle.board_core.specs.Clock.{LeftNow}
 use Rattle.board_core.specs.Steps.DiskLemmas.{settled_only}
 use Rattle.board_core.specs.DiskModel.{Range, DiskFile, MayLeaveFile}
 use Rattle.board_core.specs.Stop.{Left}
-use Rattle.host_system.specs.Folder.{FolderFile, NameEntry, on_disk, MayLeaveOne, MayLeaveAny, MayLeaveName, MayLeaveFolder, bytes_now, here_in, settled_folder}
+use Rattle.host_system.specs.Folder.{FolderFile, NameEntry, shut, lost, on_disk, entry_from, Stopped, MayLeaveOne, MayLeaveAny, MayLeaveName, MayLeaveFolder, bytes_now, here_in, settled_folder}
 use Rattle.host_system.specs.Steps.FolderLemmas.{IsConsistent}
 use Rattle.host_system.specs.View.{is_none_of, is_settled_file, is_settled, seen_if, told_over}
-use Rattle.host_system.specs.FolderPast.{FolderPast, folder_of}
+use Rattle.host_system.specs.FolderPast.{FolderPast, folder_of, bytes_or}
 use Rattle.host_system.specs.Steps.FolderPastLemmas.{consistent_of, here_left, now_only, now_counts, since_earlier}
-use Rattle.host_system.specs.View.{store_in, seen_now, clock_over}
+use Rattle.host_system.specs.View.{MayBegin, store_in, seen_now, clock_over}
 
 none_some : (t : Left) → None ≡ Some t → ⊥
 none_some t e = cc
@@ -90,3 +91,24 @@ store_left (Some past) t left is now =
 pub earlier_left : (past : Option FolderPast) (s t : ℕ) (left : Left) → s ≤ t → (clock_over past).may_leave_since t left → (clock_over past).may_leave_since s left
 earlier_left None s t left within may = may
 earlier_left (Some past) s t left within may = record { stopped = may.stopped; may = since_earlier (settled_folder past.first) past.changes s t may.stopped within may.may; is = may.is }
+
+-- the folder that a stop has left, before any change
+
+shut_lost : shut ≡ lost → ⊥
+shut_lost e = cc
+
+begins_settled : (bytes : Option (List ℕ)) → is_settled (entry_from bytes) ≡ true
+begins_settled None = refl
+begins_settled (Some bytes) = refl
+
+begins_bytes : (bytes : Option (List ℕ)) → bytes_or bytes ≡ bytes_or (bytes_now (entry_from bytes))
+begins_bytes None = refl
+begins_bytes (Some bytes) = refl
+
+pub may_begin : (start : Stopped) → AreBytes (bytes_or start.store) → MayBegin (record { first = start; changes = [] })
+may_begin start bytes = record {
+  zero = shut_lost;
+  one = shut_lost;
+  settled = begins_settled start.store;
+  bytes = subst AreBytes (begins_bytes start.store) bytes;
+}

@@ -83,13 +83,12 @@ fn report_of(alloc: Global, bytes: &[u8]) -> Result<Report, Fail> {
 
 // Adds the lines of an entry that is fresh in an account, with these details.
 fn push_lines(
-    alloc: Global,
     text: &mut Vec<u8>,
     account: &Account,
     entry: &Entry,
     details: &[Detail],
 ) -> Result<(), Fail> {
-    Ok(push_entry(alloc, text, details, account, entry)?)
+    Ok(push_entry(text, details, account, entry)?)
 }
 
 // The lines of a fresh report.
@@ -98,7 +97,7 @@ fn lines_of(alloc: Global, report: Report) -> Result<Vec<u8>, Fail> {
     let account = Account::new(alloc);
     let Report { fact, details } = report;
     let entry = Entry::Fact(fact);
-    push_lines(alloc, &mut text, &account, &entry, details.as_slice())?;
+    push_lines(&mut text, &account, &entry, details.as_slice())?;
     Ok(text)
 }
 

@@ -1,4 +1,4 @@
-use Rattle.host_system.specs.Steps.LawLemmas.{told_left, text_left, store_left, earlier_left}
+use Rattle.host_system.specs.Steps.LawLemmas.{told_left, text_left, store_left, earlier_left, may_begin}
 use Rattle.host_system.proofs.laws.system_laws.Goals as goal
 
 pub returns-clause-told : goal.returns-clause-told
@@ -12,3 +12,6 @@ returns-clause-store c = λ past t left is now. store_left past t left is now
 
 pub returns-clause-earlier : goal.returns-clause-earlier
 returns-clause-earlier c = λ past s t left within may. earlier_left past s t left within may
+
+pub returns-clause-begins : goal.returns-clause-begins
+returns-clause-begins c = λ start bytes. may_begin start bytes

@@ -1,4 +1,4 @@
-use Rattle.std.proofs.Common.{◌≡◌, ◌∷◌, ◌++◌, ap, refl, subst}
+use Rattle.std.proofs.Common.{◌≡◌, ◌∷◌, ◌++◌, ◌∙◌, ap, sym, subst}
 use Rattle.ras_facts.specs.declared.name.Name.{Name}
 use Rattle.ras_account.specs.Account.{State}
 use Rattle.entry_format.specs.declared.refused.EntryRefused.TheVariants.{Bad}
@@ -15,10 +15,14 @@ returns-in-Err-clause-bad c e names rest all are =
     unread_amid (list_at name_at c.args.bytes.now) c.in-Err.refused names rest (unlisted name_at c.args.bytes.now c.in-Err.refused c.in-Err.ensures) is all
 
 pub loop-init : goal.loop-init
-loop-init c = record {
-  state = refl;
-  so_far = list_begins name_at c.args.account.now.names c.args.bytes.now c.in-Ok.found.0 c.in-Ok.found.1.now c.requires.none c.in-Ok.ensures;
-}
+loop-init c =
+    let stays : c.make_room.new.account ≡ c.args.account.now = c.make_room.ensures in
+    record {
+      state = stays ∙ ap (λ (a : State). record c.args.account.now { names = a.names }) (sym stays);
+      so_far =
+          list_begins name_at c.make_room.new.account.names c.args.bytes.now c.in-Ok.found.0 c.in-Ok.found.1.now
+          (ap (λ (a : State). a.names) stays ∙ c.requires.none) c.in-Ok.ensures;
+    }
 
 pub returns-in-Err-name_at-clause-bad : goal.returns-in-Err-name_at-clause-bad
 returns-in-Err-name_at-clause-bad c e names rest all are =

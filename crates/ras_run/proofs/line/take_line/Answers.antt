@@ -1,10 +1,11 @@
 use Rattle.std.proofs.Common.{◌∙◌, List, Ok, ap, refl, subst, sym}
 use Rattle.board_core.specs.Doing.{Act, Does, looks}
 use Rattle.ras_events.specs.declared.event.Event.{Event}
-use Rattle.ras_events.specs.declared.event.Event.TheVariants.{Put, Polled}
+use Rattle.ras_events.specs.declared.event.Event.TheVariants.{Polled, Put, Saved}
 use Rattle.ras_events.specs.Repeats.{IsRepeat}
 use Rattle.ras_events.specs.Sizes.{CanBeSaved, IsFit}
 use Rattle.ras_exit.specs.Acts.{part_end}
+use Rattle.ras_script.specs.declared.line.Line.TheVariants as asks
 use Rattle.ras_script.specs.Line.{line_of}
 use Rattle.ras_texts.specs.Text.{done_line, known_line}
 use Rattle.erst_store.specs.Store.{refusal_of}
@@ -25,6 +26,14 @@ take-requires-clause-short g c = read_short c.args.bytes.now c.in-Ok.line c.requ
 pub returns-in-Err-clause-does : goal.returns-in-Err-clause-does
 returns-in-Err-clause-does g c = λ start before is t at board.
     rw c.of_unread.ensures (unread (looks g.B.Board.told g.B.Board.clock g.B.Board.faults) start before c.args.number t c.args.board.now _ c.in-Err.refused c.in-Err.ensures.read)
+
+pub returns-in-Ok-Nothing-clause-takes : goal.returns-in-Ok-Nothing-clause-takes
+returns-in-Ok-Nothing-clause-takes g c = λ start before is t at board.
+    rw (c.in-Ok-Nothing.ensures.read, c.in-Ok-Nothing.field-0-is) (takes_nothing start before c.args.number asks.Nothing c.args.run.now c.args.run.now is refl refl refl)
+
+pub returns-in-Ok-Nothing-clause-does : goal.returns-in-Ok-Nothing-clause-does
+returns-in-Ok-Nothing-clause-does g c = λ start before is t at board.
+    rw (c.in-Ok-Nothing.ensures.read, c.in-Ok-Nothing.field-0-is) (nothing_does start before c.args.number asks.Nothing c.args.run.now c.args.run.now is refl refl (looks g.B.Board.told g.B.Board.clock g.B.Board.faults) t c.args.board.now refl)
 
 pub returns-in-Err-NoMemory-clause-does : goal.returns-in-Err-NoMemory-clause-does
 returns-in-Err-NoMemory-clause-does g c = λ start before is t at board.
@@ -124,6 +133,12 @@ returns-in-Put-clause-does g c = λ start before is t at board.
     rw c.in-Ok.ensures.read
     (put_does start before c.args.number c.in-Ok.line c.args.run.now after is c.in-Ok-take.ensures.settings t board c.put_record.result c.in-Put.id bytes asked ends refl
     (looks g.B.Board.told g.B.Board.clock g.B.Board.faults) c.args.board.now c.put_record.new.board (c.put_record.ensures.does t at))
+
+pub returns-in_err-driver-in-Saved-clause-does : goal.returns-in_err-driver-in-Saved-clause-does
+returns-in_err-driver-in-Saved-clause-does g c = λ start before is t at board.
+    let after = record c.args.run.now { settings = c.take.new.self } in
+    let asked = c.in-Ok-take.ensures.event ∙ ap (λ (e : Event). Ok e) c.in-Saved.is in
+    absurd (not_undriven start before c.args.number c.in-Ok.line c.args.run.now after is c.in-Ok-take.ensures.settings (Saved c.in-Saved.id c.in-Saved.bytes) asked tt c.in_err-driver-in-Saved.ensures.1)
 
 pub returns-in_err-driver-in-Polled-clause-does : goal.returns-in_err-driver-in-Polled-clause-does
 returns-in_err-driver-in-Polled-clause-does g c = λ start before is t at board.

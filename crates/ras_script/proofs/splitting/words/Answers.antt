@@ -1,19 +1,18 @@
-use Rattle.std.proofs.Common.{◌≡◌, ◌+◌, ◌-◌, arith}
+use Rattle.std.proofs.Common.{◌≡◌, length, ◌∙◌, arith}
+use Rattle.std.proofs.lemmas.Bool.Decides.{nat_tests}
 use Rattle.ras_script.specs.declared.splitting.TheConstants.{HELD_WORDS}
-use Rattle.ras_script.proofs.HeldWordsLemmas.{unbroken_more, space_ends}
+use Rattle.ras_script.proofs.HeldWordsLemmas.{all_held}
 use Rattle.ras_script.proofs.splitting.words.Goals as goal
-use Rattle.ras_script.proofs.splitting.words.Goals.{then-byte-eq32, else-byte-eq32}
 
-pub loop-place-preserved : goal.loop-place-preserved
-loop-place-preserved c = elim c.if-byte-eq32.branch [
-  | then-byte-eq32 w ↦ rw (w.words-is, w.start-is) (record {
-    inside = omega arith;
-    unbroken = let none : c.loop-place.place + 1 - (c.loop-place.place + 1) ≡ 0 = omega arith in rw none tt;
-    held = space_ends HELD_WORDS c.loop-place.start c.loop-place.place c.args.line.now _ _ c.loop-place.invariant.inside c.loop-place-test.true w.if-byte-eq32.true c.loop-place.invariant.held w.hold.ensures;
-  })
-  | else-byte-eq32 w ↦ rw (w.words-is, w.start-is) (record {
-    inside = omega arith;
-    unbroken = unbroken_more c.loop-place.start c.loop-place.place c.args.line.now c.loop-place.invariant.inside c.loop-place-test.true w.if-byte-eq32.false c.loop-place.invariant.unbroken;
-    held = c.loop-place.invariant.held;
-  })
-]
+pub loop-at-preserved : goal.loop-at-preserved
+loop-at-preserved c = record {
+  ordered = c.hold_in_block-start.ensures.ordered;
+  within = omega arith;
+  unbroken = c.hold_in_block-start.ensures.unbroken;
+  held = c.hold_in_block-start.ensures.held ∙ c.loop-at.invariant.held;
+}
+
+pub returns-then-is_full : goal.returns-then-is_full
+returns-then-is_full c =
+    let full : length c.hold_in_block-start.new.words.items ≡ HELD_WORDS = grind (arith, nat_tests, c.if-is_full.ensures.value) in
+    all_held (λ word. word.now) HELD_WORDS c.hold_in_block-start.new.words.items _ _ full (c.hold_in_block-start.ensures.held ∙ c.loop-at.invariant.held)

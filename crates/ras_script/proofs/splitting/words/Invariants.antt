@@ -1,14 +1,17 @@
-use Rattle.std.proofs.Common.{◌≡◌, ◌-◌, ◌≤◌, ◌++◌, map, take, drop}
+use Rattle.std.proofs.Common.{◌≡◌, ◌-◌, ◌≤◌, ◌++◌, length, map, take, drop}
 use Rattle.ras_script.specs.Splitting.{words_of}
-use Rattle.ras_script.specs.SplittingLaws.{Lacks}
+use Rattle.ras_script.specs.Steps.Spaces.{HasNoSpace}
 use Rattle.ras_script.specs.declared.splitting.TheConstants.{HELD_WORDS}
 use Rattle.ras_script.proofs.splitting.words.Given as goal
 
--- the words held and those from `start` on are the line's, and no space stands from `start` to
--- `place`
-abbrev pub invariant-loop-place : goal.invariant-loop-place
-invariant-loop-place l = record {
-  inside : l.start ≤ l.place;
-  unbroken : Lacks 32 (take (l.place - l.start) (drop l.start l.line));
+-- the words held and those from `start` on are the line's, and no space stands from `start` to `at`
+abbrev pub invariant-loop-at : goal.invariant-loop-at
+invariant-loop-at l = record {
+  ordered : l.start ≤ l.at;
+  within : l.at ≤ length l.line;
+  unbroken : HasNoSpace l.line l.start l.at;
   held : take HELD_WORDS (map (λ word. word.now) l.words.items ++ words_of (drop l.start l.line)) ≡ take HELD_WORDS (words_of l.line);
 }
+
+abbrev pub decreases-loop-at : goal.decreases-loop-at
+decreases-loop-at l = length l.line - l.at

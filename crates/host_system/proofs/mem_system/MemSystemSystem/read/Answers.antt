@@ -1,12 +1,16 @@
-use Rattle.std.proofs.Common.{ap, sym, ◌∙◌}
-use Rattle.host_system.specs.declared.mem_files.MemFile.{MemFile}
-use Rattle.host_system.specs.FolderPast.{bytes_named}
-use Rattle.host_system.specs.Steps.MemFiles.{mem_file}
-use Rattle.host_system.proofs.MemLemmas.{seen_held, read_held}
+use Rattle.std.proofs.Common.{take, ap, ◌∙◌}
+use Rattle.std.specs.Option.{option_map}
+use Rattle.host_system.specs.declared.mem_files.MemEntry.{MemEntry}
+use Rattle.host_system.specs.Folder.{NameEntry, bytes_now}
+use Rattle.host_system.specs.FolderPast.{FolderPast, bytes_named}
+use Rattle.host_system.specs.MemSystem.{as_stopped, past_noted}
+use Rattle.host_system.specs.Steps.MemFiles.{entry_seen}
+use Rattle.host_system.proofs.MemLemmas.{entry_held}
 use Rattle.host_system.proofs.mem_system.MemSystemSystem.read.Goals as goal
 
 pub returns-clause-read : goal.returns-clause-read
-returns-clause-read c =
-    read_held c.args.most c.min-count.result c.len.result c.deref.result.now _ (mem_file c.args.name c.self.inside.files) (bytes_named c.args.name c.args.self.now) c.in-Ok.ensures.items c.min-count.ensures
-    (c.len.ensures ∙ sym c.deref.ensures.len) (c.deref.ensures.value ∙ ap (λ (f : MemFile). f.bytes.items) c.get.ensures)
-    (seen_held c.args.name c.self.inside.notes.calls c.self.inside.files c.self.inside.out.items c.args.self.now (c.self.view_is ∙ c.begin.ensures) c.self.invariant) c.requires.there
+returns-clause-read c = λ may.
+    c.in-Ok.ensures
+    ∙ (ap (λ (e : MemEntry). option_map (take c.args.most) (bytes_now (entry_seen e))) c.get.ensures
+    ∙ (ap (λ (e : NameEntry). option_map (take c.args.most) (bytes_now e)) (entry_held c.args.name (past_noted (as_stopped c.self.inside.first) c.self.inside.notes.calls) c.self.inside.files c.self.inside.out.items c.self.invariant.held)
+    ∙ ap (λ (p : FolderPast). option_map (take c.args.most) (bytes_named c.args.name p)) (c.self.view_is ∙ c.begin.ensures)))

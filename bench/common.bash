@@ -1,0 +1,95 @@
+# shellcheck shell=bash
+# What the scripts of this folder share. A script says its usage in its second line.
+#
+# C stands for a counterpart in this folder, built anew. All files are in a temporary folder, in memory if there is
+# such a place, where a flush costs nothing.
+set -euo pipefail
+shopt -s inherit_errexit
+bench=$(dirname -- "$(readlink -f -- "${BASH_SOURCE[0]}")")
+
+# Takes a script's words: PROGRAM [full].
+begin() {
+    [[ $# -ge 1 && $# -le 2 && -x $1 && ${2-full} == full ]] || {
+        sed -n '2s/^# //p' "$0" >&2
+        exit 2
+    }
+    program=$(readlink -f -- "$1")
+    export full=${2-}
+    local in=/dev/shm
+    [[ -d $in && -w $in ]] || in=${TMPDIR:-/tmp}
+    room=$(mktemp -d -p "$in")
+    # shellcheck disable=SC2064
+    trap "rm -rf -- '$room'" EXIT
+    export ACCOUNTS=${ACCOUNTS-$room}
+    mkdir -- "$room/work"
+    cd -- "$room/work"
+}
+
+say_skipped() {
+    echo "skipped: $*" >&2
+}
+
+# Whether there are tools; says which of them isn't there.
+have() {
+    local tool
+    for tool; do
+        command -v "$tool" >/dev/null || {
+            say_skipped "what needs $tool, which isn't here"
+            return 1
+        }
+    done
+}
+
+# Builds counterparts; slowsync is a library.
+build() {
+    local name how
+    for name; do
+        how=(-o "$room/$name")
+        [[ $name != slowsync ]] || how=(-shared -fPIC -o "$room/slowsync.so")
+        cc -O2 -Wall -Wextra -Wpedantic "${how[@]}" "$bench/$name.c"
+    done
+}
+
+# Prints so many lines of a kind: KIND COUNT [BOOT]
+lines() {
+    local block record table
+    block=$(sed -n '/^ghes/{s/.* //p;q}' "$bench/../demo/pcie.script")
+    record=$(od -An -v -tx1 -N353 "$bench/../demo/firmware.records" | tr -d ' \n')
+    table=$(grep '^erst' "$bench/../demo/store.script")
+    awk -v kind="$1" -v count="$2" -v boot="${3-2}" -v block="$block" -v record="$record" -v table="$table" \
+        -f "$bench/lines.awk"
+}
+
+# Empties the work folder, but for the journal of an account of so many names, which rasd makes once.
+over() {
+    local kept=$ACCOUNTS/$1
+    if [[ ! -d $kept ]]; then
+        mkdir -- "$kept"
+        { lines modules 1 && lines new "$1" 1; } | (cd -- "$kept" && "$program" run >/dev/null)
+    fi
+    rm -f -- "$room"/work/*
+    cp -- "$kept"/* "$room/work"
+}
+
+# What a file of rounds has in a column, the least number first; column 0 is of zeros.
+ranked() {
+    if [[ $2 == 0 ]]; then echo 0; else cut -d ' ' -f "$2" -- "$1" | sort -g; fi
+}
+best() { ranked "$@" | sed -n 1p; }
+middle() { ranked "$@" | awk '{ them[NR] = $1 } END { print them[int(NR / 2) + 1] }'; }
+
+# A column less another one in a file of rounds, over the same in a second file: of the best and, in brackets, of the
+# middle rounds: FILE FILE COLUMN COLUMN
+ratio() {
+    local how
+    for how in best middle; do
+        echo "$("$how" "$1" "$3") $("$how" "$1" "$4") $("$how" "$2" "$3") $("$how" "$2" "$4")"
+    done | awk '
+        { told[NR] = $1 > $2 && $3 > $4 ? sprintf("%.2f", ($1 - $2) / ($3 - $4)) : "-" }
+        END { print told[1] " (" told[2] ")" }'
+}
+
+# A number with its thousands told apart.
+grouped() {
+    sed ':more;s/\B[0-9]\{3\}\>/,&/;tmore' <<<"$1"
+}

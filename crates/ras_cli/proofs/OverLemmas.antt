@@ -1,0 +1,269 @@
+-- What a run over a board says of the folder that the board is over.
+use Rattle.std.proofs.Common.{◌≡◌, ℕ, Bool, true, false, List, [], ◌++◌, refl, sym, ◌∙◌, ap, subst, inl, inr, None, Some}
+use Rattle.std.specs.Prelude.{◌⊎◌, Option, IfSome, IsSomeAnd}
+use Rattle.std.specs.Option.{option_map}
+use Rattle.board_core.specs.Clock.{Adds, Always, LeftNow}
+use Rattle.board_core.specs.Doing.{after_acts}
+use Rattle.board_core.specs.Stop.{Left}
+use Rattle.board_core.specs.Told.{Told}
+use Rattle.host_system.specs.FolderPast.{FolderPast, folder_of}
+use Rattle.host_system.specs.View.{MayBegin, clock_over, is_settled, seen_if, seen_now, told_over}
+use Rattle.ras_account.specs.Account.{State}
+use Rattle.ras_cli.specs.OverFolder.{Ends, FolderRecovers, NeverOpened, Outlives, OutlivesOpened, OverDamaged, OverFolder, Refuses, begun_over}
+use Rattle.ras_daemon.specs.Headline.{AtOpening, Headline, IsWhole, NeverOpens, OverRun, Settles}
+use Rattle.ras_daemon.specs.Machine.{account_upto, change_next, store_upto}
+use Rattle.ras_daemon.specs.Promises as promises
+use Rattle.ras_daemon.specs.Promises.{EndsRefused, OverRefused, Ran, RunStops, StillTell}
+use Rattle.ras_daemon.specs.RunOf.{run_of}
+use Rattle.ras_daemon.specs.RunOutput.{run_output}
+use Rattle.ras_daemon.specs.RunStatus.{start_of}
+use Rattle.ras_daemon.specs.StoreDuring.{store_at_end}
+use Rattle.ras_daemon.specs.declared.word.Task.{Task}
+use Rattle.ras_daemon.specs.declared.word.Task.TheVariants.{Run, Report, Load, Pcie, Klog, TraceLines, KlogLines, Help, Version}
+use Rattle.ras_exit.specs.Endings.{CallEnding, OnAnswer, UnlessFaulted, answered, starved, faulted, source_failed, ending_of}
+use Rattle.ras_exit.specs.StopLine.{stop_line}
+use Rattle.ras_exit.specs.Telling.{PrintsPart}
+use Rattle.ras_exit.specs.declared.exit.Exit.{Exit}
+use Rattle.ras_host.specs.BoardState.{BoardState}
+use Rattle.ras_host.specs.Steps.Telling.{clock_of, past_of, past_told, told_of, told_with}
+use Rattle.ras_host.specs.JournalFiles.{is_run}
+use Rattle.ras_host.specs.declared.journal.JournalFiles.{JournalFiles}
+use Rattle.ras_host.specs.declared.journal.JournalFiles.TheVariants.{Shut}
+use Rattle.ras_host.specs.declared.kept.Kept.TheVariants.{Unread}
+use Rattle.ras_journal.specs.Recovered.{Recovers}
+use Rattle.ras_run.specs.Files.{files_refusal}
+use Rattle.ras_run.specs.Places.{Start}
+
+-- ---- when the promises are made
+
+pub over_folder : (P : Start → List ℕ → FolderPast → Type 0) (task : Option Task) (left : Option (List ℕ)) (past : Option FolderPast)
+    → ((account : State) (script : List ℕ) (p : FolderPast) → task ≡ Some Run → left ≡ Some script → past ≡ Some p → Recovers account (seen_now p) → P (start_of account (begun_over p)) script p)
+    → OverFolder P task left past
+over_folder P (Some Run) (Some script) (Some p) gives = λ account recovers. gives account script p refl refl refl recovers
+over_folder P (Some Run) (Some script) None gives = tt
+over_folder P (Some Run) None past gives = tt
+over_folder P (Some (Report listing)) left past gives = tt
+over_folder P (Some (Load n)) left past gives = tt
+over_folder P (Some Pcie) left past gives = tt
+over_folder P (Some (Klog boot cap)) left past gives = tt
+over_folder P (Some (TraceLines boot)) left past gives = tt
+over_folder P (Some (KlogLines boot cap)) left past gives = tt
+over_folder P (Some Help) left past gives = tt
+over_folder P (Some Version) left past gives = tt
+over_folder P None left past gives = tt
+
+pub over_damaged : (P : Exit → FolderPast → Type 0) (task : Option Task) (past : Option FolderPast)
+    → ((p : FolderPast) → task ≡ Some Run → past ≡ Some p → IfSome (files_refusal (seen_now p)) (λ why. P why p))
+    → OverDamaged P task past
+over_damaged P (Some Run) (Some p) gives = gives p refl refl
+over_damaged P (Some Run) None gives = tt
+over_damaged P (Some (Report listing)) past gives = tt
+over_damaged P (Some (Load n)) past gives = tt
+over_damaged P (Some Pcie) past gives = tt
+over_damaged P (Some (Klog boot cap)) past gives = tt
+over_damaged P (Some (TraceLines boot)) past gives = tt
+over_damaged P (Some (KlogLines boot cap)) past gives = tt
+over_damaged P (Some Help) past gives = tt
+over_damaged P (Some Version) past gives = tt
+over_damaged P None past gives = tt
+
+from_over : (P : Start → List ℕ → Told → Type 0) (task : Option Task) (left : Option (List ℕ)) (told : Option Told) (script : List ℕ) (t : Told) → task ≡ Some Run → left ≡ Some script → told ≡ Some t
+    → OverRun P task left told → (account : State) → Recovers account t.here → P (start_of account t) script t
+from_over P task left told script t is_run is_left is_told over =
+    subst (λ (d : Option Told). OverRun P (Some Run) (Some script) d) is_told
+    (subst (λ (l : Option (List ℕ)). OverRun P (Some Run) l told) is_left
+    (subst (λ (k : Option Task). OverRun P k left told) is_run over))
+
+from_refused : (P : Exit → Told → Told → Type 0) (task : Option Task) (before now : Option Told) (t : Told) → task ≡ Some Run → before ≡ Some t
+    → OverRefused P task before now → IfSome (files_refusal t.here) (λ why. IsSomeAnd now (P why t))
+from_refused P task before now t is_run is_told over =
+    subst (λ (d : Option Told). OverRefused P (Some Run) d now) is_told
+    (subst (λ (k : Option Task). OverRefused P k before now) is_run over)
+
+-- ---- the board at its start, and at its end
+
+pub record Begun (task : Option Task) (past : Option FolderPast) (b : BoardState) : Type 0 where
+  pub over : b.past ≡ past
+  pub files : task ≡ Some Run → b.files ≡ Shut
+  pub kept : b.kept ≡ Unread
+  pub disk_calls : b.disk_calls ≡ []
+  pub accesses : b.accesses ≡ []
+  pub may : IfSome past MayBegin
+
+abbrev value_or : Told → Option Told → Told
+value_or t None = t
+value_or t (Some told) = told
+
+some_same : (x y : Told) → Some x ≡ Some y → x ≡ y
+some_same x y is = ap (value_or x) is
+
+may_of : (past : Option FolderPast) (p : FolderPast) → past ≡ Some p → IfSome past MayBegin → MayBegin p
+may_of past p is may = subst (λ (o : Option FolderPast). IfSome o MayBegin) is may
+
+past_begun : (task : Option Task) (past : Option FolderPast) (b : BoardState) (p : FolderPast) → Begun task past b → task ≡ Some Run → past ≡ Some p → past_of b ≡ Some p
+past_begun task past b p begun asked is_past = ap (λ (files : JournalFiles). past_told (is_run files) b.past) (begun.files asked) ∙ (begun.over ∙ is_past)
+
+with_begun : (task : Option Task) (past : Option FolderPast) (b : BoardState) (p : FolderPast) → Begun task past b → told_with b (seen_now p) ≡ begun_over p
+with_begun task past b p begun = rw (begun.kept, begun.disk_calls, begun.accesses) refl
+
+told_begun : (task : Option Task) (past : Option FolderPast) (b : BoardState) (p : FolderPast) → Begun task past b → task ≡ Some Run → past ≡ Some p → told_of b ≡ Some (begun_over p)
+told_begun task past b p begun asked is_past =
+    ap (λ (o : Option FolderPast). option_map (told_with b) (told_over o)) (past_begun task past b p begun asked is_past)
+    ∙ (ap (λ (settled : Bool). option_map (told_with b) (seen_if settled (seen_now p))) (may_of past p is_past begun.may).settled
+    ∙ ap (λ (t : Told). Some t) (with_begun task past b p begun))
+
+-- what a board tells at its end is told of a folder
+pub record Ended (b : BoardState) (t : Told) : Type 0 where
+  pub now : FolderPast
+  pub over : b.past ≡ Some now
+  pub past : past_of b ≡ Some now
+  pub here : t.here ≡ seen_now now
+
+ended : (b : BoardState) (t : Told) → told_of b ≡ Some t → Ended b t
+ended b t is = by (is_run b.files) refl b.past refl is
+  where
+    settled : (p : FolderPast) (s : Bool) → option_map (told_with b) (seen_if s (seen_now p)) ≡ Some t → t.here ≡ seen_now p
+    settled p true e = sym (ap (λ (told : Told). told.here) (some_same (told_with b (seen_now p)) t e))
+    settled p false e = absurd cc
+
+    by : (run : Bool) → is_run b.files ≡ run → (past : Option FolderPast) → b.past ≡ past → option_map (told_with b) (told_over (past_told run past)) ≡ Some t → Ended b t
+    by true at None over e = absurd cc
+    by false at past over e = absurd cc
+    by true at (Some p) over e = record {
+      now = p;
+      over = over;
+      past = rw (at) over;
+      here = settled p (is_settled (folder_of p).store) e;
+    }
+
+-- what holds of a run is told at its end
+record ToldAtEnd (P : List ℕ → Told → Type 0) (now : Option Told) : Type 0 where
+  pub rest : List ℕ
+  pub t : Told
+  pub is : now ≡ Some t
+  pub holds : P rest t
+
+still : (P : List ℕ → Told → Type 0) (left : Option (List ℕ)) (now : Option Told) → StillTell P left now → ToldAtEnd P now
+still P None now never = absurd never
+still P (Some rest) None never = absurd never
+still P (Some rest) (Some t) holds = record { rest = rest; t = t; is = refl; holds = holds }
+
+on_whole_as : (ending : CallEnding) (P Q : Type 0) → (P → Q) → UnlessFaulted ending P → UnlessFaulted ending Q
+on_whole_as answered P Q goes holds = goes holds
+on_whole_as starved P Q goes holds = goes holds
+on_whole_as source_failed P Q goes holds = goes holds
+on_whole_as (faulted kind) P Q goes holds = holds
+
+-- ---- the promises
+
+module _ (exit : Exit) (Same : Type 0) (task : Option Task) (left rest : Option (List ℕ)) (past now : Option FolderPast) (old new : BoardState) (begun : Begun task past old) (over : new.past ≡ now) where
+  abbrev AllRan : Type 0
+  AllRan = OverRun (λ start script told. StillTell (Ran exit Same start script told) rest (told_of new)) task left (told_of old)
+
+  abbrev AllStops : Type 0
+  AllStops = OverRun (λ start script told. RunStops told_of clock_of exit Same start script told old new) task left (told_of old)
+
+  module _ (ran : AllRan) (stops : AllStops) (account : State) (script : List ℕ) (p : FolderPast) (asked : task ≡ Some Run) (is_left : left ≡ Some script) (is_past : past ≡ Some p) (recovers : Recovers account (seen_now p)) where
+    at_end : ToldAtEnd (Ran exit Same (start_of account (begun_over p)) script (begun_over p)) (told_of new)
+    at_end =
+        still (Ran exit Same (start_of account (begun_over p)) script (begun_over p)) rest (told_of new)
+        (from_over (λ start script told. StillTell (Ran exit Same start script told) rest (told_of new)) task left (told_of old) script (begun_over p) asked is_left (told_begun task past old p begun asked is_past) ran account recovers)
+
+    the_end : Ended new at_end.t
+    the_end = ended new at_end.t at_end.is
+
+    stopped : RunStops told_of clock_of exit Same (start_of account (begun_over p)) script (begun_over p) old new
+    stopped =
+        from_over (λ start script told. RunStops told_of clock_of exit Same start script told old new) task left (told_of old) script (begun_over p) asked is_left (told_begun task past old p begun asked is_past) stops account recovers
+
+    is_old : past_of old ≡ Some p
+    is_old = past_begun task past old p begun asked is_past
+
+    at_now : (P : FolderPast → Type 0) → P the_end.now → IsSomeAnd now P
+    at_now P holds = subst (λ (o : Option FolderPast). IsSomeAnd o P) (sym the_end.over ∙ over) holds
+
+    outlives : Outlives (start_of account (begun_over p)) script p the_end.now
+    outlives =
+        subst (λ (o : Option FolderPast). FolderRecovers (start_of account (begun_over p)) p → Always (clock_over o) (clock_over (Some p)).now (Headline (run_of (start_of account (begun_over p)) script) (seen_now p))) the_end.past
+        (subst (λ (o : Option FolderPast). ((left : Left) → LeftNow (clock_over o) left → Recovers account left) → Always (clock_of new) (clock_over o).now (Headline (run_of (start_of account (begun_over p)) script) (seen_now p))) is_old stopped.once)
+
+    pub headline : IsSomeAnd now (Outlives (start_of account (begun_over p)) script p)
+    headline = at_now (Outlives (start_of account (begun_over p)) script p) outlives
+
+    opened : Settles told_of clock_of (start_of account (begun_over p)) script (begun_over p) old new → OutlivesOpened (start_of account (begun_over p)) script p the_end.now
+    opened s = by (ended s.opened (after_acts s.just.acts (begun_over p)) s.just.rests.is)
+      where
+        by : Ended s.opened (after_acts s.just.acts (begun_over p)) → OutlivesOpened (start_of account (begun_over p)) script p the_end.now
+        by e = record {
+          opened = e.now;
+          before =
+              subst (λ (o : Option FolderPast). Adds (λ left. LeftNow (clock_over (Some p)) left ⊎ AtOpening (start_of account (begun_over p)) (seen_now p).out left) (clock_over (Some p)) (clock_over o)) e.past
+              (subst (λ (o : Option FolderPast). Adds (λ left. LeftNow (clock_over o) left ⊎ AtOpening (start_of account (begun_over p)) (seen_now p).out left) (clock_over o) (clock_of s.opened)) is_old s.before);
+          behind =
+              subst (λ (o : Option FolderPast). Adds (Headline (run_of (start_of account (begun_over p)) script) (seen_now p)) (clock_over o) (clock_over (Some the_end.now))) e.past
+              (subst (λ (o : Option FolderPast). Adds (Headline (run_of (start_of account (begun_over p)) script) (seen_now p)) (clock_of s.opened) (clock_over o)) the_end.past s.behind);
+          from =
+              subst (λ (o : Option FolderPast). Always (clock_over (Some the_end.now)) (clock_over o).now (Headline (run_of (start_of account (begun_over p)) script) (seen_now p))) e.past
+              (subst (λ (o : Option FolderPast). Always (clock_over o) (clock_of s.opened).now (Headline (run_of (start_of account (begun_over p)) script) (seen_now p))) the_end.past s.from);
+        }
+
+    never : NeverOpens exit Same (start_of account (begun_over p)) (seen_now p) (clock_of old) (clock_of new) → NeverOpened exit (start_of account (begun_over p)) p the_end.now
+    never n = record {
+      cut = n.cut;
+      always =
+          subst (λ (o : Option FolderPast). Always (clock_over o) (clock_over (Some p)).now (λ left. LeftNow (clock_over (Some p)) left ⊎ AtOpening (start_of account (begun_over p)) (seen_now p).out left)) the_end.past
+          (subst (λ (o : Option FolderPast). Always (clock_of new) (clock_over o).now (λ left. LeftNow (clock_over o) left ⊎ AtOpening (start_of account (begun_over p)) (seen_now p).out left)) is_old n.always);
+    }
+
+    pub settles : IsSomeAnd now (λ q. OutlivesOpened (start_of account (begun_over p)) script p q ⊎ NeverOpened exit (start_of account (begun_over p)) p q)
+    settles = at_now (λ q. OutlivesOpened (start_of account (begun_over p)) script p q ⊎ NeverOpened exit (start_of account (begun_over p)) p q) (by stopped.settled)
+      where
+        by : Settles told_of clock_of (start_of account (begun_over p)) script (begun_over p) old new ⊎ NeverOpens exit Same (start_of account (begun_over p)) (seen_now p) (clock_of old) (clock_of new)
+            → OutlivesOpened (start_of account (begun_over p)) script p the_end.now ⊎ NeverOpened exit (start_of account (begun_over p)) p the_end.now
+        by (inl s) = inl (opened s)
+        by (inr n) = inr (never n)
+
+    whole_as : IsWhole (run_of (start_of account (begun_over p)) script) exit (begun_over p) at_end.t → IsWhole (run_of (start_of account (begun_over p)) script) exit (begun_over p) (begun_over the_end.now)
+    whole_as w = record {
+      printed = w.printed;
+      text = subst (λ (here : Left). here.out ≡ (seen_now p).out ++ w.printed) the_end.here w.text;
+      done = w.done;
+      counted = w.counted;
+      recovers = subst (λ (here : Left). Recovers (account_upto (run_of (start_of account (begun_over p)) script) w.done) here) the_end.here w.recovers;
+      store = subst (λ (here : Left). here.store ≡ store_at_end exit (change_next (run_of (start_of account (begun_over p)) script) w.done) (store_upto (run_of (start_of account (begun_over p)) script) w.done)) the_end.here w.store;
+    }
+
+    pub ends : IsSomeAnd now (Ends exit (start_of account (begun_over p)) script p)
+    ends = at_now (Ends exit (start_of account (begun_over p)) script p) (record {
+      status = at_end.holds.status;
+      output = subst (λ (here : Left). OnAnswer exit (here.out ≡ (seen_now p).out ++ run_output (start_of account (begun_over p)) script)) the_end.here at_end.holds.output;
+      begun = subst (λ (here : Left). PrintsPart (run_output (start_of account (begun_over p)) script) (seen_now p).out here.out) the_end.here at_end.holds.begun;
+      whole =
+          on_whole_as (ending_of exit) (IsWhole (run_of (start_of account (begun_over p)) script) exit (begun_over p) at_end.t) (IsWhole (run_of (start_of account (begun_over p)) script) exit (begun_over p) (begun_over the_end.now))
+          whole_as at_end.holds.whole;
+    })
+
+-- ---- files that refuse a run
+
+module _ (exit : Exit) (Same : Type 0) (task : Option Task) (past now : Option FolderPast) (old new : BoardState) (begun : Begun task past old) (over : new.past ≡ now) where
+  refuses : (p : FolderPast) (why : Exit) → (told : Option Told) → told ≡ told_of new → IsSomeAnd told (promises.Refuses exit Same (clock_of old) (clock_of new) why (begun_over p)) → IsSomeAnd now (Refuses exit why p)
+  refuses p why None is never = absurd never
+  refuses p why (Some t) is r = subst (λ (o : Option FolderPast). IsSomeAnd o (Refuses exit why p)) (sym the_end.over ∙ over) (record {
+    ends = r.ends;
+    says = subst (λ (here : Left). OnAnswer exit (here.out ≡ (seen_now p).out ++ stop_line why)) the_end.here r.tells.whole;
+    file0 = subst (λ (here : Left). here.file0 ≡ (seen_now p).file0) the_end.here r.files.file0;
+    file1 = subst (λ (here : Left). here.file1 ≡ (seen_now p).file1) the_end.here r.files.file1;
+    store = subst (λ (here : Left). here.store ≡ (seen_now p).store) the_end.here r.device.0.store;
+  })
+    where
+      the_end : Ended new t
+      the_end = ended new t (sym is)
+
+  pub refused : OverRefused (promises.Refuses exit Same (clock_of old) (clock_of new)) task (told_of old) (told_of new) → OverDamaged (λ why p. IsSomeAnd now (Refuses exit why p)) task past
+  refused all =
+      over_damaged (λ why p. IsSomeAnd now (Refuses exit why p)) task past (λ p asked is_past.
+      by p (files_refusal (seen_now p)) (from_refused (promises.Refuses exit Same (clock_of old) (clock_of new)) task (told_of old) (told_of new) (begun_over p) asked (told_begun task past old p begun asked is_past) all))
+    where
+      by : (p : FolderPast) (why : Option Exit) → IfSome why (λ w. IsSomeAnd (told_of new) (promises.Refuses exit Same (clock_of old) (clock_of new) w (begun_over p))) → IfSome why (λ w. IsSomeAnd now (Refuses exit w p))
+      by p None holds = tt
+      by p (Some why) holds = refuses p why (told_of new) refl holds

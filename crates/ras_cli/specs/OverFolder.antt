@@ -1,0 +1,84 @@
+-- A run over a folder of files: what it promises, in the terms of what a stop of the machine leaves of
+-- the folder.
+use Rattle.std.specs.Prelude.{◌≡◌, ℕ, ◌⊎◌, List, [], ◌++◌, Option, Some, IfSome, ⊤}
+use Rattle.board_core.specs.Clock.{Adds, Always, LeftNow}
+use Rattle.board_core.specs.Stop.{Left}
+use Rattle.board_core.specs.Told.{Told}
+use Rattle.erst_store.specs.Device.{new_device, volatile_of}
+use Rattle.host_system.specs.FolderPast.{FolderPast}
+use Rattle.host_system.specs.View.{clock_over, seen_now}
+use Rattle.ras_account.specs.Account.{State}
+use Rattle.ras_exit.specs.Endings.{OnAnswer, OnWhole}
+use Rattle.ras_exit.specs.Telling.{PrintsPart}
+use Rattle.ras_exit.specs.StopLine.{stop_line}
+use Rattle.ras_exit.specs.declared.exit.Exit.{Exit}
+use Rattle.ras_exit.specs.declared.exit.Exit.TheVariants.{DiskFault, NoMemory}
+use Rattle.ras_journal.specs.Recovered.{Recovers}
+use Rattle.ras_run.specs.Files.{files_refusal}
+use Rattle.ras_run.specs.Places.{Start}
+use Rattle.ras_daemon.specs.Headline.{AtOpening, Headline, IsWhole}
+use Rattle.ras_daemon.specs.Promises.{EndsRefused}
+use Rattle.ras_daemon.specs.RunOf.{run_of}
+use Rattle.ras_daemon.specs.RunOutput.{run_output}
+use Rattle.ras_daemon.specs.RunStatus.{run_exit, start_of}
+use Rattle.ras_daemon.specs.declared.word.Task.{Task}
+use Rattle.ras_daemon.specs.declared.word.Task.TheVariants as tasks
+
+-- what a board tells that is over a folder, before its first call
+abbrev pub begun_over : FolderPast → Told
+begun_over past = record {
+  here = seen_now past;
+  volatile = volatile_of (new_device [] 0);
+  disk_calls = [];
+  accesses = [];
+}
+
+-- if the words ask for a run, folder and input tell, and the folder's files hold an account
+abbrev pub OverFolder : (Start → List ℕ → FolderPast → Type 0) → Option Task → Option (List ℕ) → Option FolderPast → Type 0
+OverFolder P (Some tasks.Run) (Some script) (Some past) =
+    (account : State) → Recovers account (seen_now past) → P (start_of account (begun_over past)) script past
+OverFolder P task script past = ⊤
+
+-- whatever a stop now may leave of the folder gives the account of a start
+abbrev pub FolderRecovers : Start → FolderPast → Type 0
+FolderRecovers start past = (left : Left) → LeftNow (clock_over (Some past)) left → Recovers start.account left
+
+-- What a stop of the machine at any moment of a run leaves of the folder. The premise is that one at the
+-- run's start leaves files that give its account too.
+abbrev pub Outlives : Start → List ℕ → FolderPast → FolderPast → Type 0
+Outlives start script past now =
+    FolderRecovers start past → Always (clock_over (Some now)) (clock_over (Some past)).now (Headline (run_of start script) (seen_now past))
+
+-- Without that premise the headline holds from the moment on at which the journal was open. A stop before
+-- that leaves what one at the start may have left, or the account at the start with store and text as
+-- they were.
+pub record OutlivesOpened (start : Start) (script : List ℕ) (past now : FolderPast) : Type 0 where
+  pub opened : FolderPast
+  pub before : Adds (λ left. LeftNow (clock_over (Some past)) left ⊎ AtOpening start (seen_now past).out left) (clock_over (Some past)) (clock_over (Some opened))
+  pub behind : Adds (Headline (run_of start script) (seen_now past)) (clock_over (Some opened)) (clock_over (Some now))
+  pub from : Always (clock_over (Some now)) (clock_over (Some opened)).now (Headline (run_of start script) (seen_now past))
+
+-- The journal was never open.
+pub record NeverOpened (exit : Exit) (start : Start) (past now : FolderPast) : Type 0 where
+  pub cut : (exit ≡ DiskFault) ⊎ (exit ≡ NoMemory)
+  pub always : Always (clock_over (Some now)) (clock_over (Some past)).now (λ left. LeftNow (clock_over (Some past)) left ⊎ AtOpening start (seen_now past).out left)
+
+-- How a run ends and what it prints, and what is there then.
+pub record Ends (exit : Exit) (start : Start) (script : List ℕ) (past now : FolderPast) : Type 0 where
+  pub status : OnAnswer exit (exit ≡ run_exit start script)
+  pub output : OnAnswer exit ((seen_now now).out ≡ (seen_now past).out ++ run_output start script)
+  pub begun : PrintsPart (run_output start script) (seen_now past).out (seen_now now).out
+  pub whole : OnWhole exit (IsWhole (run_of start script) exit (begun_over past) (begun_over now))
+
+-- if the words ask for a run, the folder tells, and its files are damaged or too long
+abbrev pub OverDamaged : (Exit → FolderPast → Type 0) → Option Task → Option FolderPast → Type 0
+OverDamaged P (Some tasks.Run) (Some past) = IfSome (files_refusal (seen_now past)) (λ why. P why past)
+OverDamaged P task past = ⊤
+
+-- A run says so, and leaves the files as they are.
+pub record Refuses (exit why : Exit) (past now : FolderPast) : Type 0 where
+  pub ends : EndsRefused why exit
+  pub says : OnAnswer exit ((seen_now now).out ≡ (seen_now past).out ++ stop_line why)
+  pub file0 : (seen_now now).file0 ≡ (seen_now past).file0
+  pub file1 : (seen_now now).file1 ≡ (seen_now past).file1
+  pub store : (seen_now now).store ≡ (seen_now past).store

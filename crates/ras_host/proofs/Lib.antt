@@ -1,0 +1,3 @@
+mod JournalLemmas
+pub mod KeptLemmas
+pub mod ToldLemmas

@@ -1,0 +1,34 @@
+-- Only for proofs: the laws of a board over a system.
+use Rattle.std.specs.Prelude.{◌≡◌, ℕ, ◌≤◌, Option, None, Some}
+use Rattle.std.specs.Option.{option_map}
+use Rattle.std.proofs.Common.{ap}
+use Rattle.board_core.specs.Clock.{LeftNow}
+use Rattle.board_core.specs.Stop.{Left}
+use Rattle.board_core.specs.Told.{Told}
+use Rattle.host_system.specs.View.{told_over}
+use Rattle.host_system.specs.Steps.LawLemmas.{told_left, text_left, store_left, earlier_left}
+use Rattle.ras_host.specs.BoardState.{BoardState}
+use Rattle.ras_host.specs.Steps.Telling.{told_with, past_of, told_of, clock_of}
+
+none_some : (t : Told) → None ≡ Some t → ⊥
+none_some t e = cc
+
+some_is : (s t : Told) → Some s ≡ Some t → s ≡ t
+some_is s t e = cc
+
+-- what is told of the folder
+seen : (b : BoardState) (o : Option Left) (t : Told) → option_map (told_with b) o ≡ Some t → o ≡ Some t.here
+seen b None t is = absurd (none_some t is)
+seen b (Some here) t is = ap (λ (s : Told). Some s.here) (some_is (told_with b here) t is)
+
+pub board_told_left : (b : BoardState) (t : Told) → told_of b ≡ Some t → LeftNow (clock_of b) t.here
+board_told_left b t is = told_left (past_of b) t.here (seen b (told_over (past_of b)) t is)
+
+pub board_text_left : (b : BoardState) (t : Told) (left : Left) → told_of b ≡ Some t → LeftNow (clock_of b) left → left.out ≡ t.here.out
+board_text_left b t left is now = text_left (past_of b) t.here left (seen b (told_over (past_of b)) t is) now
+
+pub board_store_left : (b : BoardState) (t : Told) (left : Left) → told_of b ≡ Some t → LeftNow (clock_of b) left → left.store ≡ t.here.store
+board_store_left b t left is now = store_left (past_of b) t.here left (seen b (told_over (past_of b)) t is) now
+
+pub board_earlier_left : (b : BoardState) (s t : ℕ) (left : Left) → s ≤ t → (clock_of b).may_leave_since t left → (clock_of b).may_leave_since s left
+board_earlier_left b s t left within may = earlier_left (past_of b) s t left within may

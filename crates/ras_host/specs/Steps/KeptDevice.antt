@@ -1,0 +1,112 @@
+-- The device that a board keeps, over the record store that the folder's store file holds.
+use Rattle.std.specs.Prelude.{◌≡◌, ℕ, List, [], Option, None, Some, IfSome, Result, Ok, Err, OnOk, OnErr}
+use Rattle.board_core.specs.Clock.{Passes}
+use Rattle.board_core.specs.Stop.{Becomes, InStore}
+use Rattle.board_core.specs.Told.{AnswersPut}
+use Rattle.board_core.specs.declared.board.BoardPut.{BoardPut}
+use Rattle.board_core.specs.declared.board.BoardPut.TheVariants.{Refused}
+use Rattle.board_core.specs.declared.board.FileNo.{FileNo}
+use Rattle.erst_store.specs.Device.{Device, Volatile, device_with, volatile_of, new_device, with_put}
+use Rattle.erst_store.specs.DeviceLaws.{IsDevice}
+use Rattle.erst_store.specs.Store.{Stored, refusal_of}
+use Rattle.host_system.specs.BoardFile.{KeepsFile}
+use Rattle.host_system.specs.FolderPast.{FolderPast, IfTold}
+use Rattle.host_system.specs.View.{HasSettledStore, clock_over, seen_now, with_store}
+use Rattle.ras_host.specs.declared.kept.Kept.{Kept}
+use Rattle.ras_host.specs.declared.saved.Saved.{Saved}
+use Rattle.ras_host.specs.declared.kept.Kept.TheVariants.{Unread, Here, Lost}
+
+-- the registers and the range, which are those of a new device at first
+abbrev pub volatile_in : Kept → Volatile
+volatile_in Unread = volatile_of (new_device [] 0)
+volatile_in (Here saved) = volatile_of saved.device
+volatile_in (Lost None) = volatile_of (new_device [] 0)
+volatile_in (Lost (Some device)) = volatile_of device
+
+-- the device as a whole
+abbrev pub device_in : Kept → FolderPast → Device
+device_in kept past = device_with (seen_now past).store (volatile_in kept)
+
+-- A device that is there has this store.
+abbrev pub IsOver : Kept → List Stored → Type 0
+IsOver (Here saved) store = saved.device.store ≡ store
+IsOver kept store = Unit {0}
+
+-- The device that is kept and the folder go together.
+pub record IsInStep (kept : Kept) (past : FolderPast) : Type 0 where
+  pub over : IsOver kept (seen_now past).store
+  pub device : IsDevice (device_in kept past)
+  pub settled : HasSettledStore past
+
+-- A device has taken this step, which left its store as it was, and is kept.
+pub record Acts (step : Device → Device) (old : Device) (new : Kept) : Type 0 where
+  pub saved : Saved
+  pub kept : new ≡ Here saved
+  pub after : saved.device ≡ step old
+  pub store : (step old).store ≡ old.store
+  pub device : IsDevice saved.device
+
+-- The folder stays as it is, and so does the device.
+abbrev pub Keeps : Kept → Kept → FolderPast → Type 0
+Keeps old new past = device_in new past ≡ device_in old past
+
+-- The device has taken this step, and a board sees nothing else changed. The files stay as usable as
+-- they were.
+pub record Turns (step : Device → Device) (old new : Kept) (before after : FolderPast) : Type 0 where
+  pub device : device_in new after ≡ step (device_in old before)
+  pub sees : seen_now after ≡ with_store (step (device_in old before)).store (seen_now before)
+  pub files : (file : FileNo) → KeepsFile file before after
+
+-- Where the folder is told, a store is as it was, or has become that of the device after a step.
+abbrev pub BecomesBy : (Device → Device) → Kept → Option FolderPast → List Stored → List Stored → Type 0
+BecomesBy step kept None = λ old new. Unit {0}
+BecomesBy step kept (Some past) = Becomes (step (device_in kept past)).store
+
+-- A call on the device went well and turned it by this step, or failed and left it as it was. A stop
+-- meanwhile leaves the store before the step or after it.
+pub record Turned {T E : Type 0} (step : Device → Device) (old new : Kept) (result : Result T E) (before after : Option FolderPast) : Type 0 where
+  pub ok : OnOk result (IfTold (Turns step old new) before after)
+  pub err : OnErr result (IfTold (Turns (λ d. d) old new) before after)
+  pub stops : Passes (InStore (BecomesBy step old before)) (clock_over before) (clock_over after)
+  pub in_step : IfSome after (IsInStep new)
+
+-- what holds of a put that the store refused
+abbrev pub IfRefused : Result (Unit {0}) BoardPut → Type 0 → Type 0
+IfRefused (Err (Refused cause)) P = P
+IfRefused result P = Unit {0}
+
+-- ---- the device also where nothing is told
+
+-- The device that a call acts on: the one that is kept, or at the first use a new one.
+abbrev pub IsUsed : Kept → Device → Type 0
+IsUsed Unread d = d ≡ new_device d.store 0
+IsUsed (Here saved) d = d ≡ saved.device
+IsUsed (Lost before) d = ⊥
+
+-- The device that is kept is this one.
+abbrev pub IsHere : Kept → Device → Type 0
+IsHere (Here saved) d = saved.device ≡ d
+IsHere kept d = ⊥
+
+-- A device is kept.
+abbrev pub IsThere : Kept → Type 0
+IsThere (Here saved) = Unit {0}
+IsThere kept = ⊥
+
+-- A call does this to the device, which is kept.
+pub record Does (step : Device → Device) (old new : Kept) : Type 0 where
+  pub before : Device
+  pub used : IsUsed old before
+  pub after : IsHere new (step before)
+
+-- a device after a put with this answer
+abbrev pub after_answer : ℕ → List ℕ → Result (Unit {0}) BoardPut → Device → Device
+after_answer id bytes (Ok done) d = with_put id bytes d
+after_answer id bytes (Err refused) d = d
+
+-- A put answers as the store does, and leaves the device alone if it is refused.
+pub record Puts (id : ℕ) (bytes : List ℕ) (result : Result (Unit {0}) BoardPut) (old new : Kept) : Type 0 where
+  pub before : Device
+  pub used : IsUsed old before
+  pub answers : AnswersPut result (refusal_of id bytes before.store)
+  pub after : IsHere new (after_answer id bytes result before)

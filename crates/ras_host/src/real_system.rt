@@ -1,0 +1,180 @@
+//! The working folder and standard output of the process. Each method makes the one call that its
+//! name says, and looks at names as the module `names` does; no clause speaks of it.
+//!
+//! The library's calls on a whole file, `read_exact_at` and `write_all_at` go on after a short read
+//! or write, and make a call again that a signal interrupted.
+ghost use Rattle.std.specs.Prelude.{None};
+
+use crate::names::{check_names, look, number, open_linked, open_to_read, path};
+use board_core::{Failed, FileNo};
+use host_system::{FileName, System};
+use std::fs::{File, OpenOptions, remove_file, rename};
+use std::io;
+use std::io::{ErrorKind, Read, Write};
+use std::os::fd::AsRawFd;
+use std::os::unix::fs::{FileExt, MetadataExt, OpenOptionsExt, fchown};
+
+// The mode of a new file, less the bits of the process's mask. Whoever may read a journal file can
+// hold its lock, so others may not.
+const NEW_MODE: u32 = 0o640;
+
+// The mode of a new store's file that isn't yet given the old one's owner and mode.
+const UNOWNED_MODE: u32 = 0o600;
+
+/// The working folder and standard output of the process, which tell nothing.
+#[derive(Drop)]
+pub struct RealSystem {
+    rt: HostRuntime,
+    // Each file that is open, at its name's number.
+    open: [Option<File>; 4],
+    // The folders that links of locked files lead into.
+    linked: Vec<File>,
+}
+
+impl RealSystem {
+    /// The process's folder and output, with no file open.
+    pub fn new(rt: HostRuntime) -> RealSystem {
+        RealSystem {
+            rt,
+            open: [None, None, None, None],
+            linked: Vec::new(rt.alloc()),
+        }
+    }
+
+    fn opened(&self, name: FileName) -> Result<&File, Failed> {
+        self.open[number(name)].as_ref().ok_or(Failed)
+    }
+}
+
+impl System for RealSystem {
+    ghost told = { λ _. None };
+
+    fn find(&mut self, name: FileName) -> Result<Option<u64>, Failed> {
+        let found = match self.opened(name) {
+            Ok(file) => file.metadata().map(Some),
+            Err(Failed) => look(&self.rt, name),
+        };
+        Ok(found.map_err(|_| Failed)?.map(|it| it.len()))
+    }
+
+    fn open(&mut self, name: FileName) -> Result<(), Failed> {
+        let file = open_file(&self.rt, name, false).map_err(|_| Failed)?;
+        self.open[number(name)] = Some(file);
+        Ok(())
+    }
+
+    fn make(&mut self, name: FileName) -> Result<(), Failed> {
+        let file = match name {
+            FileName::New => make_new(&self.rt),
+            _ => open_file(&self.rt, name, true),
+        };
+        self.open[number(name)] = Some(file.map_err(|_| Failed)?);
+        Ok(())
+    }
+
+    fn lock(&mut self, name: FileName) -> Result<(), Failed> {
+        self.opened(name)?.try_lock().map_err(|_| Failed)?;
+        check_names(&self.rt, &self.open).map_err(|_| Failed)?;
+        open_linked(&self.rt, name, &mut self.linked).map_err(|_| Failed)
+    }
+
+    fn read(&mut self, name: FileName, most: u64) -> Result<Option<Vec<u8>>, Failed> {
+        if name != FileName::Store {
+            check_names(&self.rt, &self.open).map_err(|_| Failed)?;
+        }
+        let Some(file) = open_to_read(&self.rt, name).map_err(|_| Failed)? else {
+            return Ok(None);
+        };
+        let mut bytes = Vec::new(self.rt.alloc());
+        file.take(most).read_to_end(&mut bytes).map_err(|_| Failed)?;
+        Ok(Some(bytes))
+    }
+
+    fn read_at(&mut self, name: FileName, place: u64, buf: &mut [u8]) -> Result<(), Failed> {
+        let file = self.opened(name)?;
+        file.read_exact_at(buf, place).map_err(|_| Failed)
+    }
+
+    // Before a journal file is begun anew, the names are looked at again: what went to a file that
+    // has no name any more would be lost.
+    fn write_at(&mut self, name: FileName, place: u64, bytes: &[u8]) -> Result<(), Failed> {
+        if place == 0 && name != FileName::New {
+            check_names(&self.rt, &self.open).map_err(|_| Failed)?;
+        }
+        let file = self.opened(name)?;
+        file.write_all_at(bytes, place).map_err(|_| Failed)
+    }
+
+    fn sync(&mut self, name: FileName) -> Result<(), Failed> {
+        let file = self.opened(name)?;
+        // The owner and the mode of a new store's file are to be on the disk too.
+        let answer = match name {
+            FileName::New => file.sync_all(),
+            _ => file.sync_data(),
+        };
+        answer.map_err(|_| Failed)
+    }
+
+    // What a run that was ended wrote there may not be on the disk yet. Of a file system that can be
+    // read alone nothing is awaited, as after a fault of its disk.
+    fn sync_read(&mut self, file: FileNo) -> Result<(), Failed> {
+        let opened = open_to_read(&self.rt, FileName::Journal(file)).map_err(|_| Failed)?;
+        let Some(opened) = opened else {
+            return Ok(());
+        };
+        match opened.sync_data().map_err(|error| error.kind()) {
+            Ok(()) | Err(ErrorKind::ReadOnlyFilesystem | ErrorKind::InvalidInput) => Ok(()),
+            Err(_) => Err(Failed),
+        }
+    }
+
+    fn remove(&mut self, name: FileName) -> Result<(), Failed> {
+        remove_file(&self.rt, path(name)).map_err(|_| Failed)
+    }
+
+    fn rename(&mut self) -> Result<(), Failed> {
+        self.open[number(FileName::New)] = None;
+        rename(&self.rt, path(FileName::New), path(FileName::Store)).map_err(|_| Failed)
+    }
+
+    fn sync_names(&mut self) -> Result<(), Failed> {
+        let folder = File::open(&self.rt, ".").map_err(|_| Failed)?;
+        folder.sync_all().map_err(|_| Failed)?;
+        for folder in &self.linked {
+            folder.sync_all().map_err(|_| Failed)?;
+        }
+        Ok(())
+    }
+
+    fn print(&mut self, bytes: &[u8]) -> Result<(), Failed> {
+        self.rt.stdout().write_all(bytes).map_err(|_| Failed)
+    }
+}
+
+// Opens a file to read and write it. Two runs may both make it: they meet at its lock.
+fn open_file(rt: &HostRuntime, name: FileName, may_make: bool) -> io::Result<File> {
+    let mut options = OpenOptions::new();
+    options.read(true).write(true).create(may_make);
+    options.mode(NEW_MODE);
+    let file = options.open(rt, path(name))?;
+    // The system gives a file the lowest free number, so that of a standard stream that is closed.
+    // A copy has a greater one.
+    if file.as_raw_fd() <= 2 {
+        return file.try_clone();
+    }
+    Ok(file)
+}
+
+// Makes a new store's file, with the owner and the mode of the old one.
+fn make_new(rt: &HostRuntime) -> io::Result<File> {
+    let old = look(rt, FileName::Store)?;
+    let mode = old.as_ref().map_or(NEW_MODE, |_| UNOWNED_MODE);
+    let mut options = OpenOptions::new();
+    options.write(true).create_new(true).mode(mode);
+    let file = options.open(rt, path(FileName::New))?;
+    if let Some(old) = old {
+        fchown(&file, Some(old.uid()), Some(old.gid()))?;
+        file.set_permissions(old.permissions())?;
+    }
+    Ok(file)
+}
