@@ -6,6 +6,7 @@
 mod board;
 mod calls;
 mod devices;
+mod edge;
 mod exchanged;
 mod faults;
 mod journals;

@@ -1,0 +1,164 @@
+//! The program's own board, over a system in memory: a stop of the machine before each call of the
+//! system in a run, what it leaves by choices of names and of writes, and a run that goes on from
+//! that.
+
+ghost use Rattle.ras_base.specs.LittleEndian.{AreBytes};
+
+use super::journals::full_chain;
+use super::records::{ENTRIES, ERST, PANIC, POLL, PUT_5, RECORD};
+use super::{ANOTHER, EVERYDAY, MODULE, joined};
+use board_core::MemSource;
+use host_system::{LeftFolder, MemSystem, NamePick, StopPick, WriteLeft, system_laws};
+use ras_daemon::{Exit, RasWord, rasd};
+use ras_host::{FileBoard, Use};
+use std::alloc::Global;
+use std::test::Fail;
+
+// More calls of the system than each run here makes.
+const MOST_CALLS: u64 = 1000;
+
+// Which names are as they were before the last change of each: none, all, or one.
+const OLD_NAMES: [[bool; 4]; 6] = [
+    [false, false, false, false],
+    [true, true, true, true],
+    [true, false, false, false],
+    [false, true, false, false],
+    [false, false, true, false],
+    [false, false, false, true],
+];
+
+// How the writes come out that aren't synced.
+const WRITES: [WriteLeft; 3] = [WriteLeft::Old, WriteLeft::New, WriteLeft::Fill(0xa5)];
+
+fn pick_of(is_old: [bool; 4], rest: WriteLeft) -> StopPick<'static> {
+    let name = |is_old| NamePick {
+        back: usize::from(is_old),
+        writes: &[],
+        rest,
+    };
+    StopPick {
+        zero: name(is_old[0]),
+        one: name(is_old[1]),
+        store: name(is_old[2]),
+        fresh: name(is_old[3]),
+    }
+}
+
+// What there is now.
+fn now(system: &MemSystem) -> Result<LeftFolder, Fail> {
+    Ok(system.left(&pick_of(OLD_NAMES[0], WriteLeft::New))?)
+}
+
+// What a slice holds are bytes, which a board asks of the store's file.
+fn are_bytes(_bytes: &[u8])
+    ensures { AreBytes _bytes.now }
+{}
+
+// A call of the daemon over a folder, of which a stop before a call of the system is kept.
+fn call_over(
+    alloc: Global,
+    words: &[RasWord],
+    script: Vec<u8>,
+    how: Use,
+    start: &LeftFolder,
+    stop: u64,
+) -> Result<(Exit, MemSystem), Fail> {
+    if let Some(bytes) = &start.store {
+        are_bytes(bytes);
+    }
+    let mut system = MemSystem::over(alloc, start)?;
+    system_laws();
+    system.stop_before(stop);
+    let mut source = MemSource::new(script, 7, Vec::new(alloc));
+    let mut board = FileBoard::new(alloc, how, system);
+    let exit = rasd(alloc, words, &mut source, &mut board);
+    Ok((exit, board.into_system()))
+}
+
+// A run over a folder.
+fn run_over(
+    alloc: Global,
+    script: &[&[u8]],
+    start: &LeftFolder,
+    stop: u64,
+) -> Result<(Exit, MemSystem), Fail> {
+    let words = vec![in alloc; RasWord::new(alloc, b"run")?]?;
+    call_over(
+        alloc,
+        &words,
+        joined(alloc, script)?,
+        Use::Alone,
+        start,
+        stop,
+    )
+}
+
+// The names of the account that a folder has.
+fn names_in(alloc: Global, start: &LeftFolder) -> Result<Vec<u8>, Fail> {
+    let words = vec![in alloc;
+        RasWord::new(alloc, b"report")?,
+        RasWord::new(alloc, b"names")?,
+    ]?;
+    let (_, system) = call_over(alloc, &words, Vec::new(alloc), Use::Reading, start, 0)?;
+    Ok(now(&system)?.out)
+}
+
+// Whether a run over what a stop left is done, and its account has these names.
+fn is_whole(
+    alloc: Global,
+    script: &[&[u8]],
+    left: &LeftFolder,
+    names: &[u8],
+) -> Result<bool, Fail> {
+    let (exit, system) = run_over(alloc, script, left, 0)?;
+    Ok(exit == Exit::Done && names_in(alloc, &now(&system)?)?.as_slice() == names)
+}
+
+// Stops a run before each of its calls, and answers how many those were, if the account was whole
+// after each.
+fn calls_that_lose_nothing(
+    alloc: Global,
+    script: &[&[u8]],
+    start: &LeftFolder,
+) -> Result<Option<u64>, Fail> {
+    let (_, undisturbed) = run_over(alloc, script, start, 0)?;
+    let names = names_in(alloc, &now(&undisturbed)?)?;
+    for stop in 1..MOST_CALLS {
+        let (_, system) = run_over(alloc, script, start, stop)?;
+        for is_old in OLD_NAMES {
+            for rest in WRITES {
+                let Some(left) = system.left_before(&pick_of(is_old, rest))? else {
+                    return Ok(Some(stop - 1));
+                };
+                if !is_whole(alloc, script, &left, &names)? {
+                    return Ok(None);
+                }
+            }
+        }
+    }
+    Ok(None)
+}
+
+// The first event switches to the other journal file.
+#[test]
+fn nothing_is_lost_over_a_switch(rt: HostRuntime) -> Result<(), Fail> {
+    let alloc = rt.alloc();
+    let mut start = LeftFolder::empty(alloc);
+    start.zero = Some(full_chain(alloc)?);
+    let script: &[&[u8]] = &[MODULE, EVERYDAY, ANOTHER];
+    assert!(rt;
+        matches!(calls_that_lose_nothing(alloc, script, &start)?, Some(calls) if calls > 20)
+    );
+    Ok(())
+}
+
+#[test]
+fn nothing_is_lost_over_polls(rt: HostRuntime) -> Result<(), Fail> {
+    let alloc = rt.alloc();
+    let script: &[&[u8]] = &[ERST, ENTRIES, PUT_5, RECORD, PANIC, POLL, EVERYDAY];
+    let start = LeftFolder::empty(alloc);
+    assert!(rt;
+        matches!(calls_that_lose_nothing(alloc, script, &start)?, Some(calls) if calls > 40)
+    );
+    Ok(())
+}
