@@ -1,7 +1,5 @@
 -- What acts list, and what they leave alone.
-use Rattle.std.specs.Option.{option_map}
-use Rattle.std.specs.Prelude.{IsSomeAnd}
-use Rattle.std.proofs.Common.{◌≡◌, ◌∙◌, ◌⊎◌, ℕ, List, [], ◌∷◌, ◌++◌, length, Option, None, Some, refl, sym, ap, subst, inl, inr, append_assoc, append-nil}
+use Rattle.std.proofs.Common.{◌≡◌, ◌∙◌, ◌⊎◌, ℕ, List, [], ◌∷◌, ◌++◌, length, refl, sym, ap, inl, inr, append_assoc, append-nil}
 use Rattle.ras_base.specs.Prefix.{IsPrefixOf}
 use Rattle.board_core.specs.declared.board.Access.{Access}
 use Rattle.board_core.specs.declared.board.DiskCall.{DiskCall}
@@ -9,13 +7,10 @@ use Rattle.board_core.specs.declared.board.DiskCall.TheVariants.{WriteAt, Sync}
 use Rattle.board_core.specs.declared.board.FileNo.{FileNo}
 use Rattle.board_core.specs.declared.board.FileNo.TheVariants.{Zero, One}
 use Rattle.board_core.specs.Cause.{Kind}
-use Rattle.board_core.specs.Clock.{Adds, Rests}
-use Rattle.board_core.specs.Steps.ClockLemmas.{adds_weaker}
-use Rattle.board_core.specs.Device.{KeepsDevice, LeavesDevice}
+use Rattle.board_core.specs.Device.{KeepsDevice}
 use Rattle.board_core.specs.Stop.{Left}
-use Rattle.board_core.specs.Told.{Told, MayList, Relates, after_write, after_write_through, device_of, with_call, with_file}
-use Rattle.board_core.proofs.DoingLemmas.{does_stops}
-use Rattle.board_core.specs.Doing.{Act, AreOffDevice, AreOnDisk, DeviceCall, Does, Ended, FailsAct, FailsActs, FailsDevice, IsOffDevice, IsOnDisk, Moment, Seen, TornAct, accesses_by, accesses_of, after_act, after_acts, after_device, broke, calls, calls_of, device, disk_calls_by, gave_up, prints, put, range_read, range_write, reg_read, reg_write, through, went_well}
+use Rattle.board_core.specs.Told.{Told, MayList, after_write, after_write_through, device_of, with_call, with_file}
+use Rattle.board_core.specs.Doing.{Act, AreOffDevice, AreOnDisk, DeviceCall, FailsAct, FailsActs, FailsDevice, IsOffDevice, IsOnDisk, Moment, TornAct, accesses_by, accesses_of, after_act, after_acts, after_device, calls, calls_of, device, disk_calls_by, prints, put, range_read, range_write, reg_read, reg_write, through}
 
 -- ---- the disk calls that are listed
 
@@ -156,26 +151,6 @@ pub moment_store : (acts : List Act) → AreOffDevice acts → (t : Told) (left 
 moment_store [] off t left never = absurd never
 moment_store (act ∷ acts) off t left (inl torn) = torn_device act off.0 t left torn
 moment_store (act ∷ acts) off t left (inr later) = moment_store acts off.1 (after_act act t) left later ∙ (act_device act off.0 t).store
-
-pub does_leave_device : {X : Type 0} (see : X → Seen) (acts : List Act) (ended : Ended) (a b : X) → AreOffDevice acts → ((t : Told) → (see a).told ≡ Some t → Rests t (see a).told (see a).clock) → Does see acts ended a b
-    → LeavesDevice (see a).told (see b).told (see a).clock (see b).clock
-does_leave_device see acts ended a b off rests does = by (see a).told refl
-  where
-    adds : (t : Told) → (see a).told ≡ Some t → Adds (λ left. left.store ≡ t.here.store) (see a).clock (see b).clock
-    adds t is = adds_weaker (Moment acts t) (λ left. left.store ≡ t.here.store) (see a).clock (see b).clock (does_stops see acts ended a b does t (rests t is)) (moment_store acts off t)
-
-    now : (t : Told) (e : Ended) → Does see acts e a b → (see a).told ≡ Some t → IsSomeAnd (see b).told (KeepsDevice t)
-    now t went_well d is = rw (d.told ∙ ap (option_map (after_acts acts)) is) (acts_device acts off t)
-    now t (broke kind) d is = related t (see b).told (subst (λ (o : Option Told). Relates (FailsActs kind acts) o (see b).told) is d.told)
-      where
-        related : (t : Told) (o : Option Told) → Relates (FailsActs kind acts) (Some t) o → IsSomeAnd o (KeepsDevice t)
-        related t None never = never
-        related t (Some u) fails = fails_device kind acts off t u fails
-    now t gave_up same is = subst (λ x. IsSomeAnd (see x).told (KeepsDevice t)) (sym same) (rw is (device_kept t))
-
-    by : (o : Option Told) → (see a).told ≡ o → LeavesDevice o (see b).told (see a).clock (see b).clock
-    by None is = tt
-    by (Some t) is = (now t ended does is, adds t is)
 
 -- ---- acts of the disk
 

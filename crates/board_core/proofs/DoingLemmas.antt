@@ -7,8 +7,8 @@ use Rattle.board_core.specs.declared.board.BoardPut.{BoardPut}
 use Rattle.board_core.specs.declared.board.BoardPut.TheVariants.{Refused, Failed}
 use Rattle.board_core.specs.declared.board.DiskCall.{DiskCall}
 use Rattle.board_core.specs.Cause.{Faults, FailsAs, Kind, disk_call, device_call, print_call, count_of, put_failure, with_count}
-use Rattle.board_core.specs.Clock.{After, Clock, Adds, LeftNow, Passes, PassesAtRefusal, Rests}
-use Rattle.board_core.specs.Steps.ClockLemmas.{adds_at_rest, adds_both, adds_none, adds_weaker, rests_listed, rests_on, rests_stored}
+use Rattle.board_core.specs.Clock.{After, Clock, Adds, LeftNow, Passes, PassesAtRefusal, Rests, StoreIsLeft}
+use Rattle.board_core.specs.Steps.ClockLemmas.{adds_at_rest, adds_both, adds_none, adds_weaker, rests_listed, rests_on, rests_store, rests_stored}
 use Rattle.board_core.specs.Stop.{Becomes, InStore, Left, Same}
 use Rattle.board_core.specs.Told.{Told, KeepsAtRefusal, MayAct, MayList, Relates, Steps, StoreBy, after_put, device_of, on_device, with_call}
 use Rattle.board_core.specs.Doing.{Act, DeviceCall, Does, Ended, FailsAct, FailsActs, FailsDevice, GoesWell, IsBad, IsMade, Moment, Raises, Seen, TornAct, TornDevice, after_act, after_acts, after_device, broke, calls, device, gave_up, kind_of, one_end, put, put_acts, went_well}
@@ -167,6 +167,10 @@ on_ok : {T E : Type 0} {P Q : Type 0} (result : Result T E) → OnOk result P �
 on_ok (Ok x) holds f = f holds
 on_ok (Err e) holds f = tt
 
+on_both : {T E : Type 0} {P Q R : Type 0} (result : Result T E) → OnOk result P → OnOk result Q → (P → Q → R) → OnOk result R
+on_both (Ok x) one other f = f one other
+on_both (Err e) one other f = tt
+
 -- a disk call that writes nothing
 pub does_call : {X T E : Type 0} (see : X → Seen) (call : DiskCall) (result : Result T E) (a b : X) → OnOk result (Steps (with_call call) (see a).told (see b).told)
     → OnErr result (Relates (MayList call) (see a).told (see b).told) → Passes Same (see a).clock (see b).clock → FailsAs disk_call (see a).faults (see b).faults result
@@ -187,19 +191,19 @@ does_access see call result a b still same told failed passes cause =
     (λ t rests. adds_at_rest Same (TornDevice call t) t (see a).told (see a).clock (see b).clock rests passes (same t))
     (on_ok result told (λ steps t rests. rests_on (after_device call) Same t (see a).told (see b).told (see a).clock (see b).clock rests steps passes.ends (λ left is. is ∙ sym (still t)))) cause
 
--- one that may change the store: a stop between calls leaves the store that is told
+-- one that may change the store, of which a stop leaves what is told, if one before did
 pub does_store : {X T E : Type 0} (see : X → Seen) (call : DeviceCall) (step : Device → Device) (result : Result T E) (a b : X)
     → ((t : Told) → (after_device call t).here ≡ record t.here { store = (step (device_of t)).store }) → ((t : Told) (left : Left) → InStore (Becomes (step (device_of t)).store) t.here left → TornDevice call t left)
     → OnOk result (Steps (after_device call) (see a).told (see b).told) → OnErr result (Relates (FailsDevice call) (see a).told (see b).told) → Passes (InStore (StoreBy step (see a).told)) (see a).clock (see b).clock
-    → FailsAs device_call (see a).faults (see b).faults result → ((t : Told) (left : Left) → (see b).told ≡ Some t → LeftNow (see b).clock left → left.store ≡ t.here.store)
+    → FailsAs device_call (see a).faults (see b).faults result → OnOk result (StoreIsLeft (see a).told (see a).clock → StoreIsLeft (see b).told (see b).clock)
     → Does see (device call ∷ []) (one_end device_call result) a b
-does_store see call step result a b frame torn told failed passes cause left_is =
+does_store see call step result a b frame torn told failed passes cause stored =
     does_act see (device call) result a b told failed
     (λ t rests. adds_at_rest (InStore (Becomes (step (device_of t)).store)) (TornDevice call t) t (see a).told (see a).clock (see b).clock rests (told_passes t rests) (torn t))
-    (on_ok result told (λ steps t rests.
+    (on_both result told stored (λ steps goes t rests.
     (let there : (see b).told ≡ Some (after_device call t) = steps ∙ ap (option_map (after_device call)) rests.is in
     rests_stored (Becomes (step (device_of t)).store) t (after_device call t) (see a).told (see b).told (see a).clock (see b).clock rests there (told_passes t rests)
-    (λ left now. left_is (after_device call t) left there now)
+    (goes (rests_store t (see a).told (see a).clock rests) (after_device call t) there)
     (frame t ∙ ap (λ (records : List Stored). record t.here { store = records }) (ap (λ (l : Left). l.store) (sym (frame t))))))) cause
   where
     told_passes : (t : Told) → Rests t (see a).told (see a).clock → Passes (InStore (Becomes (step (device_of t)).store)) (see a).clock (see b).clock
@@ -209,16 +213,16 @@ does_store see call step result a b frame torn told failed passes cause left_is 
 pub does_put : {X : Type 0} (see : X → Seen) (id : ℕ) (bytes : List ℕ) (result : Result (Unit {0}) BoardPut) (a b : X) → OnOk result (Steps (on_device (after_put id bytes)) (see a).told (see b).told)
     → KeepsAtRefusal result (see a).told (see b).told → OnErr result (Relates (MayAct (after_put id bytes)) (see a).told (see b).told) → Passes (InStore (StoreBy (after_put id bytes) (see a).told)) (see a).clock (see b).clock
     → PassesAtRefusal result (see a).clock (see b).clock → FailsAs device_call (see a).faults (see b).faults (put_failure result)
-    → ((t : Told) (left : Left) → (see b).told ≡ Some t → LeftNow (see b).clock left → left.store ≡ t.here.store)
+    → OnOk result (StoreIsLeft (see a).told (see a).clock → StoreIsLeft (see b).told (see b).clock)
     → ((s t : ℕ) (left : Left) → s ≤ t → (see a).clock.may_leave_since t left → (see a).clock.may_leave_since s left)
     → Does see (put_acts id bytes result) (one_end device_call (put_failure result)) a b
-does_put see id bytes (Ok done) a b told refused failed stops still cause left_is earlier =
+does_put see id bytes (Ok done) a b told refused failed stops still cause stored earlier =
     let done : Result (Unit {0}) BoardPut = Ok tt in
-    does_store see (put id bytes) (after_put id bytes) done a b (λ t. refl) (λ t left torn. torn) told tt stops cause left_is
-does_put see id bytes (Err Failed) a b told refused failed stops still cause left_is earlier =
+    does_store see (put id bytes) (after_put id bytes) done a b (λ t. refl) (λ t left torn. torn) told tt stops cause stored
+does_put see id bytes (Err Failed) a b told refused failed stops still cause stored earlier =
     let broken : Result (Unit {0}) BoardPut = Err Failed in
-    does_store see (put id bytes) (after_put id bytes) broken a b (λ t. refl) (λ t left torn. torn) tt failed stops cause left_is
-does_put see id bytes (Err (Refused why)) a b told refused failed stops still cause left_is earlier = record {
+    does_store see (put id bytes) (after_put id bytes) broken a b (λ t. refl) (λ t left torn. torn) tt failed stops cause stored
+does_put see id bytes (Err (Refused why)) a b told refused failed stops still cause stored earlier = record {
   told = steps;
   stops = λ t rests. record {
     later = still.later;

@@ -20,6 +20,14 @@ use Rattle.board_core.specs.Told.{Told, after_write}
 
 -- ---- what is known of a call
 
+pub always : {T E : Type 0} {P : Type 0} (result : Result T E) → P → OnOk result P
+always (Ok x) holds = holds
+always (Err e) holds = tt
+
+pub always_then : {T E : Type 0} (P : Type 0) {Q : Type 0} (result : Result T E) → Q → OnOk result (P → Q)
+always_then P (Ok x) holds = λ before. holds
+always_then P (Err e) holds = tt
+
 abbrev told_with : Held → List DiskCall → List Access → Told
 told_with held calls accesses = record { here = held.here; volatile = held.volatile; disk_calls = calls; accesses = accesses }
 

@@ -53,6 +53,10 @@ IsSynced file bytes clock = (left : Left) → LeftNow clock left → file_in fil
 abbrev pub IsStored : List Stored → Clock → Type 0
 IsStored store clock = (left : Left) → LeftNow clock left → left.store ≡ store
 
+-- A stop now leaves the record store that is told. Of a board that tells nothing this says nothing.
+abbrev pub StoreIsLeft : Option Told → Clock → Type 0
+StoreIsLeft told clock = (t : Told) → told ≡ Some t → IsStored t.here.store clock
+
 -- Calls were made, one or several. Whatever a stop during them or now leaves has this property, and
 -- what a stop at an earlier moment may have left is not more.
 pub record Adds (P : Left → Type 0) (old new : Clock) : Type 0 where

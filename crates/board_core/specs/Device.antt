@@ -1,6 +1,7 @@
 -- The error record device and its store stay as they are.
-use Rattle.std.specs.Prelude.{◌≡◌, None, Some, Option, IsSomeAnd, ⊤}
-use Rattle.board_core.specs.Clock.{Clock, Adds}
+use Rattle.std.specs.Prelude.{◌≡◌, List, None, Some, Option, IsSomeAnd, ⊤}
+use Rattle.erst_store.specs.Store.{Stored}
+use Rattle.board_core.specs.Clock.{Clock, Adds, IsStored}
 use Rattle.board_core.specs.Told.{Told}
 
 -- the device with its record store, and the list of accesses to it, are as they were
@@ -9,9 +10,15 @@ pub record KeepsDevice (before now : Told) : Type 0 where
   pub volatile : now.volatile ≡ before.volatile
   pub accesses : now.accesses ≡ before.accesses
 
--- The device stays as it is told, and whatever a stop of the machine since then leaves has the
--- record store that was told. Of a board that tells nothing this says nothing.
+-- From the old board to the new one a stop of the machine leaves this record store, and no other.
+pub record LeavesStore (store : List Stored) (old new : Clock) : Type 0 where
+  pub since : Adds (λ left. left.store ≡ store) old new
+  pub now : IsStored store new
+
+-- The device stays as it is told. If a stop before leaves the record store that was told, so does one
+-- at any moment since then. Of a board that tells nothing this says nothing.
 abbrev pub LeavesDevice : Option Told → Option Told → Clock → Clock → Type 0
 LeavesDevice None told old new = ⊤
 LeavesDevice (Some before) told old new =
-    IsSomeAnd told (KeepsDevice before) × Adds (λ left. left.store ≡ before.here.store) old new
+    IsSomeAnd told (KeepsDevice before)
+    × (IsStored before.here.store old → LeavesStore before.here.store old new)

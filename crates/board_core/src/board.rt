@@ -7,7 +7,7 @@ ghost use Rattle.erst_store.specs.Store.{refusal_of};
 ghost use Rattle.board_core.specs.declared.board.Access.TheVariants.{Read, Write, RangeRead, RangeWrite};
 ghost use Rattle.board_core.specs.declared.board.DiskCall.TheVariants.{Size, ReadAt, WriteAt, Sync};
 ghost use Rattle.board_core.specs.Cause.{Faults, disk_call, device_call, print_call, FailsAs, put_failure};
-ghost use Rattle.board_core.specs.Clock.{Clock, LeftNow, Passes, PassesAtRefusal, Leads, IsSynced};
+ghost use Rattle.board_core.specs.Clock.{Clock, LeftNow, Passes, PassesAtRefusal, Leads, IsSynced, StoreIsLeft};
 ghost use Rattle.board_core.specs.Stop.{Left, Same, InFile, InStore, InOut, Begins, Appends};
 ghost use Rattle.board_core.specs.Told.{Told, Steps, Relates, file_of, with_call, after_write, after_print, ReadsBytes, Torn, MayList, FailsWrite, FailsPrint};
 ghost use Rattle.board_core.specs.Told.{device_of, on_device, with_access, register_in, after_reg_write, after_range_write, after_put, AnswersPut, KeepsAtRefusal, StoreBy, MayListAccess, MayAct, FailsAccess};
@@ -119,7 +119,8 @@ pub trait Board {
         ensures cause { FailsAs disk_call (faults self.old) (faults self.new) result };
 
     /// Makes the file durable: from then on, and until its next write, a stop leaves it as a read
-    /// gives it. After `Failed` it is not known to be.
+    /// gives it. So it does with the record store, until a call of the device changes it. After
+    /// `Failed` neither is known to be durable.
     fn sync(&mut self, file: FileNo) -> Result<(), Failed>
         ensures told { OnOk result (Steps (with_call (Sync file)) (told self.old) (told self.new)) }
         ensures failed { OnErr result
@@ -127,6 +128,7 @@ pub trait Board {
         ensures stops { Passes Same (clock self.old) (clock self.new) }
         ensures synced { OnOk result (IfSome (told self.old)
             (λ t. IsSynced file (file_of file t) (clock self.new))) }
+        ensures stored { OnOk result (StoreIsLeft (told self.new) (clock self.new)) }
         ensures cause { FailsAs disk_call (faults self.old) (faults self.new) result };
 
     /// Reads a register of the device.
@@ -145,7 +147,8 @@ pub trait Board {
     /// action, which the device then does.
     ///
     /// After `Failed` the device has done so or hasn't, and a stop during the call leaves the
-    /// record store as before it or as after it.
+    /// record store as before it or as after it. So does a stop after `Failed`: it need not leave
+    /// the store that is told.
     fn reg_write(&mut self, reg: Reg, value: u64) -> Result<(), Failed>
         ensures told { OnOk result (Steps (λ t. with_access (Write reg value)
             (on_device (after_reg_write reg value) t)) (told self.old) (told self.new)) }
@@ -155,6 +158,8 @@ pub trait Board {
         ensures stops { Passes (InStore (StoreBy (after_reg_write reg value) (told self.old)))
             (clock self.old)
             (clock self.new) }
+        ensures stored { OnOk result (StoreIsLeft (told self.old) (clock self.old)
+            → StoreIsLeft (told self.new) (clock self.new)) }
         ensures cause { FailsAs device_call (faults self.old) (faults self.new) result }
         ensures device { IfSome (told self.old) (λ t. IsDevice (device_of t)) };
 
@@ -190,7 +195,8 @@ pub trait Board {
     ///
     /// `Refused` comes with the store's own refusal, `NoMemory` among them, and leaves all as it
     /// was, also if a stop comes during the call. After `Failed` the record was put or wasn't. A
-    /// stop during a call that isn't refused leaves the store as before it or as after it.
+    /// stop during a call that isn't refused, or after one that failed, leaves the store as before
+    /// it or as after it.
     fn put(&mut self, id: u64, bytes: &[u8]) -> Result<(), BoardPut>
         ensures told { OnOk result
             (Steps (on_device (after_put id bytes.now)) (told self.old) (told self.new)) }
@@ -203,6 +209,8 @@ pub trait Board {
             (clock self.old)
             (clock self.new) }
         ensures still { PassesAtRefusal result (clock self.old) (clock self.new) }
+        ensures stored { OnOk result (StoreIsLeft (told self.old) (clock self.old)
+            → StoreIsLeft (told self.new) (clock self.new)) }
         ensures cause { FailsAs device_call (faults self.old) (faults self.new)
             (put_failure result) }
         ensures device { IfSome (told self.old) (λ t. IsDevice (device_of t)) };
@@ -225,10 +233,6 @@ pub trait Board {
     /// Between calls a stop leaves the text that was printed, no less and no more.
     ghost text_is_left: { (board : Self) (t : Told) (left : Left) → told board ≡ Some t
         → LeftNow (clock board) left → left.out ≡ t.here.out };
-
-    /// Between calls a stop leaves the record store that is told.
-    ghost store_is_left: { (board : Self) (t : Told) (left : Left) → told board ≡ Some t
-        → LeftNow (clock board) left → left.store ≡ t.here.store };
 
     /// What may be left from a moment on may be left from every earlier one on.
     ghost counts_earlier: { (board : Self) (s t : ℕ) (left : Left) → s ≤ t

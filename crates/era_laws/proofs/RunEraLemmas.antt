@@ -1,5 +1,5 @@
 -- Eras, from what `rasd` promises of a run.
-use Rattle.std.proofs.Common.{◌≡◌, ℕ, ◌≤◌, List, Option, arith, inl, inr, refl, sym, subst}
+use Rattle.std.proofs.Common.{◌≡◌, ℕ, ◌≤◌, List, Option, arith, inl, inr, refl, sym, ap, subst}
 use Rattle.std.specs.Prelude.{◌⊎◌}
 use Rattle.board_core.specs.Clock.{Clock, LeftNow}
 use Rattle.board_core.specs.Stop.{Left}
@@ -16,7 +16,10 @@ use Rattle.ras_run.specs.Places.{Start}
 use Rattle.era_laws.specs.Eras.{IsEra, era_of}
 
 pub stops-recover : (clock : Clock) (account : State) (t : Told) → Recovers account t.here → ((left : Left) → LeftNow clock left → left ≡ t.here) → StopsRecover (start_of account t) clock
-stops-recover clock account t recovers only left now = subst (Recovers account) (sym (only left now)) recovers
+stops-recover clock account t recovers only left now = record {
+  recovers = subst (Recovers account) (sym (only left now)) recovers;
+  store = ap (λ (l : Left). l.store) (only left now);
+}
 
 module _ {X : Type 0} (told : X → Option Told) (clock : X → Clock) (old new : X) (account : State) (t : Told) (script : List ℕ) (opens : Recovers account t.here) where
   abbrev start : Start

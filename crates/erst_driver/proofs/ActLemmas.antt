@@ -1,19 +1,19 @@
 -- One action by the run of its list.
-use Rattle.std.proofs.Common.{◌≡◌, ◌∙◌, ℕ, zero, suc, ◌<◌, ◌^◌, Bool, true, false, nat_eq, List, [], ◌∷◌, length, get_or, Option, Some, None, sym, ap, subst, inl, inr, arith, if◌then◌else◌}
+use Rattle.std.proofs.Common.{◌≡◌, ◌∙◌, ℕ, zero, suc, ◌<◌, ◌^◌, Bool, true, false, nat_eq, List, [], ◌∷◌, length, get_or, Option, Some, None, sym, ap, subst, arith, if◌then◌else◌}
 use Rattle.std.specs.Prelude.{Result, Ok, Err, IfSome}
 use Rattle.erst_store.specs.Actions.{check_busy_status, end_operation, get_command_status, get_record_identifier, set_record_offset}
 use Rattle.erst_store.specs.Store.{Stored}
 use Rattle.erst_store.specs.Device.{Device}
 use Rattle.erst_store.specs.DeviceLaws.{IsDevice}
 use Rattle.erst_store.specs.Steps.KeptLemmas.{IsDevice-act, IsDevice-value}
-use Rattle.board_core.specs.Clock.{Passes}
+use Rattle.board_core.specs.Clock.{Passes, StoreIsLeft}
 use Rattle.board_core.specs.Stop.{InStore}
-use Rattle.board_core.specs.Told.{Told, device_of, Relates, StoreBy}
+use Rattle.board_core.specs.Told.{Told, device_of, Relates}
 use Rattle.erst_interp.specs.declared.entries.InstructionEntry.{InstructionEntry}
 use Rattle.erst_interp.specs.declared.refusals.RunRefused.{RunRefused}
 use Rattle.erst_interp.specs.declared.refusals.RunRefused.TheVariants.{Register, Fuel, BadInstruction, BadRegister, BadRange}
 use Rattle.erst_interp.specs.Admission.{takes_input, IsAdmitted, IsAdmittedTable}
-use Rattle.erst_interp.specs.Faithful.{input_limit, with_input, device_after, answer_after, ActsOn, DoesRun, IsRegisterAlone, RunsAction}
+use Rattle.erst_interp.specs.Faithful.{input_limit, with_input, answer_after, ActsOn, DoesRun, IsRegisterAlone, RunsAction, StoreInAction}
 use Rattle.erst_interp.specs.Machine.{machine_end}
 use Rattle.erst_interp.specs.Run.{IsRun, KeepsButDevice, RunCause, RunsList}
 use Rattle.board_core.specs.Doing.{Seen}
@@ -52,25 +52,25 @@ is_device_after s d inside device =
     by false = device
 
 module _ (lists : List (List InstructionEntry)) (s : Step) (a b : Seen) (kept : Relates KeepsButDevice a.told b.told)
-    (stops : Passes (InStore (StoreBy (device_after s.action s.input) a.told)) a.clock b.clock) where
-  store_in : (x y : List Stored) → StoreBy (device_after s.action s.input) a.told x y → StoreIn (λ d. s ∷ []) a.told x y
+    (stops : Passes (InStore (StoreInAction s.action s.input a.told)) a.clock b.clock) where
+  store_in : (x y : List Stored) → StoreInAction s.action s.input a.told x y → StoreIn (λ d. s ∷ []) a.told x y
   unfolding ComesThrough
   store_in x y is = by a.told is
     where
-      by : (o : Option Told) → StoreBy (device_after s.action s.input) o x y → StoreIn (λ d. s ∷ []) o x y
+      by : (o : Option Told) → StoreInAction s.action s.input o x y → StoreIn (λ d. s ∷ []) o x y
       by None is = tt
-      by (Some t) is = λ device. elim is [ inl same ↦ inl same | inr new ↦ inr (inr new) ]
+      by (Some t) is = λ device. is
 
-  well : b.faults ≡ a.faults → GoesWell (StoreIn (λ d. s ∷ []) a.told) a b
-  well faults = well_more (StoreBy (device_after s.action s.input) a.told) (StoreIn (λ d. s ∷ []) a.told) store_in a b
-      (record { kept = kept; stops = stops; faults = faults })
+  well : (StoreIsLeft a.told a.clock → StoreIsLeft b.told b.clock) → b.faults ≡ a.faults → GoesWell (StoreIn (λ d. s ∷ []) a.told) a b
+  well stored faults = well_more (StoreInAction s.action s.input a.told) (StoreIn (λ d. s ∷ []) a.told) store_in a b
+      (record { kept = kept; stops = stops; stored = stored; faults = faults })
 
   -- a refusal: an admitted list comes to Register alone
   failed : (why : RunRefused) → IsRegisterAlone (Err why) → RunCause (Err why) a.faults b.faults
       → IfSome a.told (λ t. IsRun (Err why) (machine_end (list_of s.action lists) s.input (device_of t)) t b.told) → FailsIn lists (λ d. s ∷ []) a b
   unfolding device_calls
   failed Register alone raises runs = record {
-    fails = fails_more (StoreBy (device_after s.action s.input) a.told) (StoreIn (λ d. s ∷ []) a.told) store_in a b
+    fails = fails_more (StoreInAction s.action s.input a.told) (StoreIn (λ d. s ∷ []) a.told) store_in a b
         (record { kept = kept; stops = stops; raises = raises });
     cut = cut a.told runs;
   }
@@ -92,11 +92,11 @@ module _ (lists : List (List InstructionEntry)) (s : Step) (a b : Seen) (kept : 
     is = is_device_after s (device_of t) inside device;
   }
 
-  acted : (value : ℕ) → Inside s → b.faults ≡ a.faults
+  acted : (value : ℕ) → Inside s → (StoreIsLeft a.told a.clock → StoreIsLeft b.told b.clock) → b.faults ≡ a.faults
       → IfSome a.told (λ t. IsRun (Ok value) (machine_end (list_of s.action lists) s.input (device_of t)) t b.told)
       → IfSome a.told (λ t. DoesRun s.action s.input (Ok value) t b.told) → Acted lists s value a b
-  acted value inside faults runs acts = record {
-    done = record { well = well faults; tells = by a.told runs acts };
+  acted value inside stored faults runs acts = record {
+    done = record { well = well stored faults; tells = by a.told runs acts };
     gives = gives a.told acts;
   }
     where
@@ -116,7 +116,7 @@ module _ (table lists : List (List InstructionEntry)) (view : table ≡ lists) (
   pub ran : (value : ℕ) → RunsList (list_of s.action table) s.input (Ok value) a b → (IsAdmitted s.action (list_of s.action table) → RunsAction s.action s.input (Ok value) a b) → Acted lists s value a b
   ran value runs acts =
       let does = acts (admitted s.action inside.action) in
-      acted_as table lists s value a b view (acted table s a b runs.kept (does.stores inside.input) value inside runs.cause runs.runs (does.does inside.input))
+      acted_as table lists s value a b view (acted table s a b runs.kept (does.stores inside.input) value inside runs.stored runs.cause runs.runs (does.does inside.input))
 
   pub ran_badly : (why : RunRefused) → RunsList (list_of s.action table) s.input (Err why) a b → (IsAdmitted s.action (list_of s.action table) → RunsAction s.action s.input (Err why) a b)
       → FailsIn lists (λ d. s ∷ []) a b

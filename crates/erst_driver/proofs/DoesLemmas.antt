@@ -6,8 +6,8 @@ use Rattle.erst_store.specs.Actions.{get_command_status, end_operation}
 use Rattle.erst_store.specs.Device.{Device}
 use Rattle.erst_store.specs.Store.{Stored}
 use Rattle.board_core.specs.Cause.{device_call}
-use Rattle.board_core.specs.Clock.{Adds, LeftNow, Passes, Rests}
-use Rattle.board_core.specs.Steps.ClockLemmas.{adds_at_rest, rests_stored}
+use Rattle.board_core.specs.Clock.{Adds, Passes, Rests, StoreIsLeft}
+use Rattle.board_core.specs.Steps.ClockLemmas.{adds_at_rest, rests_store, rests_stored}
 use Rattle.board_core.specs.Doing.{DeviceCall, Does, FailsActs, Moment, Raises, Seen, TornDevice, after_acts, after_device, broke, ended_by, went_well, reg_read, reg_write, range_read, range_write, put}
 use Rattle.board_core.specs.Stop.{Becomes, InStore, Left}
 use Rattle.board_core.specs.Told.{Relates, Told}
@@ -21,7 +21,7 @@ use Rattle.erst_interp.proofs.BreakLemmas.{here_after}
 use Rattle.erst_driver.specs.declared.refusals.DriverRefused.{DriverRefused}
 use Rattle.erst_driver.specs.declared.refusals.DriverRefused.TheVariants.{Register, Busy, NoMemory, Status as EndedWith}
 use Rattle.erst_driver.specs.declared.step.Step.{Step}
-use Rattle.erst_driver.specs.Steps.Operating.{HasCall, Leaves}
+use Rattle.erst_driver.specs.Steps.Operating.{HasCall, KeepsStored, Leaves}
 use Rattle.erst_driver.specs.Answers.{DoesListing, HasCauseIn, IsMemoryOnly, IsAnswered, Stays, driver_end}
 use Rattle.erst_driver.specs.Operations.{AreInside, Inside, checks, device_calls, end_by, ends, finishes, is_free_in_time, asks, most_checks, without_input}
 
@@ -77,8 +77,7 @@ some_told : (x y : Told) → Some x ≡ Some y → x ≡ y
 some_told x y e = cc
 
 module _ {X : Type 0} (see : X → Seen) (calls : List DeviceCall) (Step : List Stored → List Stored → Type 0) (t : Told) (a b : X) (is : (see a).told ≡ Some t)
-    (law : (n : Told) (left : Left) → (see b).told ≡ Some n → LeftNow (see b).clock left → left.store ≡ n.here.store)
-    (passes : Passes (InStore Step) (see a).clock (see b).clock)
+    (passes : StoreIsLeft (see a).told (see a).clock → Passes (InStore Step) (see a).clock (see b).clock)
     (moments : (left : Left) → InStore Step t.here left → Moment (acts_of calls) t left) where
   same : (u : Told) → Rests u (see a).told (see a).clock → t ≡ u
   same u rests = some_told t u (sym is ∙ rests.is)
@@ -86,17 +85,21 @@ module _ {X : Type 0} (see : X → Seen) (calls : List DeviceCall) (Step : List 
   at_t : (u : Told) → Rests u (see a).told (see a).clock → Rests t (see a).told (see a).clock
   at_t u rests = subst (λ (v : Told). Rests v (see a).told (see a).clock) (sym (same u rests)) rests
 
+  before : (u : Told) → Rests u (see a).told (see a).clock → StoreIsLeft (see a).told (see a).clock
+  before u rests = rests_store u (see a).told (see a).clock rests
+
   stops : (u : Told) → Rests u (see a).told (see a).clock → Adds (Moment (acts_of calls) u) (see a).clock (see b).clock
   stops u rests = subst (λ (v : Told). Adds (Moment (acts_of calls) v) (see a).clock (see b).clock) (same u rests)
-      (adds_at_rest (InStore Step) (Moment (acts_of calls) t) t (see a).told (see a).clock (see b).clock (at_t u rests) passes moments)
+      (adds_at_rest (InStore Step) (Moment (acts_of calls) t) t (see a).told (see a).clock (see b).clock (at_t u rests) (passes (before u rests)) moments)
 
-  pub went : (see b).told ≡ Some (after_acts (acts_of calls) t) → (see b).faults ≡ (see a).faults → Does see (acts_of calls) went_well a b
-  went told faults = record {
+  pub went : (StoreIsLeft (see a).told (see a).clock → StoreIsLeft (see b).told (see b).clock) → (see b).told ≡ Some (after_acts (acts_of calls) t) → (see b).faults ≡ (see a).faults
+      → Does see (acts_of calls) went_well a b
+  went stored told faults = record {
     told = told ∙ ap (option_map (after_acts (acts_of calls))) (sym is);
     stops = stops;
     rests = λ u rests. subst (λ (v : Told). Rests (after_acts (acts_of calls) v) (see b).told (see b).clock) (same u rests)
-        (rests_stored Step t (after_acts (acts_of calls) t) (see a).told (see b).told (see a).clock (see b).clock (at_t u rests) told passes
-        (λ left now. law (after_acts (acts_of calls) t) left told now) (here_after calls t));
+        (rests_stored Step t (after_acts (acts_of calls) t) (see a).told (see b).told (see a).clock (see b).clock (at_t u rests) told (passes (before u rests))
+        (stored (before u rests) (after_acts (acts_of calls) t) told) (here_after calls t));
     faults = faults;
   }
 
@@ -111,13 +114,13 @@ module _ {X : Type 0} (see : X → Seen) (calls : List DeviceCall) (Step : List 
       by None never = absurd never
       by (Some u) fails = fails
 
-  pub does_operation : {T : Type 0} (result : Result T DriverRefused) → Leaves result t (see b).told calls → HasCauseIn result (see a).faults (see b).faults → IsAnswered result
+  pub does_operation : {T : Type 0} (result : Result T DriverRefused) → KeepsStored result (see a) (see b) → Leaves result t (see b).told calls → HasCauseIn result (see a).faults (see b).faults → IsAnswered result
       → Does see (acts_of calls) (ended_by driver_end result) a b
-  does_operation (Ok done) told cause answered = went told cause
-  does_operation (Err Register) cut cause answered = broken cut cause
-  does_operation (Err Busy) told cause answered = went told cause
-  does_operation (Err (EndedWith code)) told cause answered = went told cause
-  does_operation (Err NoMemory) told cause answered = absurd answered
+  does_operation (Ok done) stored told cause answered = went stored told cause
+  does_operation (Err Register) stored cut cause answered = broken cut cause
+  does_operation (Err Busy) stored told cause answered = went stored told cause
+  does_operation (Err (EndedWith code)) stored told cause answered = went stored told cause
+  does_operation (Err NoMemory) stored told cause answered = absurd answered
 
 -- ---- what is said of a board that tells
 
@@ -151,54 +154,56 @@ finishes_inside busy = inside_both (asks busy) (ends busy) (asked (is_free_in_ti
 
 -- ---- an operation, by what it does to the record store
 
-module _ {X : Type 0} (see : X → Seen) (a b : X)
-    (law : (n : Told) (left : Left) → (see b).told ≡ Some n → LeftNow (see b).clock left → left.store ≡ n.here.store) where
+module _ {X : Type 0} (see : X → Seen) (a b : X) where
   -- one that leaves the store
-  module _ (calls : List DeviceCall) (t : Told) (is : (see a).told ≡ Some t) (has : HasCall calls) (passes : Passes (InStore (Stays (see a).told)) (see a).clock (see b).clock) where
+  module _ (calls : List DeviceCall) (t : Told) (is : (see a).told ≡ Some t) (has : HasCall calls)
+      (passes : StoreIsLeft (see a).told (see a).clock → Passes (InStore (Stays (see a).told)) (see a).clock (see b).clock) where
     stays_moments : (left : Left) → InStore (Stays (see a).told) t.here left → Moment (acts_of calls) t left
     stays_moments left by =
         let same : by.store ≡ t.here.store = subst (λ (o : Option Told). Stays o t.here.store by.store) is by.step in
         subst (λ (l : Left). Moment (acts_of calls) t l) (sym (by.rest ∙ ap (λ (store : List Stored). record t.here { store = store }) same)) (moment_before calls t has)
 
-    pub does_quietly : {T : Type 0} (result : Result T DriverRefused) → Leaves result t (see b).told calls → HasCauseIn result (see a).faults (see b).faults → IsAnswered result
+    pub does_quietly : {T : Type 0} (result : Result T DriverRefused) → KeepsStored result (see a) (see b) → Leaves result t (see b).told calls → HasCauseIn result (see a).faults (see b).faults → IsAnswered result
         → Does see (acts_of calls) (ended_by driver_end result) a b
-    does_quietly result told cause answered = does_operation see calls (Stays (see a).told) t a b is law passes stays_moments result told cause answered
+    does_quietly result stored told cause answered = does_operation see calls (Stays (see a).told) t a b is passes stays_moments result stored told cause answered
 
-    pub quietly_went : (see b).told ≡ Some (after_acts (acts_of calls) t) → (see b).faults ≡ (see a).faults → Does see (acts_of calls) went_well a b
-    quietly_went told faults = went see calls (Stays (see a).told) t a b is law passes stays_moments told faults
+    pub quietly_went : (StoreIsLeft (see a).told (see a).clock → StoreIsLeft (see b).told (see b).clock) → (see b).told ≡ Some (after_acts (acts_of calls) t) → (see b).faults ≡ (see a).faults
+        → Does see (acts_of calls) went_well a b
+    quietly_went stored told faults = went see calls (Stays (see a).told) t a b is passes stays_moments stored told faults
 
   -- a listing, which may also lack memory
-  pub does_listing : {T : Type 0} (calls : List DeviceCall) (t : Told) → (see a).told ≡ Some t → HasCall calls → Passes (InStore (Stays (see a).told)) (see a).clock (see b).clock
-      → (result : Result T DriverRefused) → Leaves result t (see b).told calls → HasCauseIn result (see a).faults (see b).faults → IsMemoryOnly result → DoesListing see calls result a b
-  does_listing calls t is has passes (Ok found) told cause only = quietly_went calls t is has passes told cause
-  does_listing {T} calls t is has passes (Err Register) cut cause only = does_quietly calls t is has passes {T = T} (Err Register) cut cause tt
-  does_listing calls t is has passes (Err Busy) told cause only = absurd only
-  does_listing calls t is has passes (Err (EndedWith code)) told cause only = absurd only
-  does_listing calls t is has passes (Err NoMemory) begun cause only = record {
+  pub does_listing : {T : Type 0} (calls : List DeviceCall) (t : Told) → (see a).told ≡ Some t → HasCall calls → (StoreIsLeft (see a).told (see a).clock → Passes (InStore (Stays (see a).told)) (see a).clock (see b).clock)
+      → (result : Result T DriverRefused) → KeepsStored result (see a) (see b) → Leaves result t (see b).told calls → HasCauseIn result (see a).faults (see b).faults → IsMemoryOnly result
+      → DoesListing see calls result a b
+  does_listing calls t is has passes (Ok found) stored told cause only = quietly_went calls t is has passes stored told cause
+  does_listing {T} calls t is has passes (Err Register) stored cut cause only = does_quietly calls t is has passes {T = T} (Err Register) stored cut cause tt
+  does_listing calls t is has passes (Err Busy) stored told cause only = absurd only
+  does_listing calls t is has passes (Err (EndedWith code)) stored told cause only = absurd only
+  does_listing calls t is has passes (Err NoMemory) stored begun cause only = record {
     done = begun.done;
     later = begun.later;
     splits = begun.splits;
-    does = quietly_went begun.done t is begun.some passes begun.told cause;
+    does = quietly_went begun.done t is begun.some passes stored begun.told cause;
   }
 
   -- one before which nothing was done that the store shows
   pub does_nothing_else : {T : Type 0} (calls : List DeviceCall) (t : Told) → (see a).told ≡ Some t → HasCall calls → Passes (InStore (λ x y. y ≡ x)) (see a).clock (see b).clock
-      → (result : Result T DriverRefused) → Leaves result t (see b).told calls → HasCauseIn result (see a).faults (see b).faults → IsAnswered result
+      → (result : Result T DriverRefused) → KeepsStored result (see a) (see b) → Leaves result t (see b).told calls → HasCauseIn result (see a).faults (see b).faults → IsAnswered result
       → Does see (acts_of calls) (ended_by driver_end result) a b
-  does_nothing_else calls t is has passes result told cause answered = does_operation see calls (λ x y. y ≡ x) t a b is law passes
+  does_nothing_else calls t is has passes result stored told cause answered = does_operation see calls (λ x y. y ≡ x) t a b is (λ before. passes)
       (λ left by. subst (λ (l : Left). Moment (acts_of calls) t l) (sym (by.rest ∙ ap (λ (store : List Stored). record t.here { store = store }) by.step)) (moment_before calls t has))
-      result told cause answered
+      result stored told cause answered
 
   -- one after which the store is this one
   module _ (calls : List DeviceCall) (t : Told) (is : (see a).told ≡ Some t) (has : HasCall calls) (store : List Stored) (after : (after_acts (acts_of calls) t).here.store ≡ store)
       (Step : Option Told → List Stored → List Stored → Type 0) (becomes : (new : List Stored) → Step (Some t) t.here.store new → Becomes store t.here.store new)
-      (passes : Passes (InStore (Step (see a).told)) (see a).clock (see b).clock) where
+      (passes : StoreIsLeft (see a).told (see a).clock → Passes (InStore (Step (see a).told)) (see a).clock (see b).clock) where
     store_moments : (left : Left) → InStore (Step (see a).told) t.here left → Moment (acts_of calls) t left
     store_moments left by = elim (becomes by.store (subst (λ (o : Option Told). Step o t.here.store by.store) is by.step)) [
       | inl same ↦ subst (λ (l : Left). Moment (acts_of calls) t l) (sym (by.rest ∙ ap (λ (s : List Stored). record t.here { store = s }) same)) (moment_before calls t has)
       | inr new ↦ subst (λ (l : Left). Moment (acts_of calls) t l) (sym (by.rest ∙ ap (λ (s : List Stored). record t.here { store = s }) (new ∙ sym after) ∙ sym (here_after calls t))) (moment_after calls t has)
     ]
 
-    pub does_to_store : {T : Type 0} (result : Result T DriverRefused) → Leaves result t (see b).told calls → HasCauseIn result (see a).faults (see b).faults → IsAnswered result
+    pub does_to_store : {T : Type 0} (result : Result T DriverRefused) → KeepsStored result (see a) (see b) → Leaves result t (see b).told calls → HasCauseIn result (see a).faults (see b).faults → IsAnswered result
         → Does see (acts_of calls) (ended_by driver_end result) a b
-    does_to_store result told cause answered = does_operation see calls (Step (see a).told) t a b is law passes store_moments result told cause answered
+    does_to_store result stored told cause answered = does_operation see calls (Step (see a).told) t a b is passes store_moments result stored told cause answered

@@ -9,8 +9,8 @@ use Rattle.erst_store.specs.Steps.ActionLemmas.{length-ids}
 use Rattle.erst_store.specs.Store.{Stored, Fits, all_ones, most_records, ids}
 use Rattle.erst_store.specs.Device.{Device, act, after_id}
 use Rattle.erst_store.specs.DeviceLaws.{IsDevice, left_to_list}
-use Rattle.board_core.specs.Clock.{Passes, LeftNow}
-use Rattle.board_core.specs.Stop.{Left, InStore}
+use Rattle.board_core.specs.Clock.{Passes, StoreIsLeft}
+use Rattle.board_core.specs.Stop.{InStore}
 use Rattle.board_core.specs.Told.{Told, device_of, Relates}
 use Rattle.erst_interp.specs.declared.entries.InstructionEntry.{InstructionEntry}
 use Rattle.erst_interp.specs.Faithful.{answer_after}
@@ -23,7 +23,7 @@ use Rattle.erst_driver.specs.declared.refusals.DriverRefused.TheVariants.{Regist
 use Rattle.erst_driver.specs.declared.step.Step.{Step}
 use Rattle.erst_driver.specs.Operations.{without_input, listings, ids_steps, after_step, after_steps, device_calls, list_calls, told_by}
 use Rattle.erst_driver.specs.Answers.{IsMemoryOnly, HasCauseIn, Stays}
-use Rattle.erst_driver.specs.Steps.Operating.{Begins, HasCall, Leaves, Over, HasDevice, Starves, Plan, ComesThrough, StoreIn, Done, CutIn, FailsIn, IsBeginning, Acted, Acts, Quietly, FailsQuietly, EndsListing, ListsOut, Collected, Collects, ListsAll, Tells}
+use Rattle.erst_driver.specs.Steps.Operating.{Begins, HasCall, KeepsStored, Leaves, Over, HasDevice, Starves, Plan, ComesThrough, StoreIn, Done, CutIn, FailsIn, IsBeginning, Acted, Acts, Quietly, FailsQuietly, EndsListing, ListsOut, Collected, Collects, ListsAll, Tells}
 use Rattle.erst_interp.specs.Admission.{IsAdmittedTable}
 use Rattle.erst_driver.proofs.DeviceLemmas.{over_told}
 use Rattle.erst_driver.proofs.DoesLemmas.{has_call}
@@ -440,6 +440,13 @@ module _ {X : Type 0} (view : X → List ℕ) (lists : List (List InstructionEnt
   all_cause (Err (Status code)) all = absurd all
   all_cause (Err NoMemory) all = all.well.faults
 
+  pub all_stored : (result : Result X DriverRefused) → ListsAll view lists result a b → KeepsStored result a b
+  all_stored (Ok found) all = all.done.well.stored
+  all_stored (Err Register) all = tt
+  all_stored (Err Busy) all = absurd all
+  all_stored (Err (Status code)) all = absurd all
+  all_stored (Err NoMemory) all = all.well.stored
+
   quiet_ids : (o : Option Told) (x y : List Stored) → StoreIn ids_steps o x y → Quietly o x y
   quiet_ids None x y is = tt
   quiet_ids (Some t) x y is = λ device. elim (is device) [
@@ -459,6 +466,6 @@ module _ {X : Type 0} (view : X → List ℕ) (lists : List (List InstructionEnt
   stays None x y device law is = tt
   stays (Some t) x y device law is = elim (is device) [ inl same ↦ same | inr told ↦ told ∙ sym (law t refl) ]
 
-  pub all_stays : (result : Result X DriverRefused) → HasDevice lists a.told → ListsAll view lists result a b → ((t : Told) (left : Left) → a.told ≡ Some t → LeftNow a.clock left → left.store ≡ t.here.store)
+  pub all_stays : (result : Result X DriverRefused) → HasDevice lists a.told → ListsAll view lists result a b → StoreIsLeft a.told a.clock
       → Passes (InStore (Stays a.told)) a.clock b.clock
   all_stays result device all law = passes_at (Quietly a.told) (Stays a.told) a.told a.clock b.clock law (λ x y. stays a.told x y device.device) (all_stops result all)

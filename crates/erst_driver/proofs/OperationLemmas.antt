@@ -5,7 +5,7 @@ use Rattle.erst_store.specs.Actions.{check_busy_status, get_command_status, end_
 use Rattle.erst_store.specs.declared.device.CommandStatus.{CommandStatus}
 use Rattle.erst_store.specs.Store.{Stored}
 use Rattle.erst_store.specs.Device.{Device, act}
-use Rattle.board_core.specs.Clock.{Clock, LeftNow, After, Passes}
+use Rattle.board_core.specs.Clock.{Clock, After, Passes, StoreIsLeft}
 use Rattle.board_core.specs.Stop.{Left, InStore}
 use Rattle.board_core.specs.Told.{Told, device_of, Relates}
 use Rattle.erst_interp.specs.declared.entries.InstructionEntry.{InstructionEntry}
@@ -15,12 +15,12 @@ use Rattle.erst_driver.specs.declared.refusals.DriverRefused.TheVariants.{Regist
 use Rattle.erst_driver.specs.declared.step.Step.{Step}
 use Rattle.erst_driver.specs.Operations.{without_input, checks, is_free_in_time, asks, ends, finishes, actions_of, after_step, after_steps, device_calls, told_by, most_checks}
 use Rattle.erst_driver.specs.Answers.{Answer, by_status, answer_of, AnswersAs, HasCauseIn}
-use Rattle.erst_driver.specs.Steps.Operating.{Leaves, Over, Plan, ComesThrough, StoreIn, Done, Operates}
+use Rattle.erst_driver.specs.Steps.Operating.{KeepsStored, Leaves, Over, Plan, ComesThrough, StoreIn, Done, Operates}
 use Rattle.erst_driver.proofs.PlanLemmas.{everywhere, over_more, after_both}
 use Rattle.erst_driver.proofs.WaitLemmas.{checked}
 
 -- what a stop before left of the store is what was told
-module _ (T S : List Stored → List Stored → Type 0) (told : Option Told) (old new : Clock) (law : (t : Told) (left : Left) → told ≡ Some t → LeftNow old left → left.store ≡ t.here.store)
+module _ (T S : List Stored → List Stored → Type 0) (told : Option Told) (old new : Clock) (law : StoreIsLeft told old)
     (more : (x y : List Stored) → ((t : Told) → told ≡ Some t → x ≡ t.here.store) → T x y → S x y) where
   after_at : (left : Left) → After old (InStore T) left → After old (InStore S) left
   after_at left after = record {
@@ -28,7 +28,7 @@ module _ (T S : List Stored → List Stored → Type 0) (told : Option Told) (ol
     was = after.was;
     by = record {
       store = after.by.store;
-      step = more _ _ (λ t is. law t after.from is after.was) after.by.step;
+      step = more _ _ (λ t is. law t is after.from after.was) after.by.step;
       rest = after.by.rest;
     };
   }
@@ -77,6 +77,13 @@ module _ (lists : List (List InstructionEntry)) (plan : Plan) (answer : Device �
   cause_of (Err (EndedWith code)) operates = operates.done.well.faults
   cause_of (Err NoMemory) operates = absurd operates
 
+  pub stored_of : (result : Answer) → Operates lists plan answer result a b → KeepsStored result a b
+  stored_of (Ok tt) operates = operates.done.well.stored
+  stored_of (Err Register) operates = tt
+  stored_of (Err Busy) operates = operates.done.well.stored
+  stored_of (Err (EndedWith code)) operates = operates.done.well.stored
+  stored_of (Err NoMemory) operates = absurd operates
+
   pub stops : (result : Answer) → Operates lists plan answer result a b → Passes (InStore (StoreIn plan a.told)) a.clock b.clock
   stops (Ok tt) operates = operates.done.well.stops
   stops (Err Register) operates = operates.fails.stops
@@ -84,7 +91,7 @@ module _ (lists : List (List InstructionEntry)) (plan : Plan) (answer : Device �
   stops (Err (EndedWith code)) operates = operates.done.well.stops
   stops (Err NoMemory) operates = absurd operates
 
-  pub stops_of : (S : List Stored → List Stored → Type 0) (law : (t : Told) (left : Left) → a.told ≡ Some t → LeftNow a.clock left → left.store ≡ t.here.store)
+  pub stops_of : (S : List Stored → List Stored → Type 0) (law : StoreIsLeft a.told a.clock)
       → ((old new : List Stored) → ((t : Told) → a.told ≡ Some t → old ≡ t.here.store) → StoreIn plan a.told old new → S old new)
       → (result : Answer) → Operates lists plan answer result a b → Passes (InStore S) a.clock b.clock
   stops_of S law more result operates = passes_at (StoreIn plan a.told) S a.told a.clock b.clock law more (stops result operates)

@@ -11,8 +11,8 @@ use Rattle.erst_store.specs.Actions.{execute_operation, set_record_identifier, r
 use Rattle.erst_store.specs.Store.{Stored, Fits, most_bytes, holds, bytes_under}
 use Rattle.erst_store.specs.Device.{Device, act, busy_device, range_with_record, after_read_of}
 use Rattle.erst_store.specs.DeviceLaws.{IsDevice}
-use Rattle.board_core.specs.Clock.{Passes, LeftNow}
-use Rattle.board_core.specs.Stop.{Left, InStore}
+use Rattle.board_core.specs.Clock.{Passes, StoreIsLeft}
+use Rattle.board_core.specs.Stop.{InStore}
 use Rattle.board_core.specs.declared.board.Access.TheVariants.{RangeRead}
 use Rattle.board_core.specs.Told.{Told, device_of, Relates, Steps, with_access}
 use Rattle.erst_interp.specs.declared.entries.InstructionEntry.{InstructionEntry}
@@ -28,7 +28,7 @@ use Rattle.erst_driver.specs.declared.refusals.DriverRefused.{DriverRefused}
 use Rattle.erst_driver.specs.declared.refusals.DriverRefused.TheVariants.{Register, Busy, NoMemory, Status as EndedWith}
 use Rattle.erst_driver.specs.Operations.{is_free_in_time, actions_of, read_steps, after_steps, device_calls, fetch_calls, told_by}
 use Rattle.erst_driver.specs.Answers.{read_calls, Answer, by_status, found_status, answer_of, answer_on_found, AnswersAs, HasCauseIn, HoldsRecord, Stays}
-use Rattle.erst_driver.specs.Steps.Operating.{Leaves, Over, HasDevice, StoreIn, ComesThrough, Done, FailsFetch, Answered, Operates, Reads, Fetched}
+use Rattle.erst_driver.specs.Steps.Operating.{KeepsStored, Leaves, Over, HasDevice, StoreIn, ComesThrough, Done, FailsFetch, Answered, Operates, Reads, Fetched}
 use Rattle.erst_driver.proofs.PlanLemmas.{over_device, over_both_device, over_both, over_more, everywhere}
 use Rattle.erst_driver.proofs.DeviceLemmas.{over_told}
 use Rattle.erst_driver.proofs.OperationLemmas.{Carries, through_operation, range_after, answer_is, passes_at}
@@ -264,6 +264,13 @@ module _ (lists : List (List InstructionEntry)) (id : ℕ) (buffer : List ℕ) (
   read_cause (Err (EndedWith code)) reads = reads.done.well.faults
   read_cause (Err NoMemory) reads = absurd reads
 
+  pub read_stored : (result : Answer) → Reads lists (read_steps id) buffer result a b → KeepsStored result a b
+  read_stored (Ok tt) reads = reads.well.stored
+  read_stored (Err Register) reads = tt
+  read_stored (Err Busy) reads = reads.done.well.stored
+  read_stored (Err (EndedWith code)) reads = reads.done.well.stored
+  read_stored (Err NoMemory) reads = absurd reads
+
   read_holds : Fetched lists (read_steps id) buffer a b → Over (λ t. HoldsRecord id t.here.store buffer) a.told
   read_holds fetched = over_both_device _ _ _ a.told fetched.answers fetched.bytes
       (λ t device answer bytes. holds_record id (device_of t) buffer device answer bytes)
@@ -279,7 +286,7 @@ module _ (lists : List (List InstructionEntry)) (id : ℕ) (buffer : List ℕ) (
   read_passes (Err (EndedWith code)) reads = reads.done.well.stops
   read_passes (Err NoMemory) reads = absurd reads
 
-  pub read_stays : (result : Answer) → HasDevice lists a.told → Reads lists (read_steps id) buffer result a b → ((t : Told) (left : Left) → a.told ≡ Some t → LeftNow a.clock left → left.store ≡ t.here.store)
+  pub read_stays : (result : Answer) → HasDevice lists a.told → Reads lists (read_steps id) buffer result a b → StoreIsLeft a.told a.clock
       → Passes (InStore (Stays a.told)) a.clock b.clock
   read_stays result device reads law = passes_at (StoreIn (actions_of (read_steps id)) a.told) (Stays a.told) a.told a.clock b.clock law
       (λ x y. read_stops id a.told x y device.device) (read_passes result reads)

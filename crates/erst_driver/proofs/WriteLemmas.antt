@@ -13,8 +13,8 @@ use Rattle.erst_store.specs.Store.{Stored, with_record, is_reserved, is_full_for
 use Rattle.erst_store.specs.Device.{Device, act, busy_device, range_with, header_length, length_place, length_at, id_at, record_at, is_record_out, is_write_refused}
 use Rattle.erst_store.specs.DeviceLaws.{IsDevice}
 use Rattle.erst_store.specs.Steps.KeptLemmas.{IsDevice-range}
-use Rattle.board_core.specs.Clock.{Passes, LeftNow}
-use Rattle.board_core.specs.Stop.{Left, InStore}
+use Rattle.board_core.specs.Clock.{Passes, StoreIsLeft}
+use Rattle.board_core.specs.Stop.{InStore}
 use Rattle.board_core.specs.Told.{Told, device_of, Relates, Steps}
 use Rattle.erst_interp.specs.declared.entries.InstructionEntry.{InstructionEntry}
 use Rattle.erst_interp.specs.Run.{KeepsButDevice, IsCutShort}
@@ -25,7 +25,7 @@ use Rattle.erst_interp.proofs.TouchLemmas.{well_both, well_fails, fails_more}
 use Rattle.erst_driver.specs.declared.refusals.DriverRefused.TheVariants.{Register, Busy, NoMemory, Status as EndedWith}
 use Rattle.erst_driver.specs.Operations.{actions_of, write_steps, after_steps, device_calls, put_in_range, write_calls}
 use Rattle.erst_driver.specs.Answers.{Answer, answer_of, written_id, is_put_refused, put_status, store_after_write, answer_on_put, AnswersAs, HasCauseIn, Puts}
-use Rattle.erst_driver.specs.Steps.Operating.{Leaves, Over, StoreIn, ComesThrough, Tells, Done, Operates, StoreInWrite, Written, FailsWrite, Writes}
+use Rattle.erst_driver.specs.Steps.Operating.{KeepsStored, Leaves, Over, StoreIn, ComesThrough, Tells, Done, Operates, StoreInWrite, Written, FailsWrite, Writes}
 use Rattle.erst_driver.proofs.PlanLemmas.{over_at, over_more, everywhere}
 use Rattle.erst_driver.proofs.OperationLemmas.{Carries, through_operation, answer_is, passes_at}
 
@@ -140,7 +140,7 @@ module _ (bytes : List ℕ) (long : header_length ≤ length bytes) (short : len
     passes (Err (EndedWith code)) writes = writes.well.stops
     passes (Err NoMemory) writes = absurd writes
 
-    pub write_puts : (result : Answer) → IfSome a.told (λ t. IsDevice (device_of t)) → Writes lists bytes result a b → ((t : Told) (left : Left) → a.told ≡ Some t → LeftNow a.clock left → left.store ≡ t.here.store)
+    pub write_puts : (result : Answer) → IfSome a.told (λ t. IsDevice (device_of t)) → Writes lists bytes result a b → StoreIsLeft a.told a.clock
         → Passes (InStore (Puts bytes a.told)) a.clock b.clock
     write_puts result device writes law = passes_at (StoreInWrite bytes a.told) (Puts bytes a.told) a.told a.clock b.clock law
         (λ x y. write_stops a.told x y device) (passes result writes)
@@ -166,6 +166,13 @@ module _ (bytes : List ℕ) (lists : List (List InstructionEntry)) (a b : Seen) 
   write_cause (Err Busy) writes = writes.well.faults
   write_cause (Err (EndedWith code)) writes = writes.well.faults
   write_cause (Err NoMemory) writes = absurd writes
+
+  pub write_stored : (result : Answer) → Writes lists bytes result a b → KeepsStored result a b
+  write_stored (Ok done) writes = writes.well.stored
+  write_stored (Err Register) writes = tt
+  write_stored (Err Busy) writes = writes.well.stored
+  write_stored (Err (EndedWith code)) writes = writes.well.stored
+  write_stored (Err NoMemory) writes = absurd writes
 
   -- ---- the range is filled, and then the operation is done
 

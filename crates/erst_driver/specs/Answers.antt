@@ -8,7 +8,7 @@ use Rattle.erst_store.specs.Store.{Stored, holds, bytes_under, with_record, with
 use Rattle.erst_store.specs.Device.{Device, status_number, id_place}
 use Rattle.erst_store.specs.DeviceLaws.{IsDevice}
 use Rattle.board_core.specs.Cause.{Faults, device_call}
-use Rattle.board_core.specs.Clock.{Passes}
+use Rattle.board_core.specs.Clock.{Passes, StoreIsLeft}
 use Rattle.board_core.specs.Stop.{Becomes, InStore}
 use Rattle.board_core.specs.Told.{Relates, Told, device_of}
 use Rattle.board_core.specs.Doing.{DeviceCall, Does, Ended, Raises, Seen, broke, ended_by, went_well}
@@ -159,8 +159,8 @@ pub record RunsOperation {X : Type 0} (see : X → Seen) (calls : Device → Lis
   pub answers : IfSome (see old).told (λ t. AnswersAs result (answer (device_of t)))
   -- Of what is told the device alone changes.
   pub kept : Relates KeepsButDevice (see old).told (see new).told
-  -- A stop during it leaves of the record store what one before it might have left, or this change.
-  pub stops : Passes (InStore (Store (see old).told)) (see old).clock (see new).clock
+  -- If a stop before leaves the store that is told, one during it leaves that or this change of it.
+  pub stops : StoreIsLeft (see old).told (see old).clock → Passes (InStore (Store (see old).told)) (see old).clock (see new).clock
   pub ends : EndsOperation result (see old).faults (see new).faults
   -- What the board told was a device.
   pub device : IfSome (see old).told (λ t. IsDevice (device_of t))
@@ -170,7 +170,8 @@ pub record ListsRecords {X T : Type 0} (see : X → Seen) (calls : Device → Li
   pub does : IfSome (see old).told (λ t. DoesListing see (calls (device_of t)) result old new)
   pub refused : IsMemoryOnly result
   pub kept : Relates KeepsButDevice (see old).told (see new).told
-  pub stops : Passes (InStore (Stays (see old).told)) (see old).clock (see new).clock
+  -- If a stop before leaves the store that is told, so does one during it.
+  pub stops : StoreIsLeft (see old).told (see old).clock → Passes (InStore (Stays (see old).told)) (see old).clock (see new).clock
   pub cause : HasCauseIn result (see old).faults (see new).faults
   -- What the board told was a device.
   pub device : IfSome (see old).told (λ t. IsDevice (device_of t))

@@ -68,7 +68,8 @@ impl Driver {
     /// if the store is empty, and 5 if it has no such record.
     ///
     /// At each moment a stop leaves what one before the call might have left, or this without the
-    /// record. What the calls themselves leave stands at [`crate::operations_on_the_store`].
+    /// record, if one before leaves the store that is told. What the calls themselves leave stands
+    /// at [`crate::operations_on_the_store`].
     pub fn clear<B: Board>(&self, id: u64, board: &mut B) -> Result<(), DriverRefused>
         ensures clears { RunsOperation (looks B.told B.clock B.faults)
             (clear_calls self.now id) (answer_on_found id) (Clears id) result board.old board.new }
@@ -85,7 +86,7 @@ impl Driver {
     /// comes if the device was busy at `MOST_CHECKS` checks, the last of which is then the last
     /// action. `Status` comes after the operation was ended: 4 if the store is empty, and 5
     /// if it has no such record. At each moment a stop leaves what one before the call might
-    /// have left.
+    /// have left, if one before leaves the store that is told.
     pub fn read<B: Board>(
         &self,
         id: u64,
@@ -114,7 +115,8 @@ impl Driver {
     /// the identifier is 0 or all ones, or the store is full and has no record under it.
     ///
     /// At each moment a stop leaves what one before the call might have left, or this with the
-    /// record put. What the calls themselves leave stands at [`crate::operations_on_the_store`].
+    /// record put, if one before leaves the store that is told. What the calls themselves leave
+    /// stands at [`crate::operations_on_the_store`].
     pub fn write<B: Board>(&self, bytes: &[u8], board: &mut B) -> Result<(), DriverRefused>
         requires fits { (header_length ≤ length bytes.now)
             × (length bytes.now ≤ range_length) }
@@ -134,7 +136,8 @@ impl Driver {
     ///
     /// `Register` comes only if a call of the board failed, which is then the last one, and
     /// `NoMemory` only if memory runs out, after some of the actions. No other refusal comes. At
-    /// each moment a stop leaves what one before the call might have left.
+    /// each moment a stop leaves what one before the call might have left, if one before leaves the
+    /// store that is told.
     pub fn ids<B: Board>(&self, alloc: Global, board: &mut B) -> Result<Vec<u64>, DriverRefused>
         ensures lists { ListsRecords (looks B.told B.clock B.faults) (list_calls self.now) result
             board.old board.new }

@@ -4,10 +4,10 @@ use Rattle.std.specs.Prelude.{Result, Ok, Err, IfSome}
 use Rattle.std.specs.Option.{option_map}
 use Rattle.erst_store.specs.Store.{Stored}
 use Rattle.erst_store.specs.DeviceLaws.{IsDevice}
-use Rattle.board_core.specs.Clock.{Clock, LeftNow, After, Passes}
-use Rattle.board_core.specs.Stop.{Left, InStore}
+use Rattle.board_core.specs.Clock.{Clock, Passes}
+use Rattle.board_core.specs.Stop.{InStore}
 use Rattle.board_core.specs.Doing.{Seen, after_acts}
-use Rattle.board_core.specs.Told.{Told, device_of, StoreBy}
+use Rattle.board_core.specs.Told.{Told, device_of}
 use Rattle.erst_interp.specs.declared.entries.InstructionEntry.{InstructionEntry}
 use Rattle.erst_interp.specs.declared.refusals.RunRefused.{RunRefused}
 use Rattle.erst_interp.specs.declared.refusals.RunRefused.TheVariants.{Register, Fuel, BadInstruction, BadRegister, BadRange}
@@ -15,7 +15,7 @@ use Rattle.erst_interp.specs.Machine.{End, most_turns, new_variables, start}
 use Rattle.erst_interp.specs.Steps.Running.{Cut, Made, StoreIn, start_over, end_over}
 use Rattle.erst_interp.specs.Run.{IsCutShort, IsRun, RunsList, StoreInRun, acts_of, told_after}
 use Rattle.erst_interp.specs.Admission.{IsAdmitted}
-use Rattle.erst_interp.specs.Faithful.{input_limit, device_after, DoesRun, IsFaithful, IsRegisterAlone, RunsAction}
+use Rattle.erst_interp.specs.Faithful.{input_limit, DoesRun, IsFaithful, IsRegisterAlone, RunsAction, StoreInAction}
 use Rattle.erst_interp.proofs.FaithfulLemmas.{Done, done, done-answer}
 use Rattle.erst_interp.proofs.MomentLemmas.{run_moment}
 use Rattle.erst_interp.proofs.RunLemmas.{Ran, Runs, end_device, run_calls}
@@ -68,34 +68,12 @@ module _ (list : List InstructionEntry) (action input : ℕ) (fits : action < 2 
 
   -- ---- what stops leave
 
-  module _ (S R : List Stored → List Stored → Type 0) (x : List Stored) (a b : Clock) (law : (left : Left) → LeftNow a left → left.store ≡ x) (more : (y : List Stored) → S x y → R x y) where
-    after_at : (left : Left) → After a (InStore S) left → After a (InStore R) left
-    after_at left after =
-        let from_is : after.from.store ≡ x = law after.from after.was in
-        record {
-          from = after.from;
-          was = after.was;
-          by = record {
-            store = after.by.store;
-            step = subst (λ (z : List Stored). R z after.by.store) (sym from_is) (more after.by.store (subst (λ (z : List Stored). S z after.by.store) from_is after.by.step));
-            rest = after.by.rest;
-          };
-        }
+  in_action : (told : Option Told) (x y : List Stored) → StoreInRun list input told x y → StoreInAction action input told x y
+  in_action None x y step = tt
+  in_action (Some t) x y step = elim step [ inl same ↦ inl same | inr passed ↦ inr ((done_over t).stores y passed) ]
 
-    passes_at : Passes (InStore S) a b → Passes (InStore R) a b
-    passes_at passes = record {
-      later = passes.later;
-      kept = passes.kept;
-      each = λ t left within may. elim (passes.each t left within may) [ inl before ↦ inl before | inr after ↦ inr (after_at left after) ];
-      ends = λ left now. after_at left (passes.ends left now);
-    }
-
-  pub stores_run : (told : Option Told) (a b : Clock) → ((t : Told) (left : Left) → told ≡ Some t → LeftNow a left → left.store ≡ t.here.store)
-      → Passes (InStore (StoreInRun list input told)) a b → Passes (InStore (StoreBy (device_after action input) told)) a b
-  stores_run None a b law passes = passes
-  stores_run (Some t) a b law passes =
-      passes_at (StoreInRun list input (Some t)) (StoreBy (device_after action input) (Some t)) t.here.store a b (λ left now. law t left refl now)
-      (λ y step. elim step [ inl same ↦ inl same | inr passed ↦ (done_over t).stores y passed ]) passes
+  pub stores_run : (told : Option Told) (a b : Clock) → Passes (InStore (StoreInRun list input told)) a b → Passes (InStore (StoreInAction action input told)) a b
+  stores_run told a b passes = passes_more (StoreInRun list input told) (StoreInAction action input told) (in_action told) a b passes
 
 -- ---- the clauses of a run, from its calls
 
@@ -132,21 +110,21 @@ module _ (list : List InstructionEntry) (input : ℕ) where
     ran answer is = told_so answer is.answers is.made
 
     pub runs_list : (result : Result ℕ RunRefused) → Runs list input result a b → RunsList list input result a b
-    runs_list (Ok x) is = record { runs = ran (Ok x) is; kept = is.made.well.kept; stops = stops_in is.made.well.stops; cause = is.made.well.faults }
-    runs_list (Err Register) is = record { runs = cut_so is; kept = is.fails.kept; stops = stops_in is.fails.stops; cause = is.fails.raises }
-    runs_list (Err Fuel) is = record { runs = ran (Err Fuel) is; kept = is.made.well.kept; stops = stops_in is.made.well.stops; cause = is.made.well.faults }
-    runs_list (Err BadInstruction) is = record { runs = ran (Err BadInstruction) is; kept = is.made.well.kept; stops = stops_in is.made.well.stops; cause = is.made.well.faults }
-    runs_list (Err BadRegister) is = record { runs = ran (Err BadRegister) is; kept = is.made.well.kept; stops = stops_in is.made.well.stops; cause = is.made.well.faults }
-    runs_list (Err BadRange) is = record { runs = ran (Err BadRange) is; kept = is.made.well.kept; stops = stops_in is.made.well.stops; cause = is.made.well.faults }
+    runs_list (Ok x) is = record { runs = ran (Ok x) is; kept = is.made.well.kept; stops = stops_in is.made.well.stops; stored = is.made.well.stored; cause = is.made.well.faults }
+    runs_list (Err Register) is = record { runs = cut_so is; kept = is.fails.kept; stops = stops_in is.fails.stops; stored = tt; cause = is.fails.raises }
+    runs_list (Err Fuel) is = record { runs = ran (Err Fuel) is; kept = is.made.well.kept; stops = stops_in is.made.well.stops; stored = tt; cause = is.made.well.faults }
+    runs_list (Err BadInstruction) is = record { runs = ran (Err BadInstruction) is; kept = is.made.well.kept; stops = stops_in is.made.well.stops; stored = tt; cause = is.made.well.faults }
+    runs_list (Err BadRegister) is = record { runs = ran (Err BadRegister) is; kept = is.made.well.kept; stops = stops_in is.made.well.stops; stored = tt; cause = is.made.well.faults }
+    runs_list (Err BadRange) is = record { runs = ran (Err BadRange) is; kept = is.made.well.kept; stops = stops_in is.made.well.stops; stored = tt; cause = is.made.well.faults }
 
 -- and of one of an admitted list
 pub runs_action : (list : List InstructionEntry) (action input : ℕ) (result : Result ℕ RunRefused) (a b : Seen) → action < 2 ^ 64 → IsAdmitted action list → RunsList list input result a b → IsRegisterAlone result
-    → IfSome a.told (λ t. IsDevice (device_of t)) → ((t : Told) (left : Left) → a.told ≡ Some t → LeftNow a.clock left → left.store ≡ t.here.store) → RunsAction action input result a b
-runs_action list action input result a b fits is ran alone device law = record {
+    → IfSome a.told (λ t. IsDevice (device_of t)) → RunsAction action input result a b
+runs_action list action input result a b fits is ran alone device = record {
   does = λ inside. does_run list action input fits inside is a.told b.told result ran.runs device;
   only_register = alone;
   device = device;
-  stores = λ inside. stores_run list action input fits inside is a.told a.clock b.clock law ran.stops;
+  stores = λ inside. stores_run list action input fits inside is a.told a.clock b.clock ran.stops;
 }
 
 -- of a list that was looked up
@@ -154,8 +132,7 @@ module _ (list here : List InstructionEntry) (found : list ≡ here) (input : �
   pub runs_as : RunsList here input result a b
   runs_as = subst (λ (l : List InstructionEntry). RunsList l input result a b) found (runs_list list input a b result runs)
 
-  pub acts_as : (action : ℕ) → action < 2 ^ 64 → ((t : Told) (left : Left) → a.told ≡ Some t → LeftNow a.clock left → left.store ≡ t.here.store)
-      → (IsAdmitted action list → IsRegisterAlone result) → (IsAdmitted action list → IfSome a.told (λ t. IsDevice (device_of t))) → IsAdmitted action here → RunsAction action input result a b
-  acts_as action fits law alone device is =
+  pub acts_as : (action : ℕ) → action < 2 ^ 64 → (IsAdmitted action list → IsRegisterAlone result) → (IsAdmitted action list → IfSome a.told (λ t. IsDevice (device_of t))) → IsAdmitted action here → RunsAction action input result a b
+  acts_as action fits alone device is =
       let admitted : IsAdmitted action list = subst (λ (l : List InstructionEntry). IsAdmitted action l) (sym found) is in
-      runs_action list action input result a b fits admitted (runs_list list input a b result runs) (alone admitted) (device admitted) law
+      runs_action list action input result a b fits admitted (runs_list list input a b result runs) (alone admitted) (device admitted)

@@ -7,9 +7,10 @@ use Rattle.erst_store.specs.Store.{Stored}
 use Rattle.board_core.specs.declared.board.Reg.{Reg}
 use Rattle.board_core.specs.declared.board.Access.TheVariants.{Read, Write}
 use Rattle.board_core.specs.Cause.{FailsAs, device_call}
-use Rattle.board_core.specs.Clock.{After, Clock, Passes}
+use Rattle.board_core.specs.Clock.{After, Clock, Passes, StoreIsLeft}
 use Rattle.board_core.specs.Doing.{Act, DeviceCall, FailsDevice, Moment, Raises, Seen, after_acts, after_device, reg_read, reg_write}
 use Rattle.board_core.specs.Stop.{InStore, Left, Same}
+use Rattle.board_core.specs.Steps.ClockLemmas.{not_told}
 use Rattle.board_core.specs.Told.{FailsAccess, Relates, Steps, StoreBy, Told, after_reg_write, device_of, on_device, register_in, with_access}
 use Rattle.board_core.proofs.DoingLemmas.{broke_faults, moment_first, moment_then, steps_as, steps_then, well_faults}
 use Rattle.erst_interp.specs.Run.{IsCutShort, acts_of}
@@ -56,27 +57,53 @@ passes_same S same a b passes = record {
 
 -- ---- one call
 
-one_made : (call : DeviceCall) (a b : Seen) → Steps (λ t. after_device call t) a.told b.told → Passes (InStore (StoreIn (call ∷ []) a.told)) a.clock b.clock → b.faults ≡ a.faults → Made (call ∷ []) a b
-one_made call a b told stops faults = record { told = told; well = record { kept = call_keeps call a.told b.told told; stops = stops; faults = faults } }
+one_made : (call : DeviceCall) (a b : Seen) → Steps (λ t. after_device call t) a.told b.told → Passes (InStore (StoreIn (call ∷ []) a.told)) a.clock b.clock
+    → (StoreIsLeft a.told a.clock → StoreIsLeft b.told b.clock) → b.faults ≡ a.faults → Made (call ∷ []) a b
+one_made call a b told stops stored faults = record { told = told; well = record { kept = call_keeps call a.told b.told told; stops = stops; stored = stored; faults = faults } }
 
 one_cut : (call : DeviceCall) (a b : Seen) → Relates (FailsDevice call) a.told b.told → Passes (InStore (StoreIn (call ∷ []) a.told)) a.clock b.clock → Raises device_call a.faults b.faults → Cut (call ∷ []) a b
 one_cut call a b failed stops raises = record { told = one_fails call a.told b.told failed; fails = record { kept = call_fails_keeps call a.told b.told failed; stops = stops; raises = raises } }
 
--- a call that leaves the store
+-- A call that leaves the store: if a stop before leaves the store that is told, so does one after.
+stored_still : (call : DeviceCall) → ((t : Told) → (after_device call t).here ≡ t.here) → (a b : Seen) → Passes Same a.clock b.clock → Steps (λ t. after_device call t) a.told b.told
+    → StoreIsLeft a.told a.clock → StoreIsLeft b.told b.clock
+stored_still call here a b stops told before u is left now = by a.told refl told
+  where
+    from : After a.clock Same left
+    from = stops.ends left now
+
+    some : (x y : Told) → Some x ≡ Some y → x ≡ y
+    some x y e = cc
+
+    by : (o : Option Told) → a.told ≡ o → Steps (λ t. after_device call t) o b.told → left.store ≡ u.here.store
+    by None at steps = absurd (not_told u (sym steps ∙ is))
+    by (Some t) at steps =
+        ap (λ (l : Left). l.store) from.by ∙ before t at from.from from.was
+        ∙ ap (λ (l : Left). l.store) (sym (here t)) ∙ ap (λ (v : Told). v.here.store) (some (after_device call t) u (sym steps ∙ is))
+
+-- ---- calls that leave the store
+
 module _ (call : DeviceCall) (a b : Seen) (stops : Passes Same a.clock b.clock) where
   still : Passes (InStore (StoreIn (call ∷ []) a.told)) a.clock b.clock
   still = passes_same (StoreIn (call ∷ []) a.told) (stays_in (call ∷ []) a.told) a.clock b.clock stops
 
-  pub quiet_made : {T E : Type 0} {x : T} → Steps (λ t. after_device call t) a.told b.told → FailsAs {T = T} {E = E} device_call a.faults b.faults (Ok x) → Made (call ∷ []) a b
-  quiet_made told cause = one_made call a b told still (well_faults device_call a.faults b.faults cause)
+  pub quiet_made : {T E : Type 0} {x : T} → ((t : Told) → (after_device call t).here ≡ t.here) → Steps (λ t. after_device call t) a.told b.told → FailsAs {T = T} {E = E} device_call a.faults b.faults (Ok x)
+      → Made (call ∷ []) a b
+  quiet_made here told cause = one_made call a b told still (stored_still call here a b stops told) (well_faults device_call a.faults b.faults cause)
 
   pub quiet_cut : {T E : Type 0} {e : E} → Relates (FailsDevice call) a.told b.told → FailsAs {T = T} {E = E} device_call a.faults b.faults (Err e) → Cut (call ∷ []) a b
   quiet_cut failed cause = one_cut call a b failed still (broke_faults device_call a.faults b.faults cause)
 
 -- the same, with the store left as it was
 module _ (call : DeviceCall) (a b : Seen) (stops : Passes Same a.clock b.clock) where
-  pub quiet_well : {T E : Type 0} {x : T} → Steps (λ t. after_device call t) a.told b.told → FailsAs {T = T} {E = E} device_call a.faults b.faults (Ok x) → GoesWell Stays a b
-  quiet_well told cause = record { kept = call_keeps call a.told b.told told; stops = passes_same Stays (λ x. refl) a.clock b.clock stops; faults = well_faults device_call a.faults b.faults cause }
+  pub quiet_well : {T E : Type 0} {x : T} → ((t : Told) → (after_device call t).here ≡ t.here) → Steps (λ t. after_device call t) a.told b.told → FailsAs {T = T} {E = E} device_call a.faults b.faults (Ok x)
+      → GoesWell Stays a b
+  quiet_well here told cause = record {
+    kept = call_keeps call a.told b.told told;
+    stops = passes_same Stays (λ x. refl) a.clock b.clock stops;
+    stored = stored_still call here a b stops told;
+    faults = well_faults device_call a.faults b.faults cause;
+  }
 
   pub quiet_fails : {T E : Type 0} {e : E} → Relates (FailsDevice call) a.told b.told → FailsAs {T = T} {E = E} device_call a.faults b.faults (Err e) → Fails Stays a b
   quiet_fails failed cause = record { kept = call_fails_keeps call a.told b.told failed; stops = passes_same Stays (λ x. refl) a.clock b.clock stops; raises = broke_faults device_call a.faults b.faults cause }
@@ -91,7 +118,7 @@ read_steps reg n (Some t) new value told = told ∙ ap (λ (k : ℕ). Some (with
 
 pub read_made : {E : Type 0} (reg : Reg) (n : ℕ) (a b : Seen) → IsRead reg n a.told → Steps (with_access (Read reg n)) a.told b.told → Passes Same a.clock b.clock
     → FailsAs {T = ℕ} {E = E} device_call a.faults b.faults (Ok n) → Made (reg_read reg ∷ []) a b
-read_made reg n a b value told stops cause = quiet_made (reg_read reg) a b stops (read_steps reg n a.told b.told value told) cause
+read_made reg n a b value told stops cause = quiet_made (reg_read reg) a b stops (λ t. refl) (read_steps reg n a.told b.told value told) cause
 
 -- one was written
 written : (reg : Reg) (n : ℕ) (told : Option Told) (x y : List Stored) → StoreBy (after_reg_write reg n) told x y → StoreIn (reg_write reg n ∷ []) told x y
@@ -102,9 +129,9 @@ module _ (reg : Reg) (n : ℕ) (a b : Seen) (stops : Passes (InStore (StoreBy (a
   acted : Passes (InStore (StoreIn (reg_write reg n ∷ []) a.told)) a.clock b.clock
   acted = passes_more (StoreBy (after_reg_write reg n) a.told) (StoreIn (reg_write reg n ∷ []) a.told) (written reg n a.told) a.clock b.clock stops
 
-  pub write_made : {T E : Type 0} {x : T} → Steps (λ t. with_access (Write reg n) (on_device (after_reg_write reg n) t)) a.told b.told → FailsAs {T = T} {E = E} device_call a.faults b.faults (Ok x)
-      → Made (reg_write reg n ∷ []) a b
-  write_made told cause = one_made (reg_write reg n) a b told acted (well_faults device_call a.faults b.faults cause)
+  pub write_made : {T E : Type 0} {x : T} → Steps (λ t. with_access (Write reg n) (on_device (after_reg_write reg n) t)) a.told b.told → (StoreIsLeft a.told a.clock → StoreIsLeft b.told b.clock)
+      → FailsAs {T = T} {E = E} device_call a.faults b.faults (Ok x) → Made (reg_write reg n ∷ []) a b
+  write_made told stored cause = one_made (reg_write reg n) a b told acted stored (well_faults device_call a.faults b.faults cause)
 
   pub write_cut : {T E : Type 0} {e : E} → Relates (FailsAccess (Write reg n) (after_reg_write reg n)) a.told b.told → FailsAs {T = T} {E = E} device_call a.faults b.faults (Err e) → Cut (reg_write reg n ∷ []) a b
   write_cut failed cause = one_cut (reg_write reg n) a b failed acted (broke_faults device_call a.faults b.faults cause)

@@ -47,7 +47,7 @@ module _ (S1 S : List Stored → List Stored → Type 0) (more : (x y : List Sto
   }
 
   pub well_more : (a b : Seen) → GoesWell S1 a b → GoesWell S a b
-  well_more a b well = record { kept = well.kept; stops = passes_more a.clock b.clock well.stops; faults = well.faults }
+  well_more a b well = record { kept = well.kept; stops = passes_more a.clock b.clock well.stops; stored = well.stored; faults = well.faults }
 
   pub fails_more : (a b : Seen) → Fails S1 a b → Fails S a b
   fails_more a b fails = record { kept = fails.kept; stops = passes_more a.clock b.clock fails.stops; raises = fails.raises }
@@ -86,6 +86,7 @@ module _ (S1 S : List Stored → List Stored → Type 0) (more : (x y : List Sto
     well_both a b c first second = record {
       kept = kept_both a.told b.told c.told first.kept second.kept;
       stops = passes_both a.clock b.clock c.clock first.stops second.stops;
+      stored = λ before. second.stored (first.stored before);
       faults = second.faults ∙ first.faults;
     }
 
@@ -106,5 +107,6 @@ none_made S same a = record {
     each = λ t left within may. inl may;
     ends = λ left now. record { from = left; was = now; by = record { store = left.store; step = same left.store; rest = refl } };
   };
+  stored = λ before. before;
   faults = refl;
 }

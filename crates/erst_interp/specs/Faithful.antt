@@ -1,12 +1,13 @@
 -- What a list of an action has to do: the action, whatever the device.
-use Rattle.std.specs.Prelude.{◌≡◌, ℕ, ◌^◌, ◌<◌, nat_eq, List, Option, Some, Result, Ok, Err, IfSome, if◌then◌else◌}
+use Rattle.std.specs.Prelude.{◌≡◌, ℕ, ◌^◌, ◌<◌, ◌⊎◌, nat_eq, List, Option, Some, None, Result, Ok, Err, IfSome, if◌then◌else◌}
 use Rattle.erst_store.specs.Actions.{set_record_offset}
 use Rattle.erst_store.specs.Device.{Device, act}
 use Rattle.erst_store.specs.DeviceLaws.{IsDevice}
+use Rattle.erst_store.specs.Store.{Stored}
 use Rattle.board_core.specs.Clock.{Passes}
 use Rattle.board_core.specs.Doing.{Seen}
 use Rattle.board_core.specs.Stop.{InStore}
-use Rattle.board_core.specs.Told.{StoreBy, Told, device_of}
+use Rattle.board_core.specs.Told.{Told, device_of}
 use Rattle.erst_interp.specs.declared.entries.InstructionEntry.{InstructionEntry}
 use Rattle.erst_interp.specs.declared.refusals.RunRefused.{RunRefused}
 use Rattle.erst_interp.specs.declared.refusals.RunRefused.TheVariants.{Register}
@@ -57,6 +58,13 @@ IsRegisterAlone (Ok answer) = Unit {0}
 IsRegisterAlone (Err Register) = Unit {0}
 IsRegisterAlone (Err why) = ⊥
 
+-- The record store stays, or becomes the one that is told, or the one after the action. Of a board
+-- that tells nothing this says nothing.
+abbrev pub StoreInAction : ℕ → ℕ → Option Told → List Stored → List Stored → Type 0
+StoreInAction action input None old new = Unit {0}
+StoreInAction action input (Some t) old new =
+    (new ≡ old) ⊎ (new ≡ t.here.store) ⊎ (new ≡ (device_after action input (device_of t)).store)
+
 -- A run of an admitted list over a board does its action.
 pub record RunsAction (action input : ℕ) (result : Result ℕ RunRefused) (old new : Seen) : Type 0 where
   -- It answers as the action does, and the device is as after it.
@@ -65,5 +73,6 @@ pub record RunsAction (action input : ℕ) (result : Result ℕ RunRefused) (old
   pub only_register : IsRegisterAlone result
   -- What the board told was a device.
   pub device : IfSome old.told (λ t. IsDevice (device_of t))
-  -- A stop during it leaves the record store as before the action or as after it.
-  pub stores : input < input_limit action → Passes (InStore (StoreBy (device_after action input) old.told)) old.clock new.clock
+  -- A stop during it leaves of the record store what one before might have left, or the store that
+  -- was told, or the one after the action.
+  pub stores : input < input_limit action → Passes (InStore (StoreInAction action input old.told)) old.clock new.clock

@@ -1,8 +1,8 @@
 -- What a run does to a board, whether or not a call of the board fails.
-use Rattle.std.specs.Prelude.{map, ◌≡◌, ℕ, zero, suc, ◌⊎◌, List, slice_get, Option, Some, None, Result, Err, IfSome}
+use Rattle.std.specs.Prelude.{map, ◌≡◌, ℕ, zero, suc, ◌⊎◌, List, slice_get, Option, Some, None, Result, Err, IfSome, OnOk}
 use Rattle.erst_store.specs.Store.{Stored}
 use Rattle.board_core.specs.Cause.{Faults, device_call}
-use Rattle.board_core.specs.Clock.{Passes}
+use Rattle.board_core.specs.Clock.{Passes, StoreIsLeft}
 use Rattle.board_core.specs.Doing.{Act, DeviceCall, FailsActs, Raises, Seen, after_acts, device}
 use Rattle.board_core.specs.Stop.{InStore}
 use Rattle.board_core.specs.Told.{Relates, Told, device_of}
@@ -74,5 +74,7 @@ pub record RunsList (list : List InstructionEntry) (input : ℕ) (result : Resul
   pub kept : Relates KeepsButDevice old.told new.told
   -- A stop during it leaves a record store that the machine comes through, and all else as it was.
   pub stops : Passes (InStore (StoreInRun list input old.told)) old.clock new.clock
+  -- If it is done, and a stop before it leaves the store that is told, so does one after it.
+  pub stored : OnOk result (StoreIsLeft old.told old.clock → StoreIsLeft new.told new.clock)
   -- Register says that a call failed, and nothing else does.
   pub cause : RunCause result old.faults new.faults

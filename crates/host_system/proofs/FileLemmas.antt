@@ -13,7 +13,7 @@ use Rattle.host_system.specs.Folder.{FolderFile, NameEntry, Folder, opened, lock
 use Rattle.host_system.specs.FolderPast.{FolderPast, Did, IfTold, changed_by, folder_of, MayDo, IsMissing, bytes_or}
 use Rattle.host_system.specs.Steps.FolderLemmas.{AfterFolder, none_before, names_before, uses_before, sync_before, made_before}
 use Rattle.host_system.specs.Steps.FolderPastLemmas.{consistent_of, folder_of-more, passes_change, passes_then, stands}
-use Rattle.host_system.specs.View.{is_settled, seen_as, seen_now, clock_over}
+use Rattle.host_system.specs.View.{is_settled_file, is_settled, seen_as, seen_now, clock_over}
 
 -- ---- what was done, and what may have been, where a system tells
 
@@ -41,6 +41,7 @@ weaker P Q implies (Some x) (Some y) is = implies x y is
 
 pub keeps_file : (file : FileNo) (x y : Folder) → entry_named (Journal file) y ≡ entry_named (Journal file) x → use_in (Journal file) y.uses ≡ use_in (Journal file) x.uses → KeepsFileIn file x y
 keeps_file file x y entry how = record {
+  named = λ is. ap (λ (e : NameEntry). e.others) entry ∙ is;
   held = λ is. record { there = subst (λ (e : NameEntry). IsSome (bytes_now e)) (sym entry) is.there; is_locked = how ∙ is.is_locked };
   usable = λ is. record {
     there = subst (λ (e : NameEntry). IsSome (bytes_now e)) (sym entry) is.there;
@@ -51,12 +52,17 @@ keeps_file file x y entry how = record {
 }
 
 pub keeps_others : (file : FileNo) (x y : Folder) → y.store ≡ x.store → entry_named (Journal (other_than file)) y ≡ entry_named (Journal (other_than file)) x → use_in (Journal (other_than file)) y.uses ≡ use_in (Journal (other_than file)) x.uses → KeepsOthersIn file x y
-keeps_others file x y store entry how = record { settled = λ is. ap is_settled store ∙ is; other = keeps_file (other_than file) x y entry how }
+keeps_others file x y store entry how = record {
+  settled = λ is. ap is_settled store ∙ is;
+  whole = λ is. ap (λ (e : NameEntry). is_settled_file e.now) store ∙ is;
+  other = keeps_file (other_than file) x y entry how;
+}
 
 keeps_then : (file : FileNo) (x y z : FolderPast) → KeepsOthers file x y → KeepsOthers file y z → KeepsOthers file x z
 keeps_then file x y z first second = record {
   settled = λ is. second.settled (first.settled is);
-  other = record { held = λ is. second.other.held (first.other.held is); usable = λ is. second.other.usable (first.other.usable is); openable = λ is. second.other.openable (first.other.openable is) };
+  whole = λ is. second.whole (first.whole is);
+  other = record { named = λ is. second.other.named (first.other.named is); held = λ is. second.other.held (first.other.held is); usable = λ is. second.other.usable (first.other.usable is); openable = λ is. second.other.openable (first.other.openable is) };
 }
 
 -- a change of one file alone
@@ -96,11 +102,11 @@ settled_settles entry (x ∷ xs) is = absurd (false_true is)
     false_true e = cc
 
 named_keeps : (file : FileNo) (f : Folder) → KeepsFileIn file f (folder_after synced_names f)
-named_keeps Zero f = record { held = λ is. record { there = is.there; is_locked = is.is_locked }; usable = λ is. record { there = is.there; named = refl; is_locked = is.is_locked }; openable = λ is. is }
-named_keeps One f = record { held = λ is. record { there = is.there; is_locked = is.is_locked }; usable = λ is. record { there = is.there; named = refl; is_locked = is.is_locked }; openable = λ is. is }
+named_keeps Zero f = record { named = λ is. refl; held = λ is. record { there = is.there; is_locked = is.is_locked }; usable = λ is. record { there = is.there; named = refl; is_locked = is.is_locked }; openable = λ is. is }
+named_keeps One f = record { named = λ is. refl; held = λ is. record { there = is.there; is_locked = is.is_locked }; usable = λ is. record { there = is.there; named = refl; is_locked = is.is_locked }; openable = λ is. is }
 
 of_names : (file : FileNo) → IsOf file synced_names
-of_names file = record { keeps = λ f. record { settled = λ is. settled_settles f.store f.store.others is; other = named_keeps (other_than file) f }; during = λ f left may. may }
+of_names file = record { keeps = λ f. record { settled = λ is. settled_settles f.store f.store.others is; whole = λ is. is; other = named_keeps (other_than file) f }; during = λ f left may. may }
 
 -- ---- what a board sees of a call of one file
 
@@ -202,9 +208,9 @@ pub locked_end : {T E : Type 0} (file : FileNo) (result : Result T E) (old new :
 locked_end file (Ok x) old new ok err = did_none file (locks (Journal file)) (locks_none file) old new ok
 locked_end file (Err e) old new ok err = none_same file old new err
 
-pub names_end : {T E : Type 0} (file : FileNo) (result : Result T E) (old new : Option FolderPast) → OnOk result (Did synced_names old new) → OnErr result (IfTold (λ x y. ⊥) old new) → SeesNone file old new
+pub names_end : {T E : Type 0} (file : FileNo) (result : Result T E) (old new : Option FolderPast) → OnOk result (Did synced_names old new) → OnErr result (new ≡ old) → SeesNone file old new
 names_end file (Ok x) old new ok err = did_none file synced_names (names_none file) old new ok
-names_end file (Err e) old new ok err = may_by (λ x y. ⊥) (SeesNone file) (none_none file) (λ x y never. absurd never) old new err
+names_end file (Err e) old new ok err = none_same file old new err
 
 pub synced_end : {T E : Type 0} (file : FileNo) (result : Result T E) (old new : Option FolderPast) → OnOk result (Did (synced (Journal file)) old new) → OnErr result (Did (loses (Journal file)) old new) → SeesNone file old new
 synced_end file (Ok x) old new ok err = did_none file (synced (Journal file)) (synced_none file) old new ok

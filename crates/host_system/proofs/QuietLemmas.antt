@@ -11,9 +11,9 @@ use Rattle.host_system.specs.Folder.{FolderFile, NameEntry, Folder, FileUse, shu
 use Rattle.host_system.specs.FolderPast.{FolderPast, Did, IfTold, changed_by, folder_of, MayDo, MayWrite, IsMissing, HasFile, IsOpen, MayBeWritten}
 use Rattle.host_system.specs.Steps.FolderLemmas.{AfterFolder, new_before, none_before, names_before, rename_before}
 use Rattle.host_system.specs.Steps.FolderPastLemmas.{consistent_of, folder_of-more, passes_change, passes_then, stands}
-use Rattle.host_system.specs.Steps.Quiet.{KeepsSeen, SeesNothing, Quiet, HasNew, Replaced, Replaces}
+use Rattle.host_system.specs.Steps.Quiet.{KeepsSeen, SeesNothing, Quiet, HasNew, Moved, HasMoved, Replaced, IsReplaced, MayHaveMoved}
 use Rattle.host_system.specs.View.{store_in, clock_over}
-use Rattle.host_system.proofs.FileLemmas.{told_then}
+use Rattle.host_system.proofs.FileLemmas.{told_then, weaker}
 
 sees_then : (x y z : FolderPast) → SeesNothing x y → SeesNothing y z → SeesNothing x z
 sees_then x y z first second = record { zero = second.zero ∙ first.zero; one = second.one ∙ first.one; store = second.store ∙ first.store; out = second.out ∙ first.out; zero_use = second.zero_use ∙ first.zero_use; one_use = second.one_use ∙ first.one_use }
@@ -159,41 +159,67 @@ passes_names (Some past) new is = subst (λ (o : Option FolderPast). Passes Same
     (λ left here_in. elim here_in [ inl may ↦ none_before Same (λ l. refl) (folder_of past) left may | inr may ↦ none_before Same (λ l. refl) (folder_of past) left (names_before (folder_of past) left may) ])
     (λ left may. none_before Same (λ l. refl) (folder_of past) left (names_before (folder_of past) left may)))
 
--- the whole: written, renamed, and the folder synced
-pub passes_replaced : (bytes : List ℕ) (a b c d : Option FolderPast) → Quiet a b → IfSome b (HasNew (settled_file_of bytes)) → Did renamed b c → Did synced_names c d → Passes (Step bytes) (clock_over a) (clock_over d)
-passes_replaced bytes a b c d quiet new renames syncs =
-    passes_then (Step bytes) Same (Step bytes) (clock_over a) (clock_over c) (clock_over d) (λ x y by. by) (then_same bytes)
-    (passes_then Same (Step bytes) (Step bytes) (clock_over a) (clock_over b) (clock_over c) (λ x y is. subst (λ (l : Left). Step bytes x l) (sym is) (stays bytes x)) (same_then bytes) quiet.stops (passes_renamed bytes b c new renames))
-    (passes_names c d syncs)
+-- ---- the whole: written, renamed, and the folder synced
 
--- a told system's folder sync doesn't fail
-pub never_failed : (bytes : List ℕ) (a b c d : Option FolderPast) → Quiet a b → IfSome b (HasNew (settled_file_of bytes)) → Did renamed b c → IfTold (λ old new. ⊥) c d → Passes (Step bytes) (clock_over a) (clock_over d)
-never_failed bytes a b c d quiet new renames fails =
-    passes_then (Step bytes) Same (Step bytes) (clock_over a) (clock_over c) (clock_over d) (λ x y by. by) (then_same bytes)
-    (passes_then Same (Step bytes) (Step bytes) (clock_over a) (clock_over b) (clock_over c) (λ x y is. subst (λ (l : Left). Step bytes x l) (sym is) (stays bytes x)) (same_then bytes) quiet.stops (passes_renamed bytes b c new renames))
-    (untold_stands c d fails)
-  where
-    untold_stands : (c d : Option FolderPast) → IfTold (λ old new. ⊥) c d → Passes Same (clock_over c) (clock_over d)
-    untold_stands None d is = subst (λ (o : Option FolderPast). Passes Same untold (clock_over o)) (sym is) (stands Same untold (λ l. refl))
-    untold_stands (Some x) None is = absurd is
-    untold_stands (Some x) (Some y) is = absurd is
+told_moved : (bytes : List ℕ) (x y : FolderPast) → SeesNothing x y → HasNew (settled_file_of bytes) y → HasMoved bytes x (changed_by renamed y)
+told_moved bytes x y sees new =
+    subst (Moved bytes (folder_of x)) (sym (folder_of-more renamed y)) (record { zero = sees.zero; one = sees.one; store = new.is; out = sees.out; zero_use = sees.zero_use; one_use = sees.one_use })
 
-told_quiet : (bytes : List ℕ) (x y : FolderPast) → SeesNothing x y → HasNew (settled_file_of bytes) y → Replaces bytes x (changed_by synced_names (changed_by renamed y))
-told_quiet bytes x y sees new =
-    let is : folder_of (changed_by synced_names (changed_by renamed y)) ≡ folder_after synced_names (folder_after renamed (folder_of y)) = folder_of-more synced_names (changed_by renamed y) ∙ ap (folder_after synced_names) (folder_of-more renamed y) in
-    subst (λ (f : Folder). Replaced bytes (folder_of x) f) (sym is) (record {
-      zero = ap settled_name sees.zero;
-      one = ap settled_name sees.one;
-      store = ap (λ (now : Option FolderFile). settled_name (renewed now (folder_of y).store)) new.is;
-      out = sees.out;
-      zero_use = sees.zero_use;
-      one_use = sees.one_use;
+moved_told : (bytes : List ℕ) (a b c : Option FolderPast) → IfTold SeesNothing a b → IfSome b (HasNew (settled_file_of bytes)) → Did renamed b c → IfTold (HasMoved bytes) a c
+moved_told bytes None b c sees new renames = renames ∙ ap (option_map (changed_by renamed)) sees
+moved_told bytes (Some x) None c sees new renames = absurd sees
+moved_told bytes (Some x) (Some y) c sees new renames = subst (IfTold (HasMoved bytes) (Some x)) (sym renames) (told_moved bytes x y sees new)
+
+passes_moved : (bytes : List ℕ) (a b c : Option FolderPast) → Quiet a b → IfSome b (HasNew (settled_file_of bytes)) → Did renamed b c → Passes (Step bytes) (clock_over a) (clock_over c)
+passes_moved bytes a b c quiet new renames =
+    passes_then Same (Step bytes) (Step bytes) (clock_over a) (clock_over b) (clock_over c) (λ x y is. subst (λ (l : Left). Step bytes x l) (sym is) (stays bytes x)) (same_then bytes) quiet.stops (passes_renamed bytes b c new renames)
+
+-- it failed before the folder was synced
+pub record EndsBadly (bytes : List ℕ) (old new : Option FolderPast) : Type 0 where
+  pub is : IfTold (MayHaveMoved bytes) old new
+  pub stops : Passes (Step bytes) (clock_over old) (clock_over new)
+
+pub badly_quiet : (bytes : List ℕ) (a b : Option FolderPast) → Quiet a b → EndsBadly bytes a b
+badly_quiet bytes a b quiet = record { is = weaker SeesNothing (MayHaveMoved bytes) (λ x y sees. inl sees) a b quiet.keeps; stops = passes_quiet bytes a b quiet }
+
+pub badly_moved : (bytes : List ℕ) (a b c : Option FolderPast) → Quiet a b → IfSome b (HasNew (settled_file_of bytes)) → Did renamed b c → EndsBadly bytes a c
+badly_moved bytes a b c quiet new renames = record {
+  is = weaker (HasMoved bytes) (MayHaveMoved bytes) (λ x y moved. inr moved) a c (moved_told bytes a b c quiet.keeps new renames);
+  stops = passes_moved bytes a b c quiet new renames;
+}
+
+pub badly_may : (bytes : List ℕ) (a b c : Option FolderPast) → Quiet a b → IfSome b (HasNew (settled_file_of bytes)) → IfTold (MayDo renamed) b c → EndsBadly bytes a c
+badly_may bytes a None c quiet new may = subst (EndsBadly bytes a) (sym may) (badly_quiet bytes a None quiet)
+badly_may bytes a (Some y) None quiet new may = absurd may
+badly_may bytes a (Some y) (Some z) quiet new (inl same) = subst (λ (p : FolderPast). EndsBadly bytes a (Some p)) (sym same) (badly_quiet bytes a (Some y) quiet)
+badly_may bytes a (Some y) (Some z) quiet new (inr did) = badly_moved bytes a (Some y) (Some z) quiet new (ap Some did)
+
+-- it went well
+pub record EndsWell (bytes : List ℕ) (old new : Option FolderPast) : Type 0 where
+  pub is : IfTold (IsReplaced bytes) old new
+  pub stops : Passes (Step bytes) (clock_over old) (clock_over new)
+
+told_named : (bytes : List ℕ) (x y : FolderPast) → HasMoved bytes x y → IsReplaced bytes x (changed_by synced_names y)
+told_named bytes x y moved =
+    subst (Replaced bytes (folder_of x)) (sym (folder_of-more synced_names y)) (record {
+      zero = ap settled_name moved.zero;
+      one = ap settled_name moved.one;
+      store = ap (λ (now : Option FolderFile). record { now = now; others = [] }) moved.store;
+      out = moved.out;
+      zero_use = moved.zero_use;
+      one_use = moved.one_use;
     })
 
-pub replaced_told : (bytes : List ℕ) (a b c d : Option FolderPast) → IfTold SeesNothing a b → IfSome b (HasNew (settled_file_of bytes)) → Did renamed b c → Did synced_names c d → IfTold (Replaces bytes) a d
-replaced_told bytes None b c d sees new renames syncs = syncs ∙ (ap (option_map (changed_by synced_names)) renames ∙ ap (λ (o : Option FolderPast). option_map (changed_by synced_names) (option_map (changed_by renamed) o)) sees)
-replaced_told bytes (Some x) None c d sees new renames syncs = absurd sees
-replaced_told bytes (Some x) (Some y) c d sees new renames syncs = subst (λ (o : Option FolderPast). IfTold (Replaces bytes) (Some x) o) (sym (syncs ∙ ap (option_map (changed_by synced_names)) renames)) (told_quiet bytes x y sees new)
+named_told : (bytes : List ℕ) (a c d : Option FolderPast) → IfTold (HasMoved bytes) a c → Did synced_names c d → IfTold (IsReplaced bytes) a d
+named_told bytes None c d moved syncs = syncs ∙ ap (option_map (changed_by synced_names)) moved
+named_told bytes (Some x) None d moved syncs = absurd moved
+named_told bytes (Some x) (Some y) d moved syncs = subst (IfTold (IsReplaced bytes) (Some x)) (sym syncs) (told_named bytes x y moved)
+
+pub well_named : (bytes : List ℕ) (a b c d : Option FolderPast) → Quiet a b → IfSome b (HasNew (settled_file_of bytes)) → Did renamed b c → Did synced_names c d → EndsWell bytes a d
+well_named bytes a b c d quiet new renames syncs = record {
+  is = named_told bytes a c d (moved_told bytes a b c quiet.keeps new renames) syncs;
+  stops = passes_then (Step bytes) Same (Step bytes) (clock_over a) (clock_over c) (clock_over d) (λ x y by. by) (then_same bytes) (passes_moved bytes a b c quiet new renames) (passes_names c d syncs);
+}
 
 -- ---- a call at the end of a function, however it ended
 
@@ -212,26 +238,3 @@ missing_end (Err e) old new ok = ok
 pub new_end : {T E : Type 0} (bytes : List ℕ) (result : Result T E) (old new : Option FolderPast) → IfSome old (HasNew (after_writing 0 (length bytes) bytes empty_file)) → OnOk result (Did (synced New) old new) → OnOk result (IfSome new (HasNew (settled_file_of bytes)))
 new_end bytes (Ok x) old new was ok = new_synced bytes old new was ok
 new_end bytes (Err e) old new was ok = ok
-
-pub stops_end : {T E : Type 0} (bytes : List ℕ) (result : Result T E) (a b c d : Option FolderPast) → Quiet a b → IfSome b (HasNew (settled_file_of bytes)) → Did renamed b c → OnOk result (Did synced_names c d) → OnErr result (IfTold (λ old new. ⊥) c d) → Passes (InStore (Becomes (store_in (Some bytes)))) (clock_over a) (clock_over d)
-stops_end bytes (Ok x) a b c d quiet new renames ok err = passes_replaced bytes a b c d quiet new renames ok
-stops_end bytes (Err e) a b c d quiet new renames ok err = never_failed bytes a b c d quiet new renames err
-
-pub replaced_end : {T E : Type 0} (bytes : List ℕ) (result : Result T E) (a b c d : Option FolderPast) → Quiet a b → IfSome b (HasNew (settled_file_of bytes)) → Did renamed b c → OnOk result (Did synced_names c d) → OnOk result (IfTold (Replaces bytes) a d)
-replaced_end bytes (Ok x) a b c d quiet new renames ok = replaced_told bytes a b c d quiet.keeps new renames ok
-replaced_end bytes (Err e) a b c d quiet new renames ok = ok
-
-never_told : (x : FolderPast) (d : Option FolderPast) → IfTold (λ x y. ⊥) (Some x) d → ⊥
-never_told x None is = is
-never_told x (Some y) is = is
-
-kept_never : (a b c d : Option FolderPast) → IfTold SeesNothing a b → Did renamed b c → IfTold (λ x y. ⊥) c d → IfTold SeesNothing a d
-kept_never None b c d sees renames never =
-    let is : c ≡ None = renames ∙ ap (λ (o : Option FolderPast). option_map (changed_by renamed) o) sees in
-    subst (λ (o : Option FolderPast). IfTold (λ x y. ⊥) o d) is never
-kept_never (Some x) None c d sees renames never = absurd sees
-kept_never (Some x) (Some y) c d sees renames never = absurd (never_told (changed_by renamed y) d (subst (λ (o : Option FolderPast). IfTold (λ x y. ⊥) o d) renames never))
-
-pub kept_end : {T E : Type 0} (result : Result T E) (a b c d : Option FolderPast) → Quiet a b → Did renamed b c → OnErr result (IfTold (λ x y. ⊥) c d) → OnErr result (IfTold SeesNothing a d)
-kept_end (Ok x) a b c d quiet renames err = err
-kept_end (Err e) a b c d quiet renames err = kept_never a b c d quiet.keeps renames err

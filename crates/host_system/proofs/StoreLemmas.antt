@@ -1,21 +1,19 @@
--- What a board over a system tells after its store was saved, by what it told before.
-use Rattle.std.proofs.Common.{◌≡◌, ℕ, List, Some, ap, sym, ◌∙◌, subst}
-use Rattle.std.specs.Prelude.{Bool, Option, None, IfSome, IsSome, Result, Ok, Err, OnOk, OnErr}
-use Rattle.std.specs.Option.{option_map}
+-- What a board over a system sees after its store was saved, by what it saw before.
+use Rattle.std.proofs.Common.{◌≡◌, ℕ, [], List, Some, ap, sym, ◌∙◌, subst, inl, inr, ◌⊎◌}
+use Rattle.std.specs.Prelude.{true, false, Option, IfSome, IsSome, Result, Ok, Err, OnOk, OnErr}
+use Rattle.std.specs.Result.{IsErr}
 use Rattle.erst_store.specs.Store.{Stored}
-use Rattle.board_core.specs.Stop.{Left}
 use Rattle.board_core.specs.declared.board.FileNo.{FileNo}
 use Rattle.board_core.specs.declared.board.FileNo.TheVariants.{Zero, One}
 use Rattle.host_system.specs.declared.system.FileName.TheVariants.{Journal}
-use Rattle.host_system.specs.BoardFile.{KeepsFile, KeepsFileIn}
-use Rattle.host_system.specs.Folder.{NameEntry, Folder, entry_named, use_in, settled_name, bytes_now, here_in}
-use Rattle.host_system.specs.FolderPast.{FolderPast, IfTold, bytes_or, folder_of}
-use Rattle.host_system.specs.Steps.Quiet.{SeesNothing, Replaces}
-use Rattle.host_system.specs.View.{seen_as, seen_now, store_in, HasSettledStore, is_settled, seen_if, told_over, with_store}
+use Rattle.host_system.specs.BoardFile.{KeepsFile, KeepsFileIn, SeesSame}
+use Rattle.host_system.specs.Folder.{FolderFile, NameEntry, Folder, entry_named, use_in, renamed, synced_names, settled_file_of, settled_name, bytes_now, here_in}
+use Rattle.host_system.specs.FolderPast.{FolderPast, Did, bytes_or, folder_of}
+use Rattle.host_system.specs.Steps.Quiet.{SeesNothing, Quiet, HasNew, HasMoved, IsReplaced, MayHaveMoved}
+use Rattle.host_system.specs.StoreFile.{SeesStore, HasReplaced, KeepsWhole, Replaces}
+use Rattle.host_system.specs.View.{seen_as, store_in, is_settled_file, is_settled, with_store}
 use Rattle.host_system.proofs.FileLemmas.{keeps_file, weaker}
-
-told_is : (past : FolderPast) → HasSettledStore past → told_over (Some past) ≡ Some (seen_now past)
-told_is past is = ap (λ (b : Bool). seen_if b (seen_now past)) is
+use Rattle.host_system.proofs.QuietLemmas.{EndsBadly, EndsWell, badly_moved, well_named}
 
 parts : (folder old : Folder) (store : List Stored) → bytes_now folder.zero ≡ bytes_now old.zero → bytes_now folder.one ≡ bytes_now old.one → store_in (bytes_now folder.store) ≡ store → folder.out ≡ old.out
     → seen_as (here_in folder) ≡ with_store store (seen_as (here_in old))
@@ -25,57 +23,36 @@ parts folder old store zero one stored out =
     ∙ (ap (λ (s : List Stored). record (seen_as (here_in folder)) { file0 = bytes_or (bytes_now old.zero); file1 = bytes_or (bytes_now old.one); store = s }) stored
     ∙ ap (λ (o : List ℕ). record (with_store store (seen_as (here_in old))) { out = o }) out))
 
--- the store's file was replaced
-
-replaced_settled : (bytes : List ℕ) (x y : FolderPast) → Replaces bytes x y → HasSettledStore y
-replaced_settled bytes x y is = ap is_settled is.store
-
-pub settled_replaced : (bytes : List ℕ) (old new : Option FolderPast) → IfTold (Replaces bytes) old new → IfSome new HasSettledStore
-settled_replaced bytes None new is = subst (λ (o : Option FolderPast). IfSome o HasSettledStore) (sym is) tt
-settled_replaced bytes (Some x) None is = absurd is
-settled_replaced bytes (Some x) (Some y) is = replaced_settled bytes x y is
-
-pub told_replaced : (bytes : List ℕ) (old new : Option FolderPast) → IfSome old HasSettledStore → IfTold (Replaces bytes) old new → told_over new ≡ option_map (with_store (store_in (Some bytes))) (told_over old)
-told_replaced bytes None new was is = ap told_over is
-told_replaced bytes (Some x) None was is = absurd is
-told_replaced bytes (Some x) (Some y) was is =
-    told_is y (replaced_settled bytes x y is)
-    ∙ (ap Some (parts (folder_of y) (folder_of x) (store_in (Some bytes)) (ap bytes_now is.zero) (ap bytes_now is.one) (ap (λ (e : NameEntry). store_in (bytes_now e)) is.store) is.out)
-    ∙ ap (λ (o : Option Left). option_map (with_store (store_in (Some bytes))) o) (sym (told_is x was)))
-
 -- nothing is seen of it
 
-pub settled_kept : (old new : Option FolderPast) → IfSome old HasSettledStore → IfTold SeesNothing old new → IfSome new HasSettledStore
-settled_kept None new was is = subst (λ (o : Option FolderPast). IfSome o HasSettledStore) (sym is) tt
-settled_kept (Some x) None was is = absurd is
-settled_kept (Some x) (Some y) was is = ap is_settled is.store ∙ was
+nothing_whole : (x y : FolderPast) → SeesNothing x y → KeepsWhole x y
+nothing_whole x y is = λ was. ap (λ (e : NameEntry). is_settled_file e.now) is.store ∙ was
 
-pub told_kept : (old new : Option FolderPast) → IfSome old HasSettledStore → IfTold SeesNothing old new → told_over new ≡ told_over old
-told_kept None new was is = ap told_over is
-told_kept (Some x) None was is = absurd is
-told_kept (Some x) (Some y) was is =
-    told_is y (ap is_settled is.store ∙ was)
-    ∙ (ap Some (parts (folder_of y) (folder_of x) (store_in (bytes_now (folder_of x).store)) (ap bytes_now is.zero) (ap bytes_now is.one) (ap (λ (e : NameEntry). store_in (bytes_now e)) is.store) is.out)
-    ∙ sym (told_is x was))
+nothing_file : (file : FileNo) (x y : FolderPast) → SeesNothing x y → KeepsFile file x y
+nothing_file Zero x y is = keeps_file Zero (folder_of x) (folder_of y) is.zero is.zero_use
+nothing_file One x y is = keeps_file One (folder_of x) (folder_of y) is.one is.one_use
 
--- however the call ended
+nothing_seen : (x y : FolderPast) → SeesNothing x y → SeesSame x y
+nothing_seen x y is = parts (folder_of y) (folder_of x) (store_in (bytes_now (folder_of x).store)) (ap bytes_now is.zero) (ap bytes_now is.one) (ap (λ (e : NameEntry). store_in (bytes_now e)) is.store) is.out
 
-pub saved_settled : {T E : Type 0} (bytes : List ℕ) (result : Result T E) (old new : Option FolderPast) → IfSome old HasSettledStore → OnOk result (IfTold (Replaces bytes) old new) → OnErr result (IfTold SeesNothing old new) → IfSome new HasSettledStore
-saved_settled bytes (Ok x) old new was ok err = settled_replaced bytes old new ok
-saved_settled bytes (Err e) old new was ok err = settled_kept old new was err
+-- the store's file is the new one
 
-pub saved_told : {T E : Type 0} (bytes : List ℕ) (result : Result T E) (old new : Option FolderPast) → IfSome old HasSettledStore → OnOk result (IfTold (Replaces bytes) old new) → OnOk result (told_over new ≡ option_map (with_store (store_in (Some bytes))) (told_over old))
-saved_told bytes (Ok x) old new was ok = told_replaced bytes old new was ok
-saved_told bytes (Err e) old new was ok = ok
+now_whole : (bytes : List ℕ) (now : Option FolderFile) → now ≡ Some (settled_file_of bytes) → is_settled_file now ≡ true
+now_whole bytes now is = ap is_settled_file is
 
-pub saved_failed : {T E : Type 0} (result : Result T E) (old new : Option FolderPast) → IfSome old HasSettledStore → OnErr result (IfTold SeesNothing old new) → OnErr result (told_over new ≡ told_over old)
-saved_failed (Ok x) old new was err = err
-saved_failed (Err e) old new was err = told_kept old new was err
+moved_file : (file : FileNo) (bytes : List ℕ) (x y : FolderPast) → HasMoved bytes x y → KeepsFile file x y
+moved_file Zero bytes x y is = keeps_file Zero (folder_of x) (folder_of y) is.zero is.zero_use
+moved_file One bytes x y is = keeps_file One (folder_of x) (folder_of y) is.one is.one_use
 
--- both files stay as usable as they were
+moved_seen : (bytes : List ℕ) (x y : FolderPast) → HasMoved bytes x y → SeesStore bytes x y
+moved_seen bytes x y is =
+    parts (folder_of y) (folder_of x) (store_in (Some bytes)) (ap bytes_now is.zero) (ap bytes_now is.one) (ap (λ (now : Option FolderFile). store_in (bytes_now (record { now = now; others = [] }))) is.store) is.out
+
+-- and so it is on the disk
 
 named_file : (file : FileNo) (x y : Folder) → entry_named (Journal file) y ≡ settled_name (entry_named (Journal file) x) → use_in (Journal file) y.uses ≡ use_in (Journal file) x.uses → KeepsFileIn file x y
 named_file file x y entry how = record {
+  named = λ is. ap (λ (e : NameEntry). e.others) entry;
   held = λ is. record { there = subst (λ (e : NameEntry). IsSome (bytes_now e)) (sym entry) is.there; is_locked = how ∙ is.is_locked };
   usable = λ is. record {
     there = subst (λ (e : NameEntry). IsSome (bytes_now e)) (sym entry) is.there;
@@ -85,17 +62,55 @@ named_file file x y entry how = record {
   openable = λ is gone. is (sym how ∙ gone);
 }
 
-replaced_file : (file : FileNo) (bytes : List ℕ) (x y : FolderPast) → Replaces bytes x y → KeepsFile file x y
+replaced_file : (file : FileNo) (bytes : List ℕ) (x y : FolderPast) → IsReplaced bytes x y → KeepsFile file x y
 replaced_file Zero bytes x y is = named_file Zero (folder_of x) (folder_of y) is.zero is.zero_use
 replaced_file One bytes x y is = named_file One (folder_of x) (folder_of y) is.one is.one_use
 
-kept_file : (file : FileNo) (x y : FolderPast) → SeesNothing x y → KeepsFile file x y
-kept_file Zero x y is = keeps_file Zero (folder_of x) (folder_of y) is.zero is.zero_use
-kept_file One x y is = keeps_file One (folder_of x) (folder_of y) is.one is.one_use
+replaced_seen : (bytes : List ℕ) (x y : FolderPast) → IsReplaced bytes x y → HasReplaced bytes x y
+replaced_seen bytes x y is = record {
+  seen = parts (folder_of y) (folder_of x) (store_in (Some bytes)) (ap bytes_now is.zero) (ap bytes_now is.one) (ap (λ (e : NameEntry). store_in (bytes_now e)) is.store) is.out;
+  settled = ap is_settled is.store;
+}
 
-pub files_kept : (file : FileNo) (old new : Option FolderPast) → IfTold SeesNothing old new → IfTold (KeepsFile file) old new
-files_kept file old new is = weaker SeesNothing (KeepsFile file) (kept_file file) old new is
+-- ---- however the call ended
 
-pub saved_files : {T E : Type 0} (file : FileNo) (bytes : List ℕ) (result : Result T E) (old new : Option FolderPast) → OnOk result (IfTold (Replaces bytes) old new) → OnErr result (IfTold SeesNothing old new) → IfTold (KeepsFile file) old new
-saved_files file bytes (Ok x) old new ok err = weaker (Replaces bytes) (KeepsFile file) (replaced_file file bytes) old new ok
-saved_files file bytes (Err e) old new ok err = files_kept file old new err
+may_whole : (bytes : List ℕ) (x y : FolderPast) → MayHaveMoved bytes x y → KeepsWhole x y
+may_whole bytes x y (inl sees) = nothing_whole x y sees
+may_whole bytes x y (inr moved) = λ was. now_whole bytes (folder_of y).store.now moved.store
+
+may_file : (file : FileNo) (bytes : List ℕ) (x y : FolderPast) → MayHaveMoved bytes x y → KeepsFile file x y
+may_file file bytes x y (inl sees) = nothing_file file x y sees
+may_file file bytes x y (inr moved) = moved_file file bytes x y moved
+
+may_seen : (bytes : List ℕ) (x y : FolderPast) → MayHaveMoved bytes x y → SeesSame x y ⊎ SeesStore bytes x y
+may_seen bytes x y (inl sees) = inl (nothing_seen x y sees)
+may_seen bytes x y (inr moved) = inr (moved_seen bytes x y moved)
+
+err_replaces : {T E : Type 0} (bytes : List ℕ) (e : E) (old new : Option FolderPast) → EndsBadly bytes old new → Replaces {T = T} {E = E} bytes (Err e) old new
+err_replaces bytes e old new ends = record {
+  whole = weaker (MayHaveMoved bytes) KeepsWhole (may_whole bytes) old new ends.is;
+  files = λ file. weaker (MayHaveMoved bytes) (KeepsFile file) (may_file file bytes) old new ends.is;
+  ok = tt;
+  err = weaker (MayHaveMoved bytes) (λ x y. SeesSame x y ⊎ SeesStore bytes x y) (may_seen bytes) old new ends.is;
+  stops = ends.stops;
+}
+
+pub failed_replaces : {T E : Type 0} (bytes : List ℕ) (result : Result T E) (old new : Option FolderPast) → IsErr result → EndsBadly bytes old new → Replaces bytes result old new
+failed_replaces bytes (Ok v) old new failed ends = absurd (false_true failed)
+  where
+    false_true : false ≡ true → ⊥
+    false_true e = cc
+failed_replaces bytes (Err e) old new failed ends = err_replaces bytes e old new ends
+
+done_replaces : {T E : Type 0} (bytes : List ℕ) (v : T) (old new : Option FolderPast) → EndsWell bytes old new → Replaces {T = T} {E = E} bytes (Ok v) old new
+done_replaces bytes v old new ends = record {
+  whole = weaker (IsReplaced bytes) KeepsWhole (λ x y is was. ap (λ (e : NameEntry). is_settled_file e.now) is.store) old new ends.is;
+  files = λ file. weaker (IsReplaced bytes) (KeepsFile file) (replaced_file file bytes) old new ends.is;
+  ok = weaker (IsReplaced bytes) (HasReplaced bytes) (replaced_seen bytes) old new ends.is;
+  err = tt;
+  stops = ends.stops;
+}
+
+pub ended_replaces : {T E : Type 0} (bytes : List ℕ) (result : Result T E) (a b c d : Option FolderPast) → Quiet a b → IfSome b (HasNew (settled_file_of bytes)) → Did renamed b c → OnOk result (Did synced_names c d) → OnErr result (d ≡ c) → Replaces bytes result a d
+ended_replaces bytes (Ok v) a b c d quiet new renames ok err = done_replaces bytes v a d (well_named bytes a b c d quiet new renames ok)
+ended_replaces bytes (Err e) a b c d quiet new renames ok err = err_replaces bytes e a d (subst (EndsBadly bytes a) (sym err) (badly_moved bytes a b c quiet new renames))

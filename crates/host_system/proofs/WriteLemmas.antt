@@ -13,7 +13,7 @@ use Rattle.board_core.specs.Told.{overlay, Torn}
 use Rattle.board_core.specs.declared.board.FileNo.{FileNo}
 use Rattle.board_core.specs.declared.board.FileNo.TheVariants.{Zero, One}
 use Rattle.host_system.specs.declared.system.FileName.TheVariants.{Journal}
-use Rattle.host_system.specs.BoardFile.{IsUsableIn, IsUsable, KeepsOthers, SeesWritten, SeesTorn}
+use Rattle.host_system.specs.BoardFile.{IsNamedIn, IsUsableIn, IsReadableIn, IsNamed, IsUsable, IsReadable, KeepsOthers, SeesWritten, SeesTorn}
 use Rattle.host_system.specs.Folder.{FolderFile, Folder, with_now, after_writing, after_syncing, wrote, synced, folder_after, Stopped, MayLeaveAny, MayLeaveName, MayLeaveFolder, here_in, settled_folder}
 use Rattle.host_system.specs.FolderPast.{FolderPast, Did, IfTold, changed_by, folder_of, MayWrite, file_bytes, bytes_or}
 use Rattle.host_system.specs.Steps.FolderLemmas.{write_before}
@@ -44,27 +44,45 @@ pub synced_usable : {T E : Type 0} (file : FileNo) (result : Result T E) (old ne
 synced_usable file (Ok x) old new was ok = after_did (synced (Journal file)) (IsUsableIn file) (IsUsableIn file) (synced_goes file) old new ok was
 synced_usable file (Err e) old new was ok = ok
 
-only_synced : (now : Option FolderFile) (others : List (Option DiskFile)) → IsSome (option_map (λ (f : FolderFile). f.bytes) now) → others ≡ [] → (left : Option (List ℕ))
+only_synced : (now : Option FolderFile) (others : List (Option DiskFile)) → others ≡ [] → (left : Option (List ℕ))
     → MayLeaveName (with_now after_syncing (record { now = now; others = others })) left → left ≡ option_map (λ (f : FolderFile). f.bytes) now
-only_synced None others there named left may = absurd (not_there there)
-only_synced (Some file) others there named None (inl may) = absurd may
-only_synced (Some file) others there named (Some found) (inl may) = ap Some (settled_only file.bytes found may)
-only_synced (Some file) others there named left (inr may) = absurd (subst (λ (o : List (Option DiskFile)). MayLeaveAny o left) named may)
+only_synced None others named None (inl may) = refl
+only_synced None others named (Some found) (inl may) = absurd may
+only_synced None others named left (inr may) = absurd (subst (λ (o : List (Option DiskFile)). MayLeaveAny o left) named may)
+only_synced (Some file) others named None (inl may) = absurd may
+only_synced (Some file) others named (Some found) (inl may) = ap Some (settled_only file.bytes found may)
+only_synced (Some file) others named left (inr may) = absurd (subst (λ (o : List (Option DiskFile)). MayLeaveAny o left) named may)
 
-file_synced : (file : FileNo) (f : Folder) → IsUsableIn file f → (left : Stopped) → MayLeaveFolder (folder_after (synced (Journal file)) f) left → file_in file (seen_as left) ≡ file_in file (seen_as (here_in f))
-file_synced Zero f was left may = ap bytes_or (only_synced f.zero.now f.zero.others was.there was.named left.zero may.zero)
-file_synced One f was left may = ap bytes_or (only_synced f.one.now f.one.others was.there was.named left.one may.one)
+file_synced : (file : FileNo) (f : Folder) → IsNamedIn file f → (left : Stopped) → MayLeaveFolder (folder_after (synced (Journal file)) f) left → file_in file (seen_as left) ≡ file_in file (seen_as (here_in f))
+file_synced Zero f named left may = ap bytes_or (only_synced f.zero.now f.zero.others named left.zero may.zero)
+file_synced One f named left may = ap bytes_or (only_synced f.one.now f.one.others named left.one may.one)
 
-left_synced : (file : FileNo) (past : FolderPast) → IsUsable file past → IsSynced file (file_in file (seen_now past)) (clock_over (Some (changed_by (synced (Journal file)) past)))
-left_synced file past was left now =
+left_synced : (file : FileNo) (past : FolderPast) → IsNamed file past → IsSynced file (file_in file (seen_now past)) (clock_over (Some (changed_by (synced (Journal file)) past)))
+left_synced file past named left now =
     let may : MayLeaveFolder (folder_after (synced (Journal file)) (folder_of past)) now.stopped =
     subst (λ (f : Folder). MayLeaveFolder f now.stopped) (folder_of-more (synced (Journal file)) past) (now_only (settled_folder past.first) (changed_by (synced (Journal file)) past).changes now.stopped now.may) in
-    ap (λ (l : Left). file_in file l) now.is ∙ file_synced file (folder_of past) was now.stopped may
+    ap (λ (l : Left). file_in file l) now.is ∙ file_synced file (folder_of past) named now.stopped may
 
-pub is_synced_end : {T E : Type 0} (file : FileNo) (result : Result T E) (old new : Option FolderPast) → IfSome old (IsUsable file) → OnOk result (Did (synced (Journal file)) old new) → OnOk result (IfSome old (λ p. IsSynced file (file_in file (seen_now p)) (clock_over new)))
-is_synced_end file (Ok x) old new was ok =
-    did_by (synced (Journal file)) (λ (o n : Option FolderPast). IfSome o (IsUsable file) → IfSome o (λ p. IsSynced file (file_in file (seen_now p)) (clock_over n))) (λ w. tt) (λ past w. left_synced file past w) old new ok was
+abbrev IsSyncedAt : FileNo → Option FolderPast → Option FolderPast → Type 0
+IsSyncedAt file old new = IfSome old (λ p. IsSynced file (file_in file (seen_now p)) (clock_over new))
+
+pub is_synced_end : {T E : Type 0} (file : FileNo) (result : Result T E) (old new : Option FolderPast) → IfSome old (IsUsable file) → OnOk result (Did (synced (Journal file)) old new) → OnOk result (IsSyncedAt file old new)
+is_synced_end file (Ok x) old new was ok = did_by (synced (Journal file)) (λ (o n : Option FolderPast). IfSome o (IsUsable file) → IsSyncedAt file o n) (λ w. tt) (λ past w. left_synced file past w.named) old new ok was
 is_synced_end file (Err e) old new was ok = ok
+
+-- a sync of a file that is only read
+
+readable_goes : (file : FileNo) (f : Folder) → IsReadableIn file f → IsReadableIn file (folder_after (synced (Journal file)) f)
+readable_goes Zero f was = record { named = was.named; openable = was.openable }
+readable_goes One f was = record { named = was.named; openable = was.openable }
+
+pub synced_readable : {T E : Type 0} (file : FileNo) (result : Result T E) (old new : Option FolderPast) → IfSome old (IsReadable file) → OnOk result (Did (synced (Journal file)) old new) → OnOk result (IfSome new (IsReadable file))
+synced_readable file (Ok x) old new was ok = after_did (synced (Journal file)) (IsReadableIn file) (IsReadableIn file) (readable_goes file) old new ok was
+synced_readable file (Err e) old new was ok = ok
+
+pub seen_synced_end : {T E : Type 0} (file : FileNo) (result : Result T E) (old new : Option FolderPast) → IfSome old (IsReadable file) → OnOk result (Did (synced (Journal file)) old new) → OnOk result (IsSyncedAt file old new)
+seen_synced_end file (Ok x) old new was ok = did_by (synced (Journal file)) (λ (o n : Option FolderPast). IfSome o (IsReadable file) → IsSyncedAt file o n) (λ w. tt) (λ past w. left_synced file past w.named) old new ok was
+seen_synced_end file (Err e) old new was ok = ok
 
 -- a write
 

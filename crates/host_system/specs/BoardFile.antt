@@ -7,7 +7,7 @@ use Rattle.board_core.specs.Told.{Torn, overlay}
 use Rattle.host_system.specs.declared.system.FileName.TheVariants.{Journal}
 use Rattle.host_system.specs.Folder.{Folder, NameEntry, FileUse, locked, lost, use_in, entry_named, bytes_now}
 use Rattle.host_system.specs.FolderPast.{FolderPast, folder_of}
-use Rattle.host_system.specs.View.{is_settled, seen_now}
+use Rattle.host_system.specs.View.{HasWholeStore, HasSettledStore, is_settled_file, is_settled, seen_now}
 
 -- A file is there, its name is on the disk, and it is locked.
 pub record IsUsableAs (entry : NameEntry) (how : FileUse) : Type 0 where
@@ -36,8 +36,24 @@ pub record IsHeldIn (file : FileNo) (folder : Folder) : Type 0 where
 abbrev pub IsHeld : FileNo → FolderPast → Type 0
 IsHeld file past = IsHeldIn file (folder_of past)
 
+-- On the disk a file's name stands for what it stands for now.
+abbrev pub IsNamedIn : FileNo → Folder → Type 0
+IsNamedIn file folder = (entry_named (Journal file) folder).others ≡ []
+
+abbrev pub IsNamed : FileNo → FolderPast → Type 0
+IsNamed file past = IsNamedIn file (folder_of past)
+
+-- A file that is only read may be synced: its name is on the disk, and no sync of it failed.
+pub record IsReadableIn (file : FileNo) (folder : Folder) : Type 0 where
+  pub named : IsNamedIn file folder
+  pub openable : IsOpenableIn file folder
+
+abbrev pub IsReadable : FileNo → FolderPast → Type 0
+IsReadable file past = IsReadableIn file (folder_of past)
+
 -- A file stays as usable as it was.
 pub record KeepsFileIn (file : FileNo) (old new : Folder) : Type 0 where
+  pub named : IsNamedIn file old → IsNamedIn file new
   pub held : IsHeldIn file old → IsHeldIn file new
   pub usable : IsUsableIn file old → IsUsableIn file new
   pub openable : IsOpenableIn file old → IsOpenableIn file new
@@ -54,9 +70,22 @@ pub record AreUsable (past : FolderPast) : Type 0 where
   pub zero : IsUsable Zero past
   pub one : IsUsable One past
 
+-- Both files are usable. If the store's file is whole, nothing of it is on its way.
+pub record AreOpened (past : FolderPast) : Type 0 where
+  pub usable : AreUsable past
+  pub settled : HasWholeStore past → HasSettledStore past
+
+-- The names of both files are on the disk. If the store's file is whole, nothing of it is on its
+-- way.
+pub record AreNamed (past : FolderPast) : Type 0 where
+  pub zero : IsNamed Zero past
+  pub one : IsNamed One past
+  pub settled : HasWholeStore past → HasSettledStore past
+
 -- A call leaves nothing of the store's file on its way that wasn't.
-abbrev pub KeepsSettled : FolderPast → FolderPast → Type 0
-KeepsSettled old new = is_settled (folder_of old).store ≡ true → is_settled (folder_of new).store ≡ true
+pub record KeepsStore (old new : FolderPast) : Type 0 where
+  pub settled : HasSettledStore old → HasSettledStore new
+  pub whole : HasWholeStore old → HasWholeStore new
 
 abbrev pub other_than : FileNo → FileNo
 other_than Zero = One
@@ -66,6 +95,7 @@ other_than One = Zero
 -- its way.
 pub record KeepsOthersIn (file : FileNo) (old new : Folder) : Type 0 where
   pub settled : is_settled old.store ≡ true → is_settled new.store ≡ true
+  pub whole : is_settled_file old.store.now ≡ true → is_settled_file new.store.now ≡ true
   pub other : KeepsFileIn (other_than file) old new
 
 abbrev pub KeepsOthers : FileNo → FolderPast → FolderPast → Type 0

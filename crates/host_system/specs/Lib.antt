@@ -2,5 +2,6 @@ pub mod Folder
 pub mod FolderPast
 pub mod View
 pub mod BoardFile
+pub mod StoreFile
 pub mod MemSystem
 pub mod Steps

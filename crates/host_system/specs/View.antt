@@ -1,5 +1,6 @@
 -- The folder as a board: its two files, the record store that its store file holds, and the output.
 use Rattle.std.specs.Prelude.{◌≡◌, ℕ, List, [], ◌∷◌, length, Bool, true, false, ◌&&◌, Option, None, Some, Result, Ok, Err}
+use Rattle.std.specs.Option.{option_map}
 use Rattle.erst_store.specs.Store.{Stored}
 use Rattle.erst_store.specs.StoreReading.{file_at}
 use Rattle.erst_store.specs.declared.reading.StoreRefused.{StoreRefused}
@@ -43,8 +44,12 @@ clock_over (Some past) = record { now = length past.changes; may_leave_since = L
 abbrev pub seen_now : FolderPast → Left
 seen_now past = seen_as (here_in (folder_of past))
 
--- What a board over a system tells: it tells where the system tells, and nothing of the record
--- store's file is on its way to the disk.
+-- what a board over a system tells
+abbrev pub told_over : Option FolderPast → Option Left
+told_over past = option_map seen_now past
+
+-- ---- the record store's file
+
 abbrev pub is_none_of : {T : Type 0} → List T → Bool
 is_none_of [] = true
 is_none_of (x ∷ xs) = false
@@ -56,15 +61,11 @@ is_settled_file (Some file) = is_none_of file.disk.written
 abbrev pub is_settled : NameEntry → Bool
 is_settled entry = is_none_of entry.others && is_settled_file entry.now
 
-abbrev pub seen_if : Bool → Left → Option Left
-seen_if true left = Some left
-seen_if false left = None
+-- All bytes of the file are on the disk. Its name may be on its way.
+abbrev pub HasWholeStore : FolderPast → Type 0
+HasWholeStore past = is_settled_file (folder_of past).store.now ≡ true
 
-abbrev pub told_over : Option FolderPast → Option Left
-told_over None = None
-told_over (Some past) = seen_if (is_settled (folder_of past).store) (seen_now past)
-
--- nothing of the record store's file is on its way
+-- Nothing of the file is on its way, and its name stands for no other on the disk.
 abbrev pub HasSettledStore : FolderPast → Type 0
 HasSettledStore past = is_settled (folder_of past).store ≡ true
 
@@ -72,16 +73,17 @@ abbrev pub with_store : List Stored → Left → Left
 with_store store left = record left { store = store }
 
 -- A read gives what was written, unless a sync of the file failed. The record store's file is never
--- written in its place, so nothing of it may be on its way to the disk.
+-- written in its place, so none of its bytes may be on their way to the disk.
 abbrev pub MayBeRead : FileName → FolderPast → Type 0
 MayBeRead (Journal file) past = IsNotLost (Journal file) past
-MayBeRead Store past = HasSettledStore past
+MayBeRead Store past = HasWholeStore past
 MayBeRead New past = IsNotLost New past
 
--- A folder that a board may begin over: no sync of a journal file failed, nothing of the record
--- store's file is on its way, and that file is made of bytes.
+-- A folder that a board may begin over: no sync of a journal file failed, and the record store's
+-- file is whole on the disk and made of bytes. Names may be on their way, as after a run that was
+-- killed.
 pub record MayBegin (past : FolderPast) : Type 0 where
   pub zero : IsNotLost (Journal Zero) past
   pub one : IsNotLost (Journal One) past
-  pub settled : HasSettledStore past
+  pub whole : HasWholeStore past
   pub bytes : AreBytes (file_bytes Store past)

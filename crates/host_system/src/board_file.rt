@@ -4,7 +4,7 @@ ghost use Rattle.board_core.specs.Clock.{Passes, Leads, IsSynced};
 ghost use Rattle.board_core.specs.Stop.{Same, InFile, InOut, Begins, Appends, file_in};
 ghost use Rattle.board_core.specs.declared.board.FileNo.{FileNo};
 ghost use Rattle.board_core.specs.Told.{ReadsBytes, Torn};
-ghost use Rattle.host_system.specs.BoardFile.{IsUsable, IsOpenable, IsHeld, AreOpenable, AreUsable, KeepsSettled, KeepsOthers, SeesSame, SeesWritten, SeesTorn, SeesPrinted, SeesBegun};
+ghost use Rattle.host_system.specs.BoardFile.{IsUsable, IsOpenable, IsReadable, IsHeld, AreOpenable, AreOpened, AreNamed, KeepsStore, KeepsOthers, SeesSame, SeesWritten, SeesTorn, SeesPrinted, SeesBegun};
 ghost use Rattle.host_system.specs.FolderPast.{IfTold, HasFile, IsOpen};
 ghost use Rattle.host_system.specs.View.{clock_over, seen_now};
 ghost use Rattle.host_system.specs.declared.system.FileName.TheVariants.{Journal};
@@ -17,10 +17,10 @@ use board_core::{Failed, FileNo};
 pub fn open_files<S: System>(system: &mut S) -> Result<(), Failed>
     requires { IfSome (S.told system.old) AreOpenable }
     ensures told { IfTold SeesSame (S.told system.old) (S.told system.new) }
-    ensures settled { IfTold KeepsSettled (S.told system.old) (S.told system.new) }
+    ensures store { IfTold KeepsStore (S.told system.old) (S.told system.new) }
     ensures stops { Passes Same (clock_over (S.told system.old)) (clock_over (S.told system.new)) }
     ensures openable { IfSome (S.told system.new) AreOpenable }
-    ensures usable { OnOk result (IfSome (S.told system.new) AreUsable) }
+    ensures opened { OnOk result (IfSome (S.told system.new) AreOpened) }
 {
     open_file(FileNo::Zero, system)?;
     open_file(FileNo::One, system)?;
@@ -54,6 +54,31 @@ fn open_or_make<S: System>(file: FileNo, system: &mut S) -> Result<(), Failed>
         Some(_) => system.open(FileName::Journal(file)),
         None => system.make(FileName::Journal(file)),
     }
+}
+
+/// Brings the names of all files to the disk.
+pub fn sync_names<S: System>(system: &mut S) -> Result<(), Failed>
+    ensures told { IfTold SeesSame (S.told system.old) (S.told system.new) }
+    ensures keeps { (file : FileNo) → IfTold (KeepsOthers file) (S.told system.old)
+        (S.told system.new) }
+    ensures stops { Passes Same (clock_over (S.told system.old)) (clock_over (S.told system.new)) }
+    ensures named { OnOk result (IfSome (S.told system.new) AreNamed) }
+{
+    system.sync_names()
+}
+
+/// Makes a file durable that is only read, if it is there. If that fails, nothing more may be asked
+/// of it.
+pub fn sync_seen<S: System>(file: FileNo, system: &mut S) -> Result<(), Failed>
+    requires { IfSome (S.told system.old) (IsReadable file) }
+    ensures told { IfTold SeesSame (S.told system.old) (S.told system.new) }
+    ensures keeps { IfTold (KeepsOthers file) (S.told system.old) (S.told system.new) }
+    ensures stops { Passes Same (clock_over (S.told system.old)) (clock_over (S.told system.new)) }
+    ensures synced { OnOk result (IfSome (S.told system.old)
+        (λ p. IsSynced file (file_in file (seen_now p)) (clock_over (S.told system.new)))) }
+    ensures readable { OnOk result (IfSome (S.told system.new) (IsReadable file)) }
+{
+    system.sync_read(file)
 }
 
 /// Writes bytes at a place that is at most the file's length.

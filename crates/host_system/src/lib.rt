@@ -10,7 +10,9 @@ mod notes;
 mod store_file;
 mod system;
 
-pub use board_file::{file_size, open_files, print, read_file, sync_file, write_file};
+pub use board_file::{
+    file_size, open_files, print, read_file, sync_file, sync_names, sync_seen, write_file,
+};
 pub use laws::system_laws;
 pub use left_folder::{LeftFolder, NamePick, StopPick, WriteLeft};
 pub use mem_system::{Effect, MemSystem};

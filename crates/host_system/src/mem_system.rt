@@ -1,6 +1,6 @@
 //! A system in memory.
 ghost use Rattle.std.specs.Prelude.{◌≡◌, ◌+◌, ◌^◌, ◌<◌, ◌≤◌, [], ◌∷◌, ◌++◌, length, Some, IfSome, IfOk, OnOk, OnErr};
-ghost use Rattle.host_system.specs.Folder.{MayLeaveFolder, settled_folder, made, removed, wrote, printed};
+ghost use Rattle.host_system.specs.Folder.{MayLeaveFolder, settled_folder, made, removed, renamed, synced, loses, wrote, printed};
 ghost use Rattle.host_system.specs.FolderPast.{MayLeaveFolderSince, HasFile, MayWrite, MayPrint, changed_by, file_bytes, folder_of};
 ghost use Rattle.host_system.specs.MemSystem.{as_stopped, nothing_there, begun_over};
 ghost use Rattle.host_system.specs.Steps.Kept.{IsCopied};
@@ -49,12 +49,13 @@ struct ChosenFailure {
     effect: Effect,
 }
 
-/// What a call has done that fails. A sync that fails loses its file, whatever is chosen.
+/// What a call has done that fails. Whatever is chosen, a sync of a file that fails loses the file,
+/// and one of the names does nothing.
 #[derive(Clone, Copy, Debug, PartialEq, Eq)]
 pub enum Effect {
     /// Nothing.
     Nothing,
-    /// All that it was asked for: of a write, of a print, or of making or removing a file.
+    /// All that it was asked for: of a write, of a print, or of making, removing or renaming a file.
     All,
     /// So many bytes of a write or of a print.
     Part(u64),
@@ -152,7 +153,7 @@ impl MemSystem {
     }
 
     /// Makes the call of this number fail, with this done. All calls of the trait are numbered from
-    /// 1, but `sync_names` doesn't fail.
+    /// 1.
     pub fn fail_at(&mut self, call: u64, effect: Effect) -> Result<(), NoMemory>
         ensures { self.new ≡ self.old }
     {
@@ -250,6 +251,31 @@ impl MemSystem {
             return Err(Failed);
         };
         note(&mut self.notes, 6, name, 0, 0, &[]);
+        Ok(())
+    }
+
+    fn rename_file(&mut self) -> Result<(), Failed>
+        ensures ok { OnOk result (self.new ≡ changed_by renamed self.old) }
+        ensures err { OnErr result (self.new ≡ self.old) }
+    {
+        let Ok(()) = self.files.rename(self.alloc) else {
+            return Err(Failed);
+        };
+        note(&mut self.notes, 7, FileName::New, 0, 0, &[]);
+        Ok(())
+    }
+
+    // Brings a file to the disk, or loses it if the call fails.
+    fn sync_file(&mut self, name: FileName) -> Result<(), Failed>
+        ensures ok { OnOk result (self.new ≡ changed_by (synced name) self.old) }
+        ensures err { OnErr result (self.new ≡ changed_by (loses name) self.old) }
+    {
+        if self.begin().is_err() {
+            note(&mut self.notes, 5, name, 0, 0, &[]);
+            return Err(Failed);
+        }
+        self.files.sync(name);
+        note(&mut self.notes, 1, name, 0, 0, &[]);
         Ok(())
     }
 
@@ -391,17 +417,11 @@ impl System for MemSystem {
     }
 
     fn sync(&mut self, name: FileName) -> Result<(), Failed> {
-        if self.begin().is_err() {
-            note(&mut self.notes, 5, name, 0, 0, &[]);
-            return Err(Failed);
-        }
-        self.files.sync(name);
-        note(&mut self.notes, 1, name, 0, 0, &[]);
-        Ok(())
+        self.sync_file(name)
     }
 
-    fn sync_read(&mut self, _file: FileNo) -> Result<(), Failed> {
-        self.begin()
+    fn sync_read(&mut self, file: FileNo) -> Result<(), Failed> {
+        self.sync_file(FileName::Journal(file))
     }
 
     fn remove(&mut self, name: FileName) -> Result<(), Failed> {
@@ -416,16 +436,18 @@ impl System for MemSystem {
     }
 
     fn rename(&mut self) -> Result<(), Failed> {
-        self.begin()?;
-        let Ok(()) = self.files.rename(self.alloc) else {
-            return Err(Failed);
-        };
-        note(&mut self.notes, 7, FileName::New, 0, 0, &[]);
-        Ok(())
+        match self.fault() {
+            None => self.rename_file(),
+            Some(Effect::All) => {
+                self.rename_file()?;
+                Err(Failed)
+            }
+            Some(_) => Err(Failed),
+        }
     }
 
     fn sync_names(&mut self) -> Result<(), Failed> {
-        self.count();
+        self.begin()?;
         self.files.settle();
         note(&mut self.notes, 8, FileName::New, 0, 0, &[]);
         Ok(())

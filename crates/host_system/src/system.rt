@@ -5,6 +5,7 @@ ghost use Rattle.board_core.specs.Takes.{Takes};
 ghost use Rattle.host_system.specs.Folder.{wrote, synced, made, opens, locks, loses, removed, renamed, synced_names, printed};
 ghost use Rattle.host_system.specs.FolderPast.{FolderPast, Did, IfTold, HasFile, IsMissing, IsOpen, IsNotLost, MayBeWritten, bytes_named, file_bytes, length_told, MayDo, MayWrite, MayPrint};
 ghost use Rattle.host_system.specs.View.{MayBeRead};
+ghost use Rattle.host_system.specs.declared.system.FileName.TheVariants.{Journal};
 
 use board_core::{Failed, FileNo};
 
@@ -90,10 +91,14 @@ pub trait System {
         ensures told { OnOk result (Did (synced name) (told self.old) (told self.new)) }
         ensures failed { OnErr result (Did (loses name) (told self.old) (told self.new)) };
 
-    /// Brings to the disk what another run wrote to a file that this one only reads, if there is
-    /// such a file.
+    /// Brings to the disk what was written to a file that this one only reads, if there is such a
+    /// file. If that fails, nothing more may be asked of its bytes, as of `sync`.
     fn sync_read(&mut self, file: FileNo) -> Result<(), Failed>
-        ensures { told self.new ≡ told self.old };
+        requires { IfSome (told self.old) (IsNotLost (Journal file)) }
+        ensures told { OnOk result (Did (synced (Journal file)) (told self.old)
+            (told self.new)) }
+        ensures failed { OnErr result (Did (loses (Journal file)) (told self.old)
+            (told self.new)) };
 
     /// Removes a name, and the file if it has no other.
     fn remove(&mut self, name: FileName) -> Result<(), Failed>
@@ -106,13 +111,13 @@ pub trait System {
     fn rename(&mut self) -> Result<(), Failed>
         requires { IfSome (told self.old) (HasFile FileName.New) }
         ensures told { OnOk result (Did renamed (told self.old) (told self.new)) }
-        ensures failed { OnErr result (told self.new ≡ told self.old) };
+        ensures failed { OnErr result (IfTold (MayDo renamed) (told self.old)
+            (told self.new)) };
 
-    /// Brings the folder's names to the disk. A system that tells doesn't fail here.
+    /// Brings the folder's names to the disk. If that fails, what was on its way still is.
     fn sync_names(&mut self) -> Result<(), Failed>
         ensures told { OnOk result (Did synced_names (told self.old) (told self.new)) }
-        ensures failed { OnErr result (IfTold (λ old new. ⊥) (told self.old)
-            (told self.new)) };
+        ensures failed { OnErr result (told self.new ≡ told self.old) };
 
     /// Appends to standard output.
     fn print(&mut self, bytes: &[u8]) -> Result<(), Failed>

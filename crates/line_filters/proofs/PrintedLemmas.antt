@@ -32,6 +32,10 @@ module _ {X : Type 0} (see : X → Seen) (x y : X) where
       → ◌≡◌ {A = Result (Unit {0}) Exit} (Err fault) (Err PrintFault) → Ends see exit fault text x y
   ends_unprinted exit fault text answer does stops is = inl (answer, inr (inl ((let same : fault ≡ PrintFault = cc in same), not_all_printed fault text does stops)))
 
+  pub ends_printed : (exit : Exit) (text : List ℕ) → IsAnswer exit → Does see (print_acts text) went_well x y → Passes (InOut (Begins text)) (see x).clock (see y).clock → Leads (InOut (Appends text)) (see x).clock (see y).clock
+      → Ends see exit exit text x y
+  ends_printed exit text answer does stops leads = inl (answer, inl (refl, text_printed text does stops leads))
+
 -- nothing waits, or the source isn't read
 pub waits : {X : Type 0} (see : X → Seen) (Held : Type 0) (text : List ℕ) (x : X) → (text ≡ []) ⊎ Held → PrintsWaiting see (Ok tt) Held text text x x
 waits see Held text x free = inr (refl, refl, free)

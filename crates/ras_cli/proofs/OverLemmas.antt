@@ -1,16 +1,17 @@
 -- What a run over a board says of the folder that the board is over.
-use Rattle.std.proofs.Common.{◌≡◌, ℕ, Bool, true, false, List, [], ◌++◌, refl, sym, ◌∙◌, ap, subst, inl, inr, None, Some}
+use Rattle.std.proofs.Common.{◌≡◌, ℕ, List, [], ◌++◌, refl, sym, ◌∙◌, ap, subst, inl, inr, None, Some}
 use Rattle.std.specs.Prelude.{◌⊎◌, Option, IfSome, IsSomeAnd}
 use Rattle.std.specs.Option.{option_map}
 use Rattle.board_core.specs.Clock.{Adds, Always, LeftNow}
 use Rattle.board_core.specs.Doing.{after_acts}
 use Rattle.board_core.specs.Stop.{Left}
-use Rattle.board_core.specs.Told.{Told}
-use Rattle.host_system.specs.FolderPast.{FolderPast, folder_of}
-use Rattle.host_system.specs.View.{MayBegin, clock_over, is_settled, seen_if, seen_now, told_over}
+use Rattle.board_core.specs.Told.{Relates, Told}
+use Rattle.host_system.specs.FolderPast.{FolderPast}
+use Rattle.host_system.specs.View.{clock_over, seen_now, told_over}
 use Rattle.ras_account.specs.Account.{State}
-use Rattle.ras_cli.specs.OverFolder.{Ends, FolderRecovers, NeverOpened, Outlives, OutlivesOpened, OverDamaged, OverFolder, Refuses, begun_over}
-use Rattle.ras_daemon.specs.Headline.{AtOpening, Headline, IsWhole, NeverOpens, OverRun, Settles}
+use Rattle.ras_cli.specs.OverFolder.{Ends, NeverOpened, Outlives, OutlivesOpened, OverDamaged, OverFolder, OverReport, Refuses, Reported, begun_over}
+use Rattle.ras_daemon.specs.Commands.{ByTask}
+use Rattle.ras_daemon.specs.Headline.{AtOpening, Headline, IsWhole, NeverOpens, OverRun, Settles, StopsRecover}
 use Rattle.ras_daemon.specs.Machine.{account_upto, change_next, store_upto}
 use Rattle.ras_daemon.specs.Promises as promises
 use Rattle.ras_daemon.specs.Promises.{EndsRefused, OverRefused, Ran, RunStops, StillTell}
@@ -25,12 +26,11 @@ use Rattle.ras_exit.specs.StopLine.{stop_line}
 use Rattle.ras_exit.specs.Telling.{PrintsPart}
 use Rattle.ras_exit.specs.declared.exit.Exit.{Exit}
 use Rattle.ras_host.specs.BoardState.{BoardState}
-use Rattle.ras_host.specs.Steps.Telling.{clock_of, past_of, past_told, told_of, told_with}
-use Rattle.ras_host.specs.JournalFiles.{is_run}
-use Rattle.ras_host.specs.declared.journal.JournalFiles.{JournalFiles}
-use Rattle.ras_host.specs.declared.journal.JournalFiles.TheVariants.{Shut}
+use Rattle.ras_host.specs.Steps.Telling.{clock_of, told_of, told_with}
 use Rattle.ras_host.specs.declared.kept.Kept.TheVariants.{Unread}
 use Rattle.ras_journal.specs.Recovered.{Recovers}
+use Rattle.ras_listing.specs.Reporting.{ReportMoment, Reports, report_output}
+use Rattle.ras_texts.specs.declared.listing.Listing.{Listing}
 use Rattle.ras_run.specs.Files.{files_refusal}
 use Rattle.ras_run.specs.Places.{Start}
 
@@ -82,13 +82,11 @@ from_refused P task before now t is_run is_told over =
 
 -- ---- the board at its start, and at its end
 
-pub record Begun (task : Option Task) (past : Option FolderPast) (b : BoardState) : Type 0 where
+pub record Begun (past : Option FolderPast) (b : BoardState) : Type 0 where
   pub over : b.past ≡ past
-  pub files : task ≡ Some Run → b.files ≡ Shut
   pub kept : b.kept ≡ Unread
   pub disk_calls : b.disk_calls ≡ []
   pub accesses : b.accesses ≡ []
-  pub may : IfSome past MayBegin
 
 abbrev value_or : Told → Option Told → Told
 value_or t None = t
@@ -97,43 +95,32 @@ value_or t (Some told) = told
 some_same : (x y : Told) → Some x ≡ Some y → x ≡ y
 some_same x y is = ap (value_or x) is
 
-may_of : (past : Option FolderPast) (p : FolderPast) → past ≡ Some p → IfSome past MayBegin → MayBegin p
-may_of past p is may = subst (λ (o : Option FolderPast). IfSome o MayBegin) is may
+with_begun : (past : Option FolderPast) (b : BoardState) (p : FolderPast) → Begun past b → told_with b (seen_now p) ≡ begun_over p
+with_begun past b p begun = rw (begun.kept, begun.disk_calls, begun.accesses) refl
 
-past_begun : (task : Option Task) (past : Option FolderPast) (b : BoardState) (p : FolderPast) → Begun task past b → task ≡ Some Run → past ≡ Some p → past_of b ≡ Some p
-past_begun task past b p begun asked is_past = ap (λ (files : JournalFiles). past_told (is_run files) b.past) (begun.files asked) ∙ (begun.over ∙ is_past)
+past_begun : (past : Option FolderPast) (b : BoardState) (p : FolderPast) → Begun past b → past ≡ Some p → b.past ≡ Some p
+past_begun past b p begun is_past = begun.over ∙ is_past
 
-with_begun : (task : Option Task) (past : Option FolderPast) (b : BoardState) (p : FolderPast) → Begun task past b → told_with b (seen_now p) ≡ begun_over p
-with_begun task past b p begun = rw (begun.kept, begun.disk_calls, begun.accesses) refl
-
-told_begun : (task : Option Task) (past : Option FolderPast) (b : BoardState) (p : FolderPast) → Begun task past b → task ≡ Some Run → past ≡ Some p → told_of b ≡ Some (begun_over p)
-told_begun task past b p begun asked is_past =
-    ap (λ (o : Option FolderPast). option_map (told_with b) (told_over o)) (past_begun task past b p begun asked is_past)
-    ∙ (ap (λ (settled : Bool). option_map (told_with b) (seen_if settled (seen_now p))) (may_of past p is_past begun.may).settled
-    ∙ ap (λ (t : Told). Some t) (with_begun task past b p begun))
+told_begun : (past : Option FolderPast) (b : BoardState) (p : FolderPast) → Begun past b → past ≡ Some p → told_of b ≡ Some (begun_over p)
+told_begun past b p begun is_past =
+    ap (λ (o : Option FolderPast). option_map (told_with b) (told_over o)) (past_begun past b p begun is_past)
+    ∙ ap (λ (t : Told). Some t) (with_begun past b p begun)
 
 -- what a board tells at its end is told of a folder
 pub record Ended (b : BoardState) (t : Told) : Type 0 where
   pub now : FolderPast
   pub over : b.past ≡ Some now
-  pub past : past_of b ≡ Some now
   pub here : t.here ≡ seen_now now
 
 ended : (b : BoardState) (t : Told) → told_of b ≡ Some t → Ended b t
-ended b t is = by (is_run b.files) refl b.past refl is
+ended b t is = by b.past refl is
   where
-    settled : (p : FolderPast) (s : Bool) → option_map (told_with b) (seen_if s (seen_now p)) ≡ Some t → t.here ≡ seen_now p
-    settled p true e = sym (ap (λ (told : Told). told.here) (some_same (told_with b (seen_now p)) t e))
-    settled p false e = absurd cc
-
-    by : (run : Bool) → is_run b.files ≡ run → (past : Option FolderPast) → b.past ≡ past → option_map (told_with b) (told_over (past_told run past)) ≡ Some t → Ended b t
-    by true at None over e = absurd cc
-    by false at past over e = absurd cc
-    by true at (Some p) over e = record {
+    by : (past : Option FolderPast) → b.past ≡ past → option_map (told_with b) (told_over past) ≡ Some t → Ended b t
+    by None over e = absurd cc
+    by (Some p) over e = record {
       now = p;
       over = over;
-      past = rw (at) over;
-      here = settled p (is_settled (folder_of p).store) e;
+      here = sym (ap (λ (told : Told). told.here) (some_same (told_with b (seen_now p)) t e));
     }
 
 -- what holds of a run is told at its end
@@ -156,7 +143,7 @@ on_whole_as (faulted kind) P Q goes holds = holds
 
 -- ---- the promises
 
-module _ (exit : Exit) (Same : Type 0) (task : Option Task) (left rest : Option (List ℕ)) (past now : Option FolderPast) (old new : BoardState) (begun : Begun task past old) (over : new.past ≡ now) where
+module _ (exit : Exit) (Same : Type 0) (task : Option Task) (left rest : Option (List ℕ)) (past now : Option FolderPast) (old new : BoardState) (begun : Begun past old) (over : new.past ≡ now) where
   abbrev AllRan : Type 0
   AllRan = OverRun (λ start script told. StillTell (Ran exit Same start script told) rest (told_of new)) task left (told_of old)
 
@@ -167,25 +154,25 @@ module _ (exit : Exit) (Same : Type 0) (task : Option Task) (left rest : Option 
     at_end : ToldAtEnd (Ran exit Same (start_of account (begun_over p)) script (begun_over p)) (told_of new)
     at_end =
         still (Ran exit Same (start_of account (begun_over p)) script (begun_over p)) rest (told_of new)
-        (from_over (λ start script told. StillTell (Ran exit Same start script told) rest (told_of new)) task left (told_of old) script (begun_over p) asked is_left (told_begun task past old p begun asked is_past) ran account recovers)
+        (from_over (λ start script told. StillTell (Ran exit Same start script told) rest (told_of new)) task left (told_of old) script (begun_over p) asked is_left (told_begun past old p begun is_past) ran account recovers)
 
     the_end : Ended new at_end.t
     the_end = ended new at_end.t at_end.is
 
     stopped : RunStops told_of clock_of exit Same (start_of account (begun_over p)) script (begun_over p) old new
     stopped =
-        from_over (λ start script told. RunStops told_of clock_of exit Same start script told old new) task left (told_of old) script (begun_over p) asked is_left (told_begun task past old p begun asked is_past) stops account recovers
+        from_over (λ start script told. RunStops told_of clock_of exit Same start script told old new) task left (told_of old) script (begun_over p) asked is_left (told_begun past old p begun is_past) stops account recovers
 
-    is_old : past_of old ≡ Some p
-    is_old = past_begun task past old p begun asked is_past
+    is_old : old.past ≡ Some p
+    is_old = past_begun past old p begun is_past
 
     at_now : (P : FolderPast → Type 0) → P the_end.now → IsSomeAnd now P
     at_now P holds = subst (λ (o : Option FolderPast). IsSomeAnd o P) (sym the_end.over ∙ over) holds
 
     outlives : Outlives (start_of account (begun_over p)) script p the_end.now
     outlives =
-        subst (λ (o : Option FolderPast). FolderRecovers (start_of account (begun_over p)) p → Always (clock_over o) (clock_over (Some p)).now (Headline (run_of (start_of account (begun_over p)) script) (seen_now p))) the_end.past
-        (subst (λ (o : Option FolderPast). ((left : Left) → LeftNow (clock_over o) left → Recovers account left) → Always (clock_of new) (clock_over o).now (Headline (run_of (start_of account (begun_over p)) script) (seen_now p))) is_old stopped.once)
+        subst (λ (o : Option FolderPast). StopsRecover (start_of account (begun_over p)) (clock_over (Some p)) → Always (clock_over o) (clock_over (Some p)).now (Headline (run_of (start_of account (begun_over p)) script) (seen_now p))) the_end.over
+        (subst (λ (o : Option FolderPast). StopsRecover (start_of account (begun_over p)) (clock_over o) → Always (clock_of new) (clock_over o).now (Headline (run_of (start_of account (begun_over p)) script) (seen_now p))) is_old stopped.once)
 
     pub headline : IsSomeAnd now (Outlives (start_of account (begun_over p)) script p)
     headline = at_now (Outlives (start_of account (begun_over p)) script p) outlives
@@ -197,21 +184,21 @@ module _ (exit : Exit) (Same : Type 0) (task : Option Task) (left rest : Option 
         by e = record {
           opened = e.now;
           before =
-              subst (λ (o : Option FolderPast). Adds (λ left. LeftNow (clock_over (Some p)) left ⊎ AtOpening (start_of account (begun_over p)) (seen_now p).out left) (clock_over (Some p)) (clock_over o)) e.past
+              subst (λ (o : Option FolderPast). Adds (λ left. LeftNow (clock_over (Some p)) left ⊎ AtOpening (start_of account (begun_over p)) (seen_now p).out left) (clock_over (Some p)) (clock_over o)) e.over
               (subst (λ (o : Option FolderPast). Adds (λ left. LeftNow (clock_over o) left ⊎ AtOpening (start_of account (begun_over p)) (seen_now p).out left) (clock_over o) (clock_of s.opened)) is_old s.before);
           behind =
-              subst (λ (o : Option FolderPast). Adds (Headline (run_of (start_of account (begun_over p)) script) (seen_now p)) (clock_over o) (clock_over (Some the_end.now))) e.past
-              (subst (λ (o : Option FolderPast). Adds (Headline (run_of (start_of account (begun_over p)) script) (seen_now p)) (clock_of s.opened) (clock_over o)) the_end.past s.behind);
+              subst (λ (o : Option FolderPast). Adds (Headline (run_of (start_of account (begun_over p)) script) (seen_now p)) (clock_over o) (clock_over (Some the_end.now))) e.over
+              (subst (λ (o : Option FolderPast). Adds (Headline (run_of (start_of account (begun_over p)) script) (seen_now p)) (clock_of s.opened) (clock_over o)) the_end.over s.behind);
           from =
-              subst (λ (o : Option FolderPast). Always (clock_over (Some the_end.now)) (clock_over o).now (Headline (run_of (start_of account (begun_over p)) script) (seen_now p))) e.past
-              (subst (λ (o : Option FolderPast). Always (clock_over o) (clock_of s.opened).now (Headline (run_of (start_of account (begun_over p)) script) (seen_now p))) the_end.past s.from);
+              subst (λ (o : Option FolderPast). Always (clock_over (Some the_end.now)) (clock_over o).now (Headline (run_of (start_of account (begun_over p)) script) (seen_now p))) e.over
+              (subst (λ (o : Option FolderPast). Always (clock_over o) (clock_of s.opened).now (Headline (run_of (start_of account (begun_over p)) script) (seen_now p))) the_end.over s.from);
         }
 
     never : NeverOpens exit Same (start_of account (begun_over p)) (seen_now p) (clock_of old) (clock_of new) → NeverOpened exit (start_of account (begun_over p)) p the_end.now
     never n = record {
       cut = n.cut;
       always =
-          subst (λ (o : Option FolderPast). Always (clock_over o) (clock_over (Some p)).now (λ left. LeftNow (clock_over (Some p)) left ⊎ AtOpening (start_of account (begun_over p)) (seen_now p).out left)) the_end.past
+          subst (λ (o : Option FolderPast). Always (clock_over o) (clock_over (Some p)).now (λ left. LeftNow (clock_over (Some p)) left ⊎ AtOpening (start_of account (begun_over p)) (seen_now p).out left)) the_end.over
           (subst (λ (o : Option FolderPast). Always (clock_of new) (clock_over o).now (λ left. LeftNow (clock_over o) left ⊎ AtOpening (start_of account (begun_over p)) (seen_now p).out left)) is_old n.always);
     }
 
@@ -245,7 +232,7 @@ module _ (exit : Exit) (Same : Type 0) (task : Option Task) (left rest : Option 
 
 -- ---- files that refuse a run
 
-module _ (exit : Exit) (Same : Type 0) (task : Option Task) (past now : Option FolderPast) (old new : BoardState) (begun : Begun task past old) (over : new.past ≡ now) where
+module _ (exit : Exit) (Same : Type 0) (task : Option Task) (past now : Option FolderPast) (old new : BoardState) (begun : Begun past old) (over : new.past ≡ now) where
   refuses : (p : FolderPast) (why : Exit) → (told : Option Told) → told ≡ told_of new → IsSomeAnd told (promises.Refuses exit Same (clock_of old) (clock_of new) why (begun_over p)) → IsSomeAnd now (Refuses exit why p)
   refuses p why None is never = absurd never
   refuses p why (Some t) is r = subst (λ (o : Option FolderPast). IsSomeAnd o (Refuses exit why p)) (sym the_end.over ∙ over) (record {
@@ -262,8 +249,57 @@ module _ (exit : Exit) (Same : Type 0) (task : Option Task) (past now : Option F
   pub refused : OverRefused (promises.Refuses exit Same (clock_of old) (clock_of new)) task (told_of old) (told_of new) → OverDamaged (λ why p. IsSomeAnd now (Refuses exit why p)) task past
   refused all =
       over_damaged (λ why p. IsSomeAnd now (Refuses exit why p)) task past (λ p asked is_past.
-      by p (files_refusal (seen_now p)) (from_refused (promises.Refuses exit Same (clock_of old) (clock_of new)) task (told_of old) (told_of new) (begun_over p) asked (told_begun task past old p begun asked is_past) all))
+      by p (files_refusal (seen_now p)) (from_refused (promises.Refuses exit Same (clock_of old) (clock_of new)) task (told_of old) (told_of new) (begun_over p) asked (told_begun past old p begun is_past) all))
     where
       by : (p : FolderPast) (why : Option Exit) → IfSome why (λ w. IsSomeAnd (told_of new) (promises.Refuses exit Same (clock_of old) (clock_of new) w (begun_over p))) → IfSome why (λ w. IsSomeAnd now (Refuses exit w p))
       by p None holds = tt
       by p (Some why) holds = refuses p why (told_of new) refl holds
+
+-- ---- reports
+
+pub over_report : (P : Listing → FolderPast → Type 0) (task : Option Task) (past : Option FolderPast)
+    → ((listing : Listing) (p : FolderPast) → task ≡ Some (Report listing) → past ≡ Some p → P listing p)
+    → OverReport P task past
+over_report P (Some (Report listing)) (Some p) gives = gives listing p refl refl
+over_report P (Some (Report listing)) None gives = tt
+over_report P (Some Run) past gives = tt
+over_report P (Some (Load n)) past gives = tt
+over_report P (Some Pcie) past gives = tt
+over_report P (Some (Klog boot cap)) past gives = tt
+over_report P (Some (TraceLines boot)) past gives = tt
+over_report P (Some (KlogLines boot cap)) past gives = tt
+over_report P (Some Help) past gives = tt
+over_report P (Some Version) past gives = tt
+over_report P None past gives = tt
+
+module _ (exit : Exit) (task : Option Task) (left rest : Option (List ℕ)) (past now : Option FolderPast) (old new : BoardState) (begun : Begun past old) (over : new.past ≡ now)
+    (commands : ByTask exit task left rest (told_of old) (told_of new) (clock_of old) (clock_of new)) where
+  module _ (listing : Listing) (p : FolderPast) (asked : task ≡ Some (Report listing)) (is_past : past ≡ Some p) where
+    abbrev text : List ℕ
+    text = report_output listing (seen_now p)
+
+    leaves : ByTask exit (Some (Report listing)) left rest (Some (begun_over p)) (told_of new) (clock_over (Some p)) (clock_of new)
+    leaves =
+        subst (λ (o : Option FolderPast). ByTask exit (Some (Report listing)) left rest (Some (begun_over p)) (told_of new) (clock_over o) (clock_of new)) (past_begun past old p begun is_past)
+        (subst (λ (o : Option Told). ByTask exit (Some (Report listing)) left rest o (told_of new) (clock_of old) (clock_of new)) (told_begun past old p begun is_past)
+        (subst (λ (k : Option Task). ByTask exit k left rest (told_of old) (told_of new) (clock_of old) (clock_of new)) asked commands))
+
+    reported : IsSomeAnd now (Reported exit listing p)
+    reported = by (told_of new) refl leaves.tells
+      where
+        by : (told : Option Told) → told_of new ≡ told → Relates (Reports listing exit) (Some (begun_over p)) told → IsSomeAnd now (Reported exit listing p)
+        by None is never = absurd never
+        by (Some t) is r =
+            let the_end : Ended new t = ended new t is in
+            subst (λ (o : Option FolderPast). IsSomeAnd o (Reported exit listing p)) (sym the_end.over ∙ over) (record {
+              status = r.tells.answers;
+              output = subst (λ (here : Left). OnAnswer exit (here.out ≡ (seen_now p).out ++ text)) the_end.here r.tells.whole;
+              begun = subst (λ (here : Left). PrintsPart text (seen_now p).out here.out) the_end.here r.tells.begun;
+              file0 = subst (λ (here : Left). here.file0 ≡ (seen_now p).file0) the_end.here r.file0;
+              file1 = subst (λ (here : Left). here.file1 ≡ (seen_now p).file1) the_end.here r.file1;
+              store = subst (λ (here : Left). here.store ≡ (seen_now p).store) the_end.here r.device.store;
+              stops = subst (λ (o : Option FolderPast). Adds (ReportMoment (clock_over (Some p)) text (seen_now p)) (clock_over (Some p)) (clock_over o)) the_end.over leaves.stops;
+            })
+
+  pub reports : OverReport (λ listing p. IsSomeAnd now (Reported exit listing p)) task past
+  reports = over_report (λ listing p. IsSomeAnd now (Reported exit listing p)) task past reported

@@ -2,7 +2,6 @@
 -- the folder.
 use Rattle.std.specs.Prelude.{◌≡◌, ℕ, ◌⊎◌, List, [], ◌++◌, Option, Some, IfSome, ⊤}
 use Rattle.board_core.specs.Clock.{Adds, Always, LeftNow}
-use Rattle.board_core.specs.Stop.{Left}
 use Rattle.board_core.specs.Told.{Told}
 use Rattle.erst_store.specs.Device.{new_device, volatile_of}
 use Rattle.host_system.specs.FolderPast.{FolderPast}
@@ -14,9 +13,11 @@ use Rattle.ras_exit.specs.StopLine.{stop_line}
 use Rattle.ras_exit.specs.declared.exit.Exit.{Exit}
 use Rattle.ras_exit.specs.declared.exit.Exit.TheVariants.{DiskFault, NoMemory}
 use Rattle.ras_journal.specs.Recovered.{Recovers}
+use Rattle.ras_listing.specs.Reporting.{ReportMoment, report_exit, report_output}
+use Rattle.ras_texts.specs.declared.listing.Listing.{Listing}
 use Rattle.ras_run.specs.Files.{files_refusal}
 use Rattle.ras_run.specs.Places.{Start}
-use Rattle.ras_daemon.specs.Headline.{AtOpening, Headline, IsWhole}
+use Rattle.ras_daemon.specs.Headline.{AtOpening, Headline, IsWhole, StopsRecover}
 use Rattle.ras_daemon.specs.Promises.{EndsRefused}
 use Rattle.ras_daemon.specs.RunOf.{run_of}
 use Rattle.ras_daemon.specs.RunOutput.{run_output}
@@ -39,15 +40,11 @@ OverFolder P (Some tasks.Run) (Some script) (Some past) =
     (account : State) → Recovers account (seen_now past) → P (start_of account (begun_over past)) script past
 OverFolder P task script past = ⊤
 
--- whatever a stop now may leave of the folder gives the account of a start
-abbrev pub FolderRecovers : Start → FolderPast → Type 0
-FolderRecovers start past = (left : Left) → LeftNow (clock_over (Some past)) left → Recovers start.account left
-
 -- What a stop of the machine at any moment of a run leaves of the folder. The premise is that one at the
--- run's start leaves files that give its account too.
+-- run's start leaves files that give its account and its record store too.
 abbrev pub Outlives : Start → List ℕ → FolderPast → FolderPast → Type 0
 Outlives start script past now =
-    FolderRecovers start past → Always (clock_over (Some now)) (clock_over (Some past)).now (Headline (run_of start script) (seen_now past))
+    StopsRecover start (clock_over (Some past)) → Always (clock_over (Some now)) (clock_over (Some past)).now (Headline (run_of start script) (seen_now past))
 
 -- Without that premise the headline holds from the moment on at which the journal was open. A stop before
 -- that leaves what one at the start may have left, or the account at the start with store and text as
@@ -82,3 +79,20 @@ pub record Refuses (exit why : Exit) (past now : FolderPast) : Type 0 where
   pub file0 : (seen_now now).file0 ≡ (seen_now past).file0
   pub file1 : (seen_now now).file1 ≡ (seen_now past).file1
   pub store : (seen_now now).store ≡ (seen_now past).store
+
+-- if the words ask for a report and the folder tells
+abbrev pub OverReport : (Listing → FolderPast → Type 0) → Option Task → Option FolderPast → Type 0
+OverReport P (Some (tasks.Report listing)) (Some past) = P listing past
+OverReport P task past = ⊤
+
+-- A report prints what the files hold, and leaves files and store as they are. A stop of the machine at
+-- any moment of it leaves what one before it may have left, or all that was there with a beginning of
+-- that text.
+pub record Reported (exit : Exit) (listing : Listing) (past now : FolderPast) : Type 0 where
+  pub status : OnAnswer exit (exit ≡ report_exit (seen_now past))
+  pub output : OnAnswer exit ((seen_now now).out ≡ (seen_now past).out ++ report_output listing (seen_now past))
+  pub begun : PrintsPart (report_output listing (seen_now past)) (seen_now past).out (seen_now now).out
+  pub file0 : (seen_now now).file0 ≡ (seen_now past).file0
+  pub file1 : (seen_now now).file1 ≡ (seen_now past).file1
+  pub store : (seen_now now).store ≡ (seen_now past).store
+  pub stops : Adds (ReportMoment (clock_over (Some past)) (report_output listing (seen_now past)) (seen_now past)) (clock_over (Some past)) (clock_over (Some now))

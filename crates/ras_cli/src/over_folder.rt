@@ -1,7 +1,7 @@
 //! The daemon over a folder of files.
 ghost use Rattle.std.specs.Prelude.{◌≡◌, ◌⊎◌, Some, IfSome, IsSomeAnd};
 ghost use Rattle.host_system.specs.View.{MayBegin};
-ghost use Rattle.ras_cli.specs.OverFolder.{Ends, NeverOpened, Outlives, OutlivesOpened, OverDamaged, OverFolder, Refuses};
+ghost use Rattle.ras_cli.specs.OverFolder.{Ends, NeverOpened, Outlives, OutlivesOpened, OverDamaged, OverFolder, OverReport, Refuses, Reported};
 ghost use Rattle.ras_daemon.specs.Task.{task_of};
 
 use host_system::{Input, System};
@@ -39,6 +39,10 @@ pub fn rasd_over<S: System + Drop, I: Input + Drop>(
     // Files that are damaged or too long are left as they are.
     ensures refused { OverDamaged (λ why past. IsSomeAnd (S.told result.1)
         (Refuses result.0 why past))
+        (task_of words.now) (S.told system) }
+    // A report prints what the files hold, and leaves all else as it is.
+    ensures reported { OverReport (λ listing past. IsSomeAnd (S.told result.1)
+        (Reported result.0 listing past))
         (task_of words.now) (S.told system) }
 {
     let mut source = FileSource::new(input);

@@ -141,13 +141,13 @@ module _ (start : Start) (script : List ℕ) (old now : Told) where
 
 -- what a stop since the start of a run leaves
 pub always-headline : (old new : Clock) (start : Start) (script : List ℕ) (here : Left) → StopsRecover start old
-    → ((left : Left) → LeftNow old left → left.out ≡ here.out) → ((left : Left) → LeftNow old left → left.store ≡ start.store)
+    → ((left : Left) → LeftNow old left → left.out ≡ here.out)
     → Adds (RunMoment old start script here) old new → Always new old.now (Headline (run_of start script) here)
-always-headline old new start script here stops text store adds left may = by (adds.each old.now left (omega arith) may)
+always-headline old new start script here stops text adds left may = by (adds.each old.now left (omega arith) may)
   where
     by : old.may_leave_since old.now left ⊎ RunMoment old start script here left → Headline (run_of start script) here left
-    by (inl before) = headline old start script here left stops (text left) (store left) (inl before)
-    by (inr moment) = headline old start script here left stops (text left) (store left) moment
+    by (inl before) = headline old start script here left stops (text left) (inl before)
+    by (inr moment) = headline old start script here left stops (text left) moment
 
 -- what is told now is what a stop now may leave
 pub begun-now : (old new : Clock) (start : Start) (script : List ℕ) (here now : Left) → ((left : Left) → LeftNow old left → left.out ≡ here.out)
@@ -227,7 +227,6 @@ module _ {X : Type 0} (see : X → Seen) (account : State) (script : List ℕ) (
 -- What the laws of a board say of what a stop between its calls leaves.
 pub record LeavesTold (told : Option Told) (clock : Clock) : Type 0 where
   pub text : (t : Told) (left : Left) → told ≡ Some t → LeftNow clock left → left.out ≡ t.here.out
-  pub store : (t : Told) (left : Left) → told ≡ Some t → LeftNow clock left → left.store ≡ t.here.store
   pub now : (t : Told) → told ≡ Some t → LeftNow clock t.here
   pub earlier : (m n : ℕ) (left : Left) → m ≤ n → clock.may_leave_since n left → clock.may_leave_since m left
 
@@ -243,7 +242,7 @@ module _ {X : Type 0} (see : X → Seen) (Same : Type 0) (account : State) (scri
   pub run-stops : RunStops (λ x. (see x).told) (λ x. (see x).clock) exit Same begins script t old new
   run-stops = record {
     later = stops.later;
-    once = λ recover. always-headline (see old).clock (see new).clock begins script t.here recover (λ left may. first.text t left is may) (λ left may. first.store t left is may) stops;
+    once = λ recover. always-headline (see old).clock (see new).clock begins script t.here recover (λ left may. first.text t left is may) stops;
     settled = run-settled see account script exit t old new recovers Same left comes;
     few = λ few. run-few see begins script exit t old new few comes.does;
   }

@@ -315,7 +315,7 @@ headline-since start script here left (inr (account, inr (inl (inr at)))) = head
 headline-since start script here left (inr (account, inr (inr end))) = headline-end start script here left account end
 
 pub headline : (clock : Clock) (start : Start) (script : List ℕ) (here left : Left) → StopsRecover start clock
-    → (LeftNow clock left → left.out ≡ here.out) → (LeftNow clock left → left.store ≡ start.store)
+    → (LeftNow clock left → left.out ≡ here.out)
     → RunMoment clock start script here left → Headline (run_of start script) here left
-headline clock start script here left stops text store (inl now) = headline-nothing start script here left (text now) (stops left now) (store now)
-headline clock start script here left stops text store (inr moment) = headline-since start script here left moment
+headline clock start script here left stops text (inl now) = headline-nothing start script here left (text now) (stops left now).recovers (stops left now).store
+headline clock start script here left stops text (inr moment) = headline-since start script here left moment

@@ -1,13 +1,13 @@
 -- A run from its start: the journal is opened, or it is refused.
-use Rattle.std.proofs.Common.{◌≡◌, ℕ, false, List, [], ◌∷◌, ◌++◌, Option, None, Some, IfSome, IsSomeAnd, Result, Ok, Err, refl, ap, sym, ◌∙◌, subst, append-nil, inl, inr, unwrap_or}
-use Rattle.std.specs.Prelude.{◌⊎◌, ⊤}
+use Rattle.std.proofs.Common.{◌≡◌, ℕ, false, List, [], ◌∷◌, ◌++◌, Option, None, Some, IfSome, IsSomeAnd, Result, Ok, Err, refl, ap, sym, ◌∙◌, subst, append-nil, inl, inr, unwrap_or, arith}
+use Rattle.std.specs.Prelude.{◌≤◌, ◌⊎◌, ⊤}
 use Rattle.std.proofs.lemmas.List.Elements.{All-nil}
 use Rattle.board_core.specs.declared.board.DiskCall.{DiskCall}
 use Rattle.board_core.specs.declared.board.DiskCall.TheVariants.{Sync}
 use Rattle.board_core.specs.declared.board.FileNo.TheVariants.{Zero, One}
 use Rattle.std.specs.Result.{result_unwrap_or}
 use Rattle.board_core.specs.Cause.{disk_call}
-use Rattle.board_core.specs.Clock.{Clock, Adds, LeftNow}
+use Rattle.board_core.specs.Clock.{Clock, Adds, IsStored, LeftNow}
 use Rattle.board_core.specs.Steps.ClockLemmas.{adds_both, adds_none, adds_weaker}
 use Rattle.board_core.specs.Device.{LeavesDevice}
 use Rattle.board_core.specs.Doing.{Seen}
@@ -29,7 +29,7 @@ use Rattle.ras_recover.proofs.OpeningCallsLemmas.{refused_keeps, refused_recover
 use Rattle.ras_exit.specs.declared.exit.Exit.{Exit}
 use Rattle.ras_exit.specs.declared.exit.Exit.TheVariants.{Damaged, DiskFault, NoMemory, SourceFault, TooLong}
 use Rattle.ras_exit.specs.Endings.{CallEnding, EndsBy, IfAnswered, IsCut, OnAnswer, OnlyFault, answered, ending_of, faulted, is_answered, source_failed, starved}
-use Rattle.ras_exit.proofs.DeviceLemmas.{StoreIsLeft, device_by, device_stays}
+use Rattle.ras_exit.proofs.DeviceLemmas.{device_by, device_stays}
 use Rattle.ras_exit.proofs.EndingLemmas.{ends_weaker, memory_ran_out, not_both, on_cut}
 use Rattle.ras_run.specs.LineActs.{HoldsAfter}
 use Rattle.ras_run.specs.Places.{Start}
@@ -425,14 +425,18 @@ opened_comes see Same start script exit t there left old mid new text opens come
 }
 
 -- the device is left alone while it is opened
-pub opening_device : (told new : Option Told) (a b : Clock) → StoreIsLeft told a → Relates AfterOpening told new → ((t : Told) → told ≡ Some t → Adds (Opening a t.here) a b) → LeavesDevice told new a b
-opening_device told new a b law after stops =
+pub opening_device : (told new : Option Told) (a b : Clock) → Relates AfterOpening told new → ((t : Told) → told ≡ Some t → Adds (Opening a t.here) a b)
+    → ((m n : ℕ) (left : Left) → m ≤ n → b.may_leave_since n left → b.may_leave_since m left) → LeavesDevice told new a b
+opening_device told new a b after stops earlier =
     device_by AfterOpening told new a b (λ u v opened. record { store = opened.store; volatile = opened.volatile; accesses = opened.accesses }) after
-    (λ t is. adds_weaker (Opening a t.here) (λ left. left.store ≡ t.here.store) a b (stops t is) (left_store t is))
+    (λ t is stored. record {
+      since = adds_weaker (Opening a t.here) (λ left. left.store ≡ t.here.store) a b (stops t is) (left_store t stored);
+      now = λ left now. elim ((stops t is).each a.now left (omega arith) (earlier a.now b.now left (stops t is).later now)) [ inl was ↦ stored left was | inr opening ↦ left_store t stored left opening ];
+    })
   where
-    left_store : (t : Told) → told ≡ Some t → (left : Left) → Opening a t.here left → left.store ≡ t.here.store
-    left_store t is left (inl before) = law t left is before
-    left_store t is left (inr formats) = ap (λ (l : Left). l.store) formats.rest
+    left_store : (t : Told) → IsStored t.here.store a → (left : Left) → Opening a t.here left → left.store ≡ t.here.store
+    left_store t stored left (inl before) = stored left before
+    left_store t stored left (inr formats) = ap (λ (l : Left). l.store) formats.rest
 
 -- ---- how it ends, and what stops leave of it
 

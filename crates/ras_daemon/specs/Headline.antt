@@ -114,9 +114,14 @@ pub record Settles {X : Type 0} (told : X → Option Told) (clock : X → Clock)
   pub from : Always (clock new) (clock opened).now (Headline (run_of start script) t.here)
   pub few : HasFewLinks t.here → Always (clock new) (clock opened).now HasFewLinks
 
--- whatever a stop at the start of a run may leave recovers the account at its start too
+-- what is left has the account at the start of a run, and its record store
+pub record GivesStart (start : Start) (left : Left) : Type 0 where
+  pub recovers : Recovers start.account left
+  pub store : left.store ≡ start.store
+
+-- so has whatever a stop at the start of a run may leave
 abbrev pub StopsRecover : Start → Clock → Type 0
-StopsRecover start clock = (left : Left) → LeftNow clock left → Recovers start.account left
+StopsRecover start clock = (left : Left) → LeftNow clock left → GivesStart start left
 
 -- if the words ask for a run, source and board tell, and the files hold an account
 abbrev pub OverRun : (Start → List ℕ → Told → Type 0) → Option Task → Option (List ℕ) → Option Told → Type 0

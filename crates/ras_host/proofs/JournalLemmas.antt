@@ -1,6 +1,6 @@
 -- What a call of the journal's files comes to, by what it asks of the system.
-use Rattle.std.proofs.Common.{◌≡◌, ℕ, List, length, Some, refl, sym, ◌∙◌, subst, OnOk}
-use Rattle.std.specs.Prelude.{Bool, true, false, IsTrue, Option, None, IfSome, Result, Ok, Err, OnErr}
+use Rattle.std.proofs.Common.{◌≡◌, ℕ, List, length, Some, refl, sym, ap, ◌∙◌, subst, OnOk, inl, inr}
+use Rattle.std.specs.Prelude.{◌⊎◌, Bool, true, false, IsTrue, Option, None, IfSome, IfOk, Result, Ok, Err, OnErr}
 use Rattle.std.specs.Result.{is_ok}
 use Rattle.board_core.specs.Clock.{Passes}
 use Rattle.board_core.specs.Stop.{Left, Same, InFile, file_in, with_file_in}
@@ -8,14 +8,15 @@ use Rattle.board_core.specs.Steps.MomentLemmas.{torn_nothing}
 use Rattle.board_core.specs.Told.{Torn, overlay}
 use Rattle.board_core.specs.declared.board.FileNo.{FileNo}
 use Rattle.board_core.specs.declared.board.FileNo.TheVariants.{Zero, One}
-use Rattle.host_system.specs.BoardFile.{IsUsable, KeepsOthers, KeepsSettled, SeesSame, SeesWritten, SeesTorn}
+use Rattle.host_system.specs.BoardFile.{AreNamed, AreOpenable, AreOpened, IsReadable, IsUsable, KeepsFile, KeepsOthers, KeepsStore, SeesSame, SeesWritten, SeesTorn}
 use Rattle.host_system.specs.FolderPast.{FolderPast, IfTold}
 use Rattle.host_system.specs.Steps.FolderPastLemmas.{passes_then, stands}
-use Rattle.host_system.specs.View.{clock_over, seen_now}
-use Rattle.ras_host.specs.JournalFiles.{AreHeld, AreSound, Moves, part_of, with_part}
+use Rattle.host_system.specs.View.{HasSettledStore, HasWholeStore, clock_over, seen_now}
+use Rattle.ras_host.specs.JournalFiles.{AreHeld, AreRead, AreSound, IsOneSound, IsRead, Moves, SettlesStore, part_of, with_part}
 use Rattle.ras_host.specs.declared.journal.JournalFiles.{JournalFiles}
-use Rattle.ras_host.specs.declared.journal.JournalFiles.TheVariants.{Open}
+use Rattle.ras_host.specs.declared.journal.JournalFiles.TheVariants.{Open, Seen, Shut, Unread}
 use Rattle.ras_host.specs.declared.reading.Pair.{Pair}
+use Rattle.ras_host.specs.declared.reading.ReadFile.{ReadFile}
 
 -- ---- calls one after another
 
@@ -30,41 +31,68 @@ told_after R (Some x) None c first second = absurd first
 told_after R (Some x) (Some y) None first second = second
 told_after R (Some x) (Some y) (Some z) first second = subst (λ (l : Left). R l (seen_now z)) first second
 
-settled_after : (a b c : Option FolderPast) → IfTold KeepsSettled a b → IfTold KeepsSettled b c
-    → IfTold KeepsSettled a c
-settled_after None b c first second = subst (λ (o : Option FolderPast). IfTold KeepsSettled o c) first second
-settled_after (Some x) None c first second = absurd first
-settled_after (Some x) (Some y) None first second = second
-settled_after (Some x) (Some y) (Some z) first second = λ is. second (first is)
+store_after : (a b c : Option FolderPast) → IfTold KeepsStore a b → IfTold KeepsStore b c → IfTold KeepsStore a c
+store_after None b c first second = subst (λ (o : Option FolderPast). IfTold KeepsStore o c) first second
+store_after (Some x) None c first second = absurd first
+store_after (Some x) (Some y) None first second = second
+store_after (Some x) (Some y) (Some z) first second =
+    record { settled = λ is. second.settled (first.settled is); whole = λ is. second.whole (first.whole is) }
+
+-- a file is sound after two calls: it became so in the second, or in the first, or it was
+settles_both : (f g h : JournalFiles) (x y z : FolderPast) → SettlesStore f g x y → KeepsStore x y → SettlesStore g h y z
+    → KeepsStore y z → SettlesStore f h x z
+settles_both f g h x y z first before second after is = elim (second is) [
+  | inr now ↦ inr (λ whole. now (before.whole whole))
+  | inl was ↦ elim (first was) [ inl always ↦ inl always | inr then ↦ inr (λ whole. after.settled (then whole)) ]
+]
+
+settles_after : (f g h : JournalFiles) (a b c : Option FolderPast) → IfTold (SettlesStore f g) a b → IfTold KeepsStore a b
+    → IfTold (SettlesStore g h) b c → IfTold KeepsStore b c → IfTold (SettlesStore f h) a c
+settles_after f g h None b c first before second after =
+    subst (λ (o : Option FolderPast). IfTold KeepsStore o c) before after
+settles_after f g h (Some x) None c first before second after = absurd first
+settles_after f g h (Some x) (Some y) None first before second after = after
+settles_after f g h (Some x) (Some y) (Some z) first before second after =
+    settles_both f g h x y z first before second after
 
 -- the files are opened, and then a call of one is made
 pub moves_after : (R : Left → Left → Type 0) (Step : Left → Left → Type 0) → ((l : Left) → Step l l)
     → (f g h : JournalFiles) (a b c : Option FolderPast) → Moves SeesSame Same f g a b → Moves (SeesBy R) Step g h b c
     → Moves (SeesBy R) Step f h a c
 moves_after R Step still f g h a b c first second = record {
-  run = second.run ∙ first.run;
   sees = told_after R a b c first.sees second.sees;
-  settled = settled_after a b c first.settled second.settled;
+  store = store_after a b c first.store second.store;
+  settles = settles_after f g h a b c first.settles first.store second.settles second.store;
   stops = passes_then Same Step Step (clock_over a) (clock_over b) (clock_over c)
       (λ x y is. subst (λ (l : Left). Step x l) (sym is) (still x))
       (λ x y z is by. subst (λ (l : Left). Step l z) is by) first.stops second.stops;
 }
 
+pub moves_same : (f g h : JournalFiles) (a b c : Option FolderPast) → Moves SeesSame Same f g a b
+    → Moves SeesSame Same g h b c → Moves SeesSame Same f h a c
+moves_same = moves_after Same Same (λ l. refl)
+
 told_same : (R : Left → Left → Type 0) → ((l : Left) → R l l) → (a : Option FolderPast) → IfTold (SeesBy R) a a
 told_same R same None = refl
 told_same R same (Some past) = same (seen_now past)
 
-settled_same : (a : Option FolderPast) → IfTold KeepsSettled a a
-settled_same None = refl
-settled_same (Some past) = λ is. is
+store_same : (a : Option FolderPast) → IfTold KeepsStore a a
+store_same None = refl
+store_same (Some past) = record { settled = λ is. is; whole = λ is. is }
+
+settles_still : (f g : JournalFiles) (a b : Option FolderPast) → (IsOneSound g → IsOneSound f) → IfTold KeepsStore a b
+    → IfTold (SettlesStore f g) a b
+settles_still f g None b was keeps = keeps
+settles_still f g (Some x) None was keeps = keeps
+settles_still f g (Some x) (Some y) was keeps = λ is. inl (was is)
 
 pub moves_still : (R : Left → Left → Type 0) (Step : Left → Left → Type 0) → ((l : Left) → R l l)
     → ((l : Left) → Step l l) → (f : JournalFiles) (a : Option FolderPast) → Moves (SeesBy R) Step f f a a
 moves_still R Step same still f a =
     record {
-      run = refl;
       sees = told_same R same a;
-      settled = settled_same a;
+      store = store_same a;
+      settles = settles_still f f a a (λ is. is) (store_same a);
       stops = stands Step (clock_over a) still;
     }
 
@@ -79,22 +107,69 @@ moves_untorn file place count f g a b first =
 
 -- ---- files that are open
 
-still_sound : (file : FileNo) (flag : Bool) (sound : Pair Bool) (x y : FolderPast) → AreSound sound.zero sound.one x
-    → KeepsOthers file x y → (IsTrue flag → IsUsable file y) → AreHeld (Open (with_part file flag sound)) y
-still_sound Zero flag sound x y held keeps now =
-    record { first = now; second = λ is. keeps.other.usable (held.second is) }
-still_sound One flag sound x y held keeps now =
-    record { first = λ is. keeps.other.usable (held.first is); second = now }
+store_others : (file : FileNo) (a b : Option FolderPast) → IfTold (KeepsOthers file) a b → IfTold KeepsStore a b
+store_others file None b keeps = keeps
+store_others file (Some x) None keeps = keeps
+store_others file (Some x) (Some y) keeps = record { settled = keeps.settled; whole = keeps.whole }
 
-synced_held : (file : FileNo) (flag : Bool) (sound : Pair Bool) (a b : Option FolderPast)
+-- a call of one file
+pub moves_open : (file : FileNo) (R Step : Left → Left → Type 0) (f g : JournalFiles) (a b : Option FolderPast)
+    → (IsOneSound g → IsOneSound f) → IfTold (SeesBy R) a b → IfTold (KeepsOthers file) a b
+    → Passes Step (clock_over a) (clock_over b) → Moves (SeesBy R) Step f g a b
+moves_open file R Step f g a b was sees keeps stops =
+    record {
+      sees = sees;
+      store = store_others file a b keeps;
+      settles = settles_still f g a b was (store_others file a b keeps);
+      stops = stops;
+    }
+
+pub one_sound : (file : FileNo) (sound : Pair Bool) → IsTrue (part_of file sound) → IsTrue sound.zero ⊎ IsTrue sound.one
+one_sound Zero sound is = inl is
+one_sound One sound is = inr is
+
+still_sound : (Is : FileNo → FolderPast → Type 0) (file : FileNo) (flag : Bool) (sound : Pair Bool) (x y : FolderPast)
+    → ((other : FileNo) → KeepsFile other x y → Is other x → Is other y) → AreSound Is sound x → KeepsOthers file x y
+    → (IsTrue flag → Is file y) → AreSound Is (with_part file flag sound) y
+still_sound Is Zero flag sound x y stays held keeps now =
+    record { zero = now; one = λ is. stays One keeps.other (held.one is) }
+still_sound Is One flag sound x y stays held keeps now =
+    record { zero = λ is. stays Zero keeps.other (held.zero is); one = now }
+
+usable_kept : (x y : FolderPast) (file : FileNo) → KeepsFile file x y → IsUsable file x → IsUsable file y
+usable_kept x y file keeps is = keeps.usable is
+
+pub readable_kept : (x y : FolderPast) (file : FileNo) → KeepsFile file x y → IsReadable file x → IsReadable file y
+readable_kept x y file keeps is = record { named = keeps.named is.named; openable = keeps.openable is.openable }
+
+pub read_same : (files : Pair ReadFile) (x y : FolderPast) → SeesSame x y → AreRead files x → AreRead files y
+read_same files x y same is = record {
+  zero = subst (λ (l : Left). IsRead files.zero l.file0) (sym same) is.zero;
+  one = subst (λ (l : Left). IsRead files.one l.file1) (sym same) is.one;
+}
+
+synced_open : (file : FileNo) (flag : Bool) (sound : Pair Bool) (a b : Option FolderPast)
     → IfSome a (AreHeld (Open sound)) → IfTold (KeepsOthers file) a b → (IsTrue flag → IfSome b (IsUsable file))
     → IfSome b (AreHeld (Open (with_part file flag sound)))
-synced_held file flag sound None b held keeps now =
+synced_open file flag sound None b held keeps now =
     subst (λ (o : Option FolderPast). IfSome o (AreHeld (Open (with_part file flag sound)))) (sym keeps) tt
-synced_held file flag sound (Some x) None held keeps now = absurd keeps
-synced_held file flag sound (Some x) (Some y) held keeps now = still_sound file flag sound x y held keeps now
+synced_open file flag sound (Some x) None held keeps now = absurd keeps
+synced_open file flag sound (Some x) (Some y) held keeps now =
+    still_sound IsUsable file flag sound x y (usable_kept x y) held keeps now
 
-went_well : {T E : Type 0} (result : Result T E) (flag : Bool) (P : Type 0) → flag ≡ is_ok result → OnOk result P
+synced_seen : (file : FileNo) (flag : Bool) (files : Pair ReadFile) (sound : Pair Bool) (a b : Option FolderPast)
+    → IfSome a (AreHeld (Seen files sound)) → IfTold SeesSame a b → IfTold (KeepsOthers file) a b
+    → (IsTrue flag → IfSome b (IsReadable file)) → IfSome b (AreHeld (Seen files (with_part file flag sound)))
+synced_seen file flag files sound None b held sees keeps now =
+    subst (λ (o : Option FolderPast). IfSome o (AreHeld (Seen files (with_part file flag sound)))) (sym keeps) tt
+synced_seen file flag files sound (Some x) None held sees keeps now = absurd keeps
+synced_seen file flag files sound (Some x) (Some y) held sees keeps now =
+    record {
+      read = read_same files x y sees held.read;
+      readable = still_sound IsReadable file flag sound x y (readable_kept x y) held.readable keeps now;
+    }
+
+pub went_well : {T E : Type 0} (result : Result T E) (flag : Bool) (P : Type 0) → flag ≡ is_ok result → OnOk result P
     → IsTrue flag → P
 went_well (Ok done) flag P value is well = is
 went_well (Err e) flag P value is well = absurd (not_true (sym value ∙ well))
@@ -108,8 +183,17 @@ pub sync_held : {T E : Type 0} (file : FileNo) (result : Result T E) (flag : Boo
     → now ≡ with_part file flag sound → IfSome b (AreHeld (Open now))
 sync_held file result flag sound now g a b is held keeps usable value set =
     subst (λ (s : Pair Bool). IfSome b (AreHeld (Open s))) (sym set)
-    (synced_held file flag sound a b (subst (λ (f : JournalFiles). IfSome a (AreHeld f)) is held) keeps
+    (synced_open file flag sound a b (subst (λ (f : JournalFiles). IfSome a (AreHeld f)) is held) keeps
     (went_well result flag (IfSome b (IsUsable file)) value usable))
+
+pub seen_held : {T E : Type 0} (file : FileNo) (result : Result T E) (flag : Bool) (files : Pair ReadFile)
+    (sound now : Pair Bool) (g : JournalFiles) (a b : Option FolderPast) → g ≡ Seen files sound → IfSome a (AreHeld g)
+    → IfTold SeesSame a b → IfTold (KeepsOthers file) a b → OnOk result (IfSome b (IsReadable file))
+    → flag ≡ is_ok result → now ≡ with_part file flag sound → IfSome b (AreHeld (Seen files now))
+seen_held file result flag files sound now g a b is held sees keeps readable value set =
+    subst (λ (s : Pair Bool). IfSome b (AreHeld (Seen files s))) (sym set)
+    (synced_seen file flag files sound a b (subst (λ (f : JournalFiles). IfSome a (AreHeld f)) is held) sees keeps
+    (went_well result flag (IfSome b (IsReadable file)) value readable))
 
 same_part : (file : FileNo) (sound : Pair Bool) → with_part file (part_of file sound) sound ≡ sound
 same_part Zero sound = refl
@@ -122,7 +206,7 @@ still_held file sound None b held keeps now =
 still_held file sound (Some x) None held keeps now = absurd keeps
 still_held file sound (Some x) (Some y) held keeps now =
     subst (λ (s : Pair Bool). AreHeld (Open s) y) (same_part file sound)
-    (still_sound file (part_of file sound) sound x y held keeps (λ is. now))
+    (still_sound IsUsable file (part_of file sound) sound x y (usable_kept x y) held keeps (λ is. now))
 
 pub wrote_held : (file : FileNo) (sound : Pair Bool) (g : JournalFiles) (a b : Option FolderPast) → g ≡ Open sound
     → IfSome a (AreHeld g) → IfTold (KeepsOthers file) a b → IfSome b (IsUsable file)
@@ -130,23 +214,27 @@ pub wrote_held : (file : FileNo) (sound : Pair Bool) (g : JournalFiles) (a b : O
 wrote_held file sound g a b is held =
     still_held file sound a b (subst (λ (f : JournalFiles). IfSome a (AreHeld f)) is held)
 
-settled_others : (file : FileNo) (a b : Option FolderPast) → IfTold (KeepsOthers file) a b → IfTold KeepsSettled a b
-settled_others file None b keeps = keeps
-settled_others file (Some x) None keeps = keeps
-settled_others file (Some x) (Some y) keeps = keeps.settled
-
--- a call of a file that is open
-pub moves_open : (file : FileNo) (R Step : Left → Left → Type 0) (s t : Pair Bool) (a b : Option FolderPast)
-    → IfTold (SeesBy R) a b → IfTold (KeepsOthers file) a b → Passes Step (clock_over a) (clock_over b)
-    → Moves (SeesBy R) Step (Open s) (Open t) a b
-moves_open file R Step s t a b sees keeps stops =
-    record { run = refl; sees = sees; settled = settled_others file a b keeps; stops = stops }
-
--- ---- a write, however it ended
+-- ---- a sync, however it ended
 
 pub moves_as : (f g h : JournalFiles) (a b : Option FolderPast) → g ≡ h → Moves SeesSame Same f g a b
     → Moves SeesSame Same f h a b
 moves_as f g h a b is first = subst (λ (j : JournalFiles). Moves SeesSame Same f j a b) is first
+
+-- files of which one was sound are synced
+pub moves_synced : (file : FileNo) (f g h : JournalFiles) (a b c : Option FolderPast) → IsOneSound g
+    → Moves SeesSame Same f g a b → IfTold SeesSame b c → IfTold (KeepsOthers file) b c
+    → Passes Same (clock_over b) (clock_over c) → Moves SeesSame Same f h a c
+moves_synced file f g h a b c sound first sees keeps stops =
+    moves_same f g h a b c first (moves_open file Same Same g h b c (λ is. sound) sees keeps stops)
+
+-- after a sync that went well the file is sound
+pub sound_after : {T E : Type 0} (file : FileNo) (result : Result T E) (flag : Bool) (sound now : Pair Bool)
+    → flag ≡ is_ok result → now ≡ with_part file flag sound → OnOk result (IsTrue now.zero ⊎ IsTrue now.one)
+sound_after Zero (Ok done) flag sound now value set = inl (ap (λ (s : Pair Bool). s.zero) set ∙ value)
+sound_after One (Ok done) flag sound now value set = inr (ap (λ (s : Pair Bool). s.one) set ∙ value)
+sound_after file (Err e) flag sound now value set = tt
+
+-- ---- a write, however it ended
 
 pub write_opened : {T E : Type 0} (file : FileNo) (place : ℕ) (bytes : List ℕ) (result : Result T E)
     (sound : Pair Bool) (f : JournalFiles) (a b c : Option FolderPast) → Moves SeesSame Same f (Open sound) a b
@@ -158,7 +246,7 @@ write_opened file place bytes (Ok x) sound f a b c first sees keeps stops =
     (InFile file (Torn place (length bytes))) (torn_nothing file place (length bytes)) f (Open sound)
     (Open sound) a b c first
     (moves_open file (λ old new. new ≡ with_file_in file (overlay place bytes (file_in file old)) old)
-    (InFile file (Torn place (length bytes))) sound sound b c sees keeps stops)
+    (InFile file (Torn place (length bytes))) (Open sound) (Open sound) b c (λ is. is) sees keeps stops)
 write_opened file place bytes (Err e) sound f a b c first sees keeps stops = tt
 
 pub write_failed : {T E : Type 0} (file : FileNo) (place count : ℕ) (result : Result T E) (sound : Pair Bool)
@@ -171,4 +259,125 @@ write_failed file place count (Err e) sound f a b c first sees keeps stops =
     moves_after (InFile file (Torn place count)) (InFile file (Torn place count)) (torn_nothing file place count) f
     (Open sound) (Open sound) a b c first
     (moves_open file (InFile file (Torn place count))
-    (InFile file (Torn place count)) sound sound b c sees keeps stops)
+    (InFile file (Torn place count)) (Open sound) (Open sound) b c (λ is. is) sees keeps stops)
+
+-- ---- files are opened, or read
+
+abbrev pub twice : Bool → Pair Bool
+twice flag = record { zero = flag; one = flag }
+
+is_flag : (flag : Bool) → IsTrue flag ⊎ IsTrue flag → IsTrue flag
+is_flag flag (inl is) = is
+is_flag flag (inr is) = is
+
+settles_opened : {T E : Type 0} (result : Result T E) (flag : Bool) (f g : JournalFiles) (a b : Option FolderPast)
+    → flag ≡ is_ok result → (IsOneSound g → IsTrue flag ⊎ IsTrue flag) → IfTold KeepsStore a b
+    → OnOk result (IfSome b (λ p. HasWholeStore p → HasSettledStore p)) → IfTold (SettlesStore f g) a b
+settles_opened result flag f g None b value sound keeps settled = keeps
+settles_opened result flag f g (Some x) None value sound keeps settled = keeps
+settles_opened result flag f g (Some x) (Some y) value sound keeps settled = λ is.
+    inr (λ whole. went_well result flag (HasWholeStore y → HasSettledStore y) value settled (is_flag flag (sound is)) (keeps.whole whole))
+
+on_ok_some : {T E : Type 0} (P Q : FolderPast → Type 0) (result : Result T E) (o : Option FolderPast) → OnOk result (IfSome o P)
+    → ((p : FolderPast) → P p → Q p) → OnOk result (IfSome o Q)
+on_ok_some P Q (Ok x) None holds so = tt
+on_ok_some P Q (Ok x) (Some p) holds so = so p holds
+on_ok_some P Q (Err e) o holds so = tt
+
+pub opened_moves : {T E : Type 0} (result : Result T E) (flag : Bool) (sound : Pair Bool) (a b : Option FolderPast)
+    → flag ≡ is_ok result → sound ≡ twice flag → IfTold SeesSame a b → IfTold KeepsStore a b
+    → Passes Same (clock_over a) (clock_over b) → OnOk result (IfSome b AreOpened)
+    → Moves SeesSame Same Shut (Open sound) a b
+opened_moves result flag sound a b value is sees keeps stops opened = rw is (record {
+  sees = sees;
+  store = keeps;
+  settles = settles_opened result flag Shut (Open (twice flag)) a b value (λ one. one) keeps
+      (on_ok_some AreOpened (λ p. HasWholeStore p → HasSettledStore p) result b opened (λ p o. o.settled));
+  stops = stops;
+})
+
+pub opened_held : {T E : Type 0} (result : Result T E) (flag : Bool) (sound : Pair Bool) (b : Option FolderPast)
+    → flag ≡ is_ok result → sound ≡ twice flag → OnOk result (IfSome b AreOpened) → IfSome b (AreHeld (Open sound))
+opened_held result flag sound None value is opened = tt
+opened_held result flag sound (Some y) value is opened = rw is (record {
+  zero = λ well. (went_well result flag (AreOpened y) value opened well).usable.zero;
+  one = λ well. (went_well result flag (AreOpened y) value opened well).usable.one;
+})
+
+pub names_moves : {T E : Type 0} (result : Result T E) (flag : Bool) (files : Pair ReadFile) (sound : Pair Bool)
+    (f : JournalFiles) (o a b : Option FolderPast) → f ≡ Unread → a ≡ o → flag ≡ is_ok result → sound ≡ twice flag
+    → IfTold SeesSame a b → ((file : FileNo) → IfTold (KeepsOthers file) a b) → Passes Same (clock_over a) (clock_over b)
+    → OnOk result (IfSome b AreNamed) → Moves SeesSame Same f (Seen files sound) o b
+names_moves result flag files sound f o a b unread same value is sees keeps stops named =
+    subst (λ (x : Option FolderPast). Moves SeesSame Same f (Seen files sound) x b) same
+    (subst (λ (x : JournalFiles). Moves SeesSame Same x (Seen files sound) a b) (sym unread) (rw is (record {
+      sees = sees;
+      store = store_others Zero a b (keeps Zero);
+      settles = settles_opened result flag Unread (Seen files (twice flag)) a b value (λ one. one)
+          (store_others Zero a b (keeps Zero))
+          (on_ok_some AreNamed (λ p. HasWholeStore p → HasSettledStore p) result b named (λ p n. n.settled));
+      stops = stops;
+    })))
+
+names_readable : {T E : Type 0} (result : Result T E) (flag : Bool) (files : Pair ReadFile) (sound : Pair Bool)
+    (a b : Option FolderPast) → flag ≡ is_ok result → sound ≡ twice flag → IfSome a AreOpenable → IfSome a (AreRead files)
+    → IfTold SeesSame a b → ((file : FileNo) → IfTold (KeepsOthers file) a b) → OnOk result (IfSome b AreNamed)
+    → IfSome b (AreHeld (Seen files sound))
+names_readable result flag files sound None b value is openable read sees keeps named =
+    subst (λ (o : Option FolderPast). IfSome o (AreHeld (Seen files sound))) (sym sees) tt
+names_readable result flag files sound (Some x) None value is openable read sees keeps named = absurd sees
+names_readable result flag files sound (Some x) (Some y) value is openable read sees keeps named = rw is (record {
+  read = read_same files x y sees read;
+  readable = record {
+    zero = λ well. record {
+      named = (went_well result flag (AreNamed y) value named well).zero;
+      openable = (keeps One).other.openable openable.zero;
+    };
+    one = λ well. record {
+      named = (went_well result flag (AreNamed y) value named well).one;
+      openable = (keeps Zero).other.openable openable.one;
+    };
+  };
+})
+
+pub names_held : {T E : Type 0} (result : Result T E) (flag : Bool) (files : Pair ReadFile) (sound : Pair Bool)
+    (f : JournalFiles) (o a b : Option FolderPast) → f ≡ Unread → a ≡ o → flag ≡ is_ok result → sound ≡ twice flag
+    → IfSome o (AreHeld f) → IfSome o (AreRead files) → IfTold SeesSame a b
+    → ((file : FileNo) → IfTold (KeepsOthers file) a b) → OnOk result (IfSome b AreNamed)
+    → IfSome b (AreHeld (Seen files sound))
+names_held result flag files sound f o a b unread same value is held read sees keeps named =
+    names_readable result flag files sound a b value is
+    (subst (λ (x : Option FolderPast). IfSome x AreOpenable) (sym same)
+    (subst (λ (x : JournalFiles). IfSome o (AreHeld x)) unread held))
+    (subst (λ (x : Option FolderPast). IfSome x (AreRead files)) (sym same) read) sees keeps named
+
+-- ---- what was read is the file's
+
+part_read : (file : FileNo) (files : Pair ReadFile) (p : FolderPast) → AreRead files p
+    → IsRead (part_of file files) (file_in file (seen_now p))
+part_read Zero files p is = is.zero
+part_read One files p is = is.one
+
+pub file_read : (file : FileNo) (files : Pair ReadFile) (sound : Pair Bool) (g : JournalFiles) (read : ReadFile)
+    (a b : Option FolderPast) → g ≡ Seen files sound → read ≡ part_of file files → IfTold SeesSame a b
+    → IfSome b (AreHeld g) → IfSome a (λ p. IsRead read (file_in file (seen_now p)))
+file_read file files sound g read None b is part sees held = tt
+file_read file files sound g read (Some x) None is part sees held = absurd sees
+file_read file files sound g read (Some x) (Some y) is part sees held =
+    subst (λ (l : Left). IsRead read (file_in file l)) sees
+    (subst (λ (r : ReadFile). IsRead r (file_in file (seen_now y))) (sym part)
+    (part_read file files y (subst (λ (f : JournalFiles). AreHeld f y) is held).read))
+
+pub file_reads : {E : Type 0} (R : ℕ → List ℕ → Type 0) (result : Result ℕ E) (read : ReadFile) (file : FileNo)
+    (a : Option FolderPast) → IfSome a (λ p. IsRead read (file_in file (seen_now p)))
+    → IfOk result (λ n. (whole : List ℕ) → IsRead read whole → R n whole)
+    → IfOk result (λ n. IfSome a (λ p. R n (file_in file (seen_now p))))
+file_reads R (Ok n) read file None is reads = tt
+file_reads R (Ok n) read file (Some p) is reads = reads (file_in file (seen_now p)) is
+file_reads R (Err e) read file a is reads = tt
+
+pub file_length : (read : ReadFile) (file : FileNo) (a : Option FolderPast)
+    → IfSome a (λ p. IsRead read (file_in file (seen_now p)))
+    → IfSome a (λ p. read.length ≡ length (file_in file (seen_now p)))
+file_length read file None is = tt
+file_length read file (Some p) is = is.size

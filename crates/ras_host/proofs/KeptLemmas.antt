@@ -1,6 +1,9 @@
 -- The device that is kept and the folder go together, however a call on it ended.
-use Rattle.std.proofs.Common.{◌≡◌, ℕ, ◌≤◌, List, [], length, take, Some, refl, sym, ap, subst, ◌∙◌, arith, inl}
-use Rattle.std.specs.Prelude.{Bool, Option, None, IfSome, IfOk, Result, Ok, Err, OnOk, OnErr}
+use Rattle.std.proofs.Common.{◌≡◌, ℕ, ◌≤◌, List, [], length, take, Some, refl, sym, ap, subst, ◌∙◌, arith, inl, inr}
+use Rattle.std.specs.Prelude.{◌⊎◌, ◌≢◌, Bool, true, false, ◌&&◌, nat_eq, if◌then◌else◌, Option, None, IfSome, IfOk, Result, Ok, Err, OnOk, OnErr}
+use Rattle.std.specs.Bool.{Decides}
+use Rattle.std.specs.Cmp.{unsigned_Decides}
+use Rattle.std.specs.Cmp.Lexicographic.{pointwise, pointwise_decides, bytes_decides}
 use Rattle.std.specs.Option.{option_map}
 use Rattle.std.specs.Result.{result_or, result_unwrap_or}
 use Rattle.std.proofs.lemmas.List.{take_all}
@@ -9,8 +12,10 @@ use Rattle.board_core.specs.Clock.{Passes}
 use Rattle.board_core.specs.Stop.{Left, InStore, Becomes}
 use Rattle.board_core.specs.declared.board.FileNo.{FileNo}
 use Rattle.board_core.specs.declared.board.FileNo.TheVariants.{Zero}
-use Rattle.board_core.specs.Told.{after_put, unless_refused}
-use Rattle.erst_store.specs.Device.{Device, act, device_with, volatile_of, with_put}
+use Rattle.board_core.specs.Told.{after_put, after_reg_write, unless_refused}
+use Rattle.board_core.specs.declared.board.Reg.{Reg}
+use Rattle.board_core.specs.declared.board.Reg.TheVariants.{Action}
+use Rattle.erst_store.specs.Device.{Device, Volatile, act, device_with, volatile_of, with_put}
 use Rattle.erst_store.specs.DeviceLaws.{IsDevice, MayChange}
 use Rattle.erst_store.specs.Steps.ActionLemmas.{kept}
 use Rattle.erst_store.specs.Store.{Stored, IsStore, refusal_of}
@@ -22,15 +27,18 @@ use Rattle.erst_store.specs.Steps.KeptLemmas.{IsDevice-new}
 use Rattle.erst_store.specs.Steps.StoreLemmas.{IsStore-nil}
 use Rattle.host_system.specs.BoardFile.{KeepsFile}
 use Rattle.host_system.specs.FolderPast.{FolderPast, IfTold, bytes_named, bytes_or, length_told}
-use Rattle.host_system.specs.View.{HasSettledStore, MayBeRead, MayBegin, clock_over, seen_if, seen_now, store_in, store_or, told_over, with_store}
+use Rattle.host_system.specs.StoreFile.{HasReplaced, KeepsWhole}
+use Rattle.host_system.specs.View.{HasSettledStore, HasWholeStore, MayBeRead, MayBegin, clock_over, seen_now, store_in, store_or, with_store}
 use Rattle.host_system.specs.Steps.FolderPastLemmas.{stands}
 use Rattle.host_system.specs.declared.system.FileName.TheVariants.{Store}
 use Rattle.ras_host.specs.JournalFiles.{AreHeld, files_for}
-use Rattle.ras_host.specs.Steps.KeptDevice.{Acts, BecomesBy, IsInStep, IsOver, Keeps, Turned, Turns, device_in, volatile_in}
+use Rattle.ras_host.specs.Steps.KeptDevice.{Acts, BecomesBy, IsInStep, IsSaved, IsUsed, Keeps, KeepsOrLoses, MayTurn, Settles, Turned, Turns, device_in, is_same_record, is_same_store, volatile_in}
+use Rattle.ras_host.specs.Steps.Settled.{IsSettledBy}
+use Rattle.ras_host.specs.Steps.Written.{Writes}
 use Rattle.ras_host.specs.declared.journal.Use.{Use}
 use Rattle.ras_host.specs.declared.journal.Use.TheVariants.{Alone, Reading}
 use Rattle.ras_host.specs.declared.kept.Kept.{Kept}
-use Rattle.ras_host.specs.declared.kept.Kept.TheVariants.{Unread, Here, Lost}
+use Rattle.ras_host.specs.declared.kept.Kept.TheVariants.{Unread, Here, Lost, Unreadable}
 use Rattle.ras_host.specs.declared.saved.Saved.{Saved}
 
 -- ---- the store's file is read
@@ -45,7 +53,7 @@ whole most n (Some bytes) is within = ap Some (take_all most bytes (short is))
     short : Some n ≡ Some (length bytes) → length bytes ≤ most
     short e = let count : n ≡ length bytes = cc in omega arith
 
-pub read_whole : {V E : Type 0} (items : V → List ℕ) (result : Result (Option V) E) (most n : ℕ) (a b : Option FolderPast) → b ≡ a → IfSome a HasSettledStore
+pub read_whole : {V E : Type 0} (items : V → List ℕ) (result : Result (Option V) E) (most n : ℕ) (a b : Option FolderPast) → b ≡ a → IfSome a HasWholeStore
     → IfSome a (λ p. Some n ≡ length_told Store p) → n ≤ most
     → IfOk result (λ found. IfSome b (λ p. MayBeRead Store p → option_map items found ≡ option_map (take most) (bytes_named Store p)))
     → IfOk result (λ found. IfSome a (λ p. option_map items found ≡ bytes_named Store p))
@@ -55,9 +63,9 @@ read_whole items (Ok found) most n (Some p) b same settled is within read =
     (subst (λ (o : Option FolderPast). IfSome o (λ p. MayBeRead Store p → option_map items found ≡ option_map (take most) (bytes_named Store p))) same read) settled
     ∙ whole most n (bytes_named Store p) is within
 
-pub settled_in : (kept : Kept) (told : Option FolderPast) → IfSome told (IsInStep kept) → IfSome told HasSettledStore
-settled_in kept None is = tt
-settled_in kept (Some p) is = is.settled
+pub whole_in : (kept : Kept) (told : Option FolderPast) → IfSome told (IsInStep kept) → IfSome told HasWholeStore
+whole_in kept None is = tt
+whole_in kept (Some p) is = is.whole
 
 pub on_any_err : {T E : Type 0} (P : Type 0) (result : Result T E) → P → OnErr result P
 on_any_err P (Ok x) holds = tt
@@ -76,12 +84,12 @@ pub stops_still : (step : Device → Device) (old : Kept) (before after : Option
 stops_still step old before after same = still (InStore (BecomesBy step old before)) (store_stays step old before) before after same
 
 same_file : (file : FileNo) (p : FolderPast) → KeepsFile file p p
-same_file file p = record { held = λ is. is; usable = λ is. is; openable = λ is. is }
+same_file file p = record { named = λ is. is; held = λ is. is; usable = λ is. is; openable = λ is. is }
 
 pub turns_kept : (old new : Kept) (before after : Option FolderPast) → after ≡ before → IfSome before (Keeps old new) → IfTold (Turns (λ d. d) old new) before after
 turns_kept old new None after same keeps = same
 turns_kept old new (Some p) after same keeps =
-    subst (λ (o : Option FolderPast). IfTold (Turns (λ d. d) old new) (Some p) o) (sym same) (record { device = keeps; sees = refl; files = λ file. same_file file p })
+    subst (λ (o : Option FolderPast). IfTold (Turns (λ d. d) old new) (Some p) o) (sym same) (record { device = keeps.device; sees = refl; files = λ file. same_file file p })
 
 -- an action that doesn't change the store
 pub action_stays : {T E : Type 0} (action : ℕ) (d new : Device) (result : Result T E) → ¬ MayChange action d → OnOk result (new ≡ act action d) → OnErr result (new ≡ d) → new.store ≡ d.store
@@ -93,133 +101,318 @@ pub action_acts : {T E F : Type 0} (action : ℕ) (d : Device) (saved : Saved) (
 action_acts action d saved new (Ok x) f other ok is device = record { saved = saved; kept = is; after = ok; store = kept action d other; device = device }
 action_acts action d saved new (Err e) f other ok is device = tt
 
+-- ---- a call that didn't touch the store's file
+
+pub settles_kept : (old new : Kept) (before after : Option FolderPast) → after ≡ before → IfSome before (Keeps old new) → IfTold (Settles old new) before after
+settles_kept old new None after same keeps = same
+settles_kept old new (Some p) after same keeps =
+    subst (λ (o : Option FolderPast). IfTold (Settles old new) (Some p) o) (sym same) (λ is. (keeps.saved is, inl refl))
+
+may_turn : (step : Device → Device) (old new : Kept) (before after : Option FolderPast) → IfTold (Turns (λ d. d) old new) before after → IfTold (MayTurn step old new) before after
+may_turn step old new None after turns = turns
+may_turn step old new (Some p) None turns = turns
+may_turn step old new (Some p) (Some q) turns = inl turns
+
+pub turned_kept : {T E : Type 0} (step : Device → Device) (old new : Kept) (e : E) (before after : Option FolderPast) → after ≡ before → IfSome before (Keeps old new) → IfSome after (IsInStep new)
+    → Turned {T = T} step old new (Err e) before after
+turned_kept step old new e before after same keeps is = record {
+  ok = tt;
+  err = may_turn step old new before after (turns_kept old new before after same keeps);
+  stops = stops_still step old before after same;
+  in_step = is;
+  saved = settles_kept old new before after same keeps;
+}
+
+used_saved : (old : Kept) (d : Device) → IsUsed old d → IsSaved old
+used_saved Unread d used = tt
+used_saved (Here saved) d used = tt
+used_saved (Lost before after) d used = absurd used
+used_saved Unreadable d used = absurd used
+
+-- the device that was taken out is the one that was kept
+taken_is : (saved : Saved) (old : Kept) (p : FolderPast) → saved.device ≡ device_in old p → device_in (Here saved) p ≡ device_in old p
+taken_is saved old p is = ap (λ (s : List Stored). device_with s (volatile_of saved.device)) (sym (ap (λ (d : Device). d.store) is)) ∙ is
+
+pub keeps_taken : (saved : Saved) (old new : Kept) (told : Option FolderPast) → IfSome told (λ p. saved.device ≡ device_in old p) → IsUsed old saved.device → IfSome told (Keeps (Here saved) new) → IfSome told (Keeps old new)
+keeps_taken saved old new None is used keeps = tt
+keeps_taken saved old new (Some p) is used keeps = record { device = keeps.device ∙ taken_is saved old p is; saved = λ now. used_saved old saved.device used }
+
+pub turns_taken : (step : Device → Device) (saved : Saved) (old new : Kept) (p q : FolderPast) → saved.device ≡ device_in old p → Turns step (Here saved) new p q → Turns step old new p q
+turns_taken step saved old new p q is turns =
+    let same : device_in (Here saved) p ≡ device_in old p = taken_is saved old p is in
+    record { device = turns.device ∙ ap step same; sees = turns.sees ∙ ap (λ (d : Device). with_store (step d).store (seen_now p)) same; files = turns.files }
+
+pub turned_taken : {T E : Type 0} (step : Device → Device) (saved : Saved) (old new : Kept) (result : Result T E) (before after : Option FolderPast) → IfSome before (λ p. saved.device ≡ device_in old p) → IsUsed old saved.device
+    → Turned step (Here saved) new result before after → Turned step old new result before after
+turned_taken step saved old new result None after is used turned =
+    record { ok = turned.ok; err = turned.err; stops = turned.stops; in_step = turned.in_step; saved = turned.saved }
+turned_taken step saved old new result (Some p) None is used turned =
+    record { ok = turned.ok; err = turned.err; stops = absurd turned.saved; in_step = turned.in_step; saved = turned.saved }
+turned_taken step saved old new result (Some p) (Some q) is used turned = record {
+  ok = on_ok_weaker result (turns_taken step saved old new p q is) turned.ok;
+  err = on_err_weaker result (λ may. elim may [ inl turns ↦ inl (turns_taken (λ d. d) saved old new p q is turns) | inr turns ↦ inr (turns_taken step saved old new p q is turns) ]) turned.err;
+  stops = subst (λ (d : Device). Passes (InStore (Becomes (step d).store)) (clock_over (Some p)) (clock_over (Some q))) (taken_is saved old p is) turned.stops;
+  in_step = turned.in_step;
+  saved = λ now. (used_saved old saved.device used, (turned.saved now).1);
+}
+
+-- an action does this
+pub turned_action : {T E : Type 0} (reg : Reg) (value : ℕ) (saved : Saved) (old new : Kept) (result : Result T E) (told before after : Option FolderPast) → reg ≡ Action → before ≡ told → IfSome told (λ p. saved.device ≡ device_in old p) → IsUsed old saved.device
+    → Turned (act value) (Here saved) new result before after → Turned (after_reg_write reg value) old new result told after
+turned_action {T = T} {E = E} reg value saved old new result told before after action same taken used turned =
+    subst (λ (r : Reg). Turned {T = T} {E = E} (after_reg_write r value) old new result told after) (sym action)
+    (turned_taken (act value) saved old new result told after taken used
+    (subst (λ (o : Option FolderPast). Turned {T = T} {E = E} (act value) (Here saved) new result o after) same turned))
+
+-- a step that left the store as it was
+in_step_acts : (saved : Saved) (store : List Stored) (p : FolderPast) → HasWholeStore p → saved.device.store ≡ (seen_now p).store → IsDevice saved.device → IsInStep (Here saved) p
+in_step_acts saved store p whole over kept =
+    record { over = over; device = subst (λ (s : List Stored). IsDevice (device_with s (volatile_of saved.device))) over kept; whole = whole }
+
+acts_turns : (step : Device → Device) (saved : Saved) (old : Kept) (p : FolderPast) → saved.device ≡ step (device_in old p) → (step (device_in old p)).store ≡ (seen_now p).store → Turns step old (Here saved) p p
+acts_turns step saved old p is store =
+    let over : saved.device.store ≡ (seen_now p).store = ap (λ (d : Device). d.store) is ∙ store in
+    record {
+      device = ap (λ (s : List Stored). device_with s (volatile_of saved.device)) (sym over) ∙ is;
+      sees = ap (λ (s : List Stored). with_store s (seen_now p)) (sym store);
+      files = λ file. same_file file p;
+    }
+
+-- what is known of a call that did a step that left the store as it was
+record DidStep (step : Device → Device) (old new : Kept) (before after : Option FolderPast) : Type 0 where
+  turns : IfTold (Turns step old new) before after
+  in_step : IfSome after (IsInStep new)
+  saved : IfTold (Settles old new) before after
+
+did_step : (step : Device → Device) (was : Device) (old new : Kept) (before after : Option FolderPast) → IfSome before (IsInStep old) → IfSome before (λ p. was ≡ device_in old p) → IsUsed old was → after ≡ before → Acts step was new → DidStep step old new before after
+did_step step was old new None after in_step taken used same acts =
+    record { turns = same; in_step = subst (λ (o : Option FolderPast). IfSome o (IsInStep new)) (sym same) tt; saved = same }
+did_step step was old new (Some p) after in_step taken used same acts =
+    let is : acts.saved.device ≡ step (device_in old p) = acts.after ∙ ap step taken in
+    let store : (step (device_in old p)).store ≡ (seen_now p).store = ap (λ (d : Device). (step d).store) (sym taken) ∙ (acts.store ∙ ap (λ (d : Device). d.store) taken) in
+    subst (λ (k : Kept). DidStep step old k (Some p) after) (sym acts.kept)
+    (subst (λ (o : Option FolderPast). DidStep step old (Here acts.saved) (Some p) o) (sym same) (record {
+      turns = acts_turns step acts.saved old p is store;
+      in_step = in_step_acts acts.saved (seen_now p).store p in_step.whole (ap (λ (d : Device). d.store) is ∙ store) acts.device;
+      saved = λ now. (used_saved old was used, inl refl);
+    }))
+
+pub acts_ok : {T E : Type 0} (step : Device → Device) (was : Device) (old new : Kept) (x : T) (before after : Option FolderPast) → IfSome before (IsInStep old) → IfSome before (λ p. was ≡ device_in old p) → IsUsed old was → after ≡ before
+    → Acts step was new → Turned {E = E} step old new (Ok x) before after
+acts_ok step was old new x before after in_step taken used same acts =
+    let did = did_step step was old new before after in_step taken used same acts in
+    record { ok = did.turns; err = tt; stops = stops_still step old before after same; in_step = did.in_step; saved = did.saved }
+
+pub acts_any : {T E : Type 0} (step : Device → Device) (was : Device) (old new : Kept) (result : Result T E) (before after : Option FolderPast) → IfSome before (IsInStep old) → IfSome before (λ p. was ≡ device_in old p) → IsUsed old was → after ≡ before
+    → OnOk result (Acts step was new) → OnErr result (Acts (λ d. d) was new) → Turned step old new result before after
+acts_any step was old new (Ok x) before after in_step taken used same ok err = acts_ok step was old new x before after in_step taken used same ok
+acts_any step was old new (Err e) before after in_step taken used same ok err =
+    let did = did_step (λ d. d) was old new before after in_step taken used same err in
+    record { ok = tt; err = may_turn step old new before after did.turns; stops = stops_still step old before after same; in_step = did.in_step; saved = did.saved }
+
 -- ---- the store's file is written
-
-pub told_is : (p : FolderPast) → HasSettledStore p → told_over (Some p) ≡ Some (seen_now p)
-told_is p is = ap (λ (b : Bool). seen_if b (seen_now p)) is
-
-seen_is : (x y : Left) → Some x ≡ Some y → x ≡ y
-seen_is x y e = cc
-
--- what a board sees is what is told
-pub sees_told : (f : Left → Left) (before after : Option FolderPast) → IfSome before HasSettledStore → IfSome after HasSettledStore → IfTold (KeepsFile Zero) before after → told_over after ≡ option_map f (told_over before) → IfTold (λ p q. seen_now q ≡ f (seen_now p)) before after
-sees_told f None after settled still files told = files
-sees_told f (Some p) None settled still files told = files
-sees_told f (Some p) (Some q) settled still files told = seen_is (seen_now q) (f (seen_now p)) (sym (told_is q still) ∙ (told ∙ ap (option_map f) (told_is p settled)))
 
 -- the bytes of a store's file are read as the store
 pub bytes_again : ((records : List Stored) → IsStore records → file_at (store_bytes records) ≡ Ok records) → (bytes : List ℕ) (store : List Stored) → IsStore store → bytes ≡ store_bytes store → store_in (Some bytes) ≡ store
 bytes_again again bytes store kept is = ap (λ (b : List ℕ). store_or (file_at b)) is ∙ ap store_or (again store kept)
 
--- a device is put back over the store that was written
-put_back : (old : Kept) (saved : Saved) (store : List Stored) (p q : FolderPast) → store ≡ saved.device.store → seen_now q ≡ with_store store (seen_now p) → ((file : FileNo) → KeepsFile file p q) → Turns (λ _. saved.device) old (Here saved) p q
-put_back old saved store p q is sees files = record {
-  device = ap (λ (s : List Stored). device_with s (volatile_of saved.device)) (ap (λ (l : Left). l.store) sees ∙ is);
-  sees = sees ∙ ap (λ (s : List Stored). with_store s (seen_now p)) is;
-  files = files;
-}
+-- the file has this store once that went well
+record Wrote {T E : Type 0} (store : List Stored) (result : Result T E) (p : FolderPast) (after : Option FolderPast) : Type 0 where
+  ok : OnOk result (IfTold (λ x y. seen_now y ≡ with_store store (seen_now x)) (Some p) after)
+  err : OnErr result (IfTold (λ x y. (seen_now y ≡ seen_now x) ⊎ (seen_now y ≡ with_store store (seen_now x))) (Some p) after)
+  files : (file : FileNo) → IfTold (KeepsFile file) (Some p) after
+  whole : IfSome after HasWholeStore
+  stops : Passes (InStore (Becomes store)) (clock_over (Some p)) (clock_over after)
+  saved : OnOk result (IfTold (λ x y. (y ≡ x) ⊎ HasSettledStore y) (Some p) after)
 
-pub turns_saved : (old : Kept) (saved : Saved) (store : List Stored) (before after : Option FolderPast) → store ≡ saved.device.store → IfTold (λ p q. seen_now q ≡ with_store store (seen_now p)) before after → ((file : FileNo) → IfTold (KeepsFile file) before after) → IfTold (Turns (λ _. saved.device) old (Here saved)) before after
-turns_saved old saved store None after is sees files = sees
-turns_saved old saved store (Some p) None is sees files = sees
-turns_saved old saved store (Some p) (Some q) is sees files = put_back old saved store p q is sees files
+had_ok : {T E : Type 0} (result : Result T E) → OnErr result ⊥ → (P Q : Type 0) → P → OnOk result P × OnErr result Q
+had_ok (Ok x) ok P Q holds = (holds, tt)
+had_ok (Err e) ok P Q holds = absurd ok
 
-pub in_step_saved : (saved : Saved) (store : List Stored) (before after : Option FolderPast) → IsDevice saved.device → store ≡ saved.device.store → IfSome after HasSettledStore → IfTold (λ p q. seen_now q ≡ with_store store (seen_now p)) before after → IfSome after (IsInStep (Here saved))
-in_step_saved saved store before None kept is settled sees = tt
-in_step_saved saved store None (Some q) kept is settled sees = absurd (not sees)
-  where
-    not : Some q ≡ None → ⊥
-    not e = cc
-in_step_saved saved store (Some p) (Some q) kept is settled sees =
-    let over : saved.device.store ≡ (seen_now q).store = sym (ap (λ (l : Left). l.store) sees ∙ is) in
-    record { over = over; device = subst (λ (s : List Stored). IsDevice (device_with s (volatile_of saved.device))) over kept; settled = settled }
+replaced_sees : {T E : Type 0} (bytes : List ℕ) (result : Result T E) (p : FolderPast) (after : Option FolderPast) → OnOk result (IfTold (HasReplaced bytes) (Some p) after) → OnOk result (IfTold (λ x y. seen_now y ≡ with_store (store_in (Some bytes)) (seen_now x)) (Some p) after)
+replaced_sees bytes result p None is = is
+replaced_sees bytes result p (Some q) is = on_ok_weaker result (λ r. r.seen) is
 
-pub stops_saved : (device : Device) (old : Kept) (store : List Stored) (before after : Option FolderPast) → store ≡ device.store → IfTold (KeepsFile Zero) before after → Passes (InStore (Becomes store)) (clock_over before) (clock_over after) → Passes (InStore (BecomesBy (λ _. device) old before)) (clock_over before) (clock_over after)
-stops_saved device old store None after is files stops = stops_still (λ _. device) old None after files
-stops_saved device old store (Some p) after is files stops = subst (λ (s : List Stored). Passes (InStore (Becomes s)) (clock_over (Some p)) (clock_over after)) is stops
+replaced_settles : {T E : Type 0} (bytes : List ℕ) (result : Result T E) (p : FolderPast) (after : Option FolderPast) → OnOk result (IfTold (HasReplaced bytes) (Some p) after) → OnOk result (IfTold (λ x y. (y ≡ x) ⊎ HasSettledStore y) (Some p) after)
+replaced_settles bytes result p None is = is
+replaced_settles bytes result p (Some q) is = on_ok_weaker result (λ r. inr r.settled) is
 
--- what a board sees is as it was
-pub sees_same : (before after : Option FolderPast) → IfSome before HasSettledStore → IfSome after HasSettledStore → IfTold (KeepsFile Zero) before after → told_over after ≡ told_over before → IfTold (λ p q. seen_now q ≡ seen_now p) before after
-sees_same None after settled still files told = files
-sees_same (Some p) None settled still files told = files
-sees_same (Some p) (Some q) settled still files told = seen_is (seen_now q) (seen_now p) (sym (told_is q still) ∙ (told ∙ told_is p settled))
+replaced_whole : (p : FolderPast) (after : Option FolderPast) → HasWholeStore p → IfTold KeepsWhole (Some p) after → IfSome after HasWholeStore
+replaced_whole p None whole keeps = tt
+replaced_whole p (Some q) whole keeps = keeps whole
 
-pub turns_unsaved : (old : Kept) (before after : Option FolderPast) → IfTold (λ p q. seen_now q ≡ seen_now p) before after → ((file : FileNo) → IfTold (KeepsFile file) before after) → IfTold (Turns (λ d. d) old old) before after
-turns_unsaved old None after sees files = sees
-turns_unsaved old (Some p) None sees files = sees
-turns_unsaved old (Some p) (Some q) sees files = record { device = ap (λ (l : Left). device_with l.store (volatile_in old)) sees; sees = sees; files = files }
-
-pub in_step_unsaved : (old : Kept) (before after : Option FolderPast) → IfSome before (IsInStep old) → IfSome after HasSettledStore → IfTold (λ p q. seen_now q ≡ seen_now p) before after → IfSome after (IsInStep old)
-in_step_unsaved old None after is settled sees = subst (λ (o : Option FolderPast). IfSome o (IsInStep old)) (sym sees) tt
-in_step_unsaved old (Some p) None is settled sees = tt
-in_step_unsaved old (Some p) (Some q) is settled sees = record {
-  over = subst (λ (l : Left). IsOver old l.store) (sym sees) is.over;
-  device = subst (λ (l : Left). IsDevice (device_with l.store (volatile_in old))) (sym sees) is.device;
-  settled = settled;
+wrote : {T E : Type 0} (had bytes : List ℕ) (result : Result T E) (p : FolderPast) (after : Option FolderPast) → store_in (Some had) ≡ (seen_now p).store → HasWholeStore p → Writes had bytes result (Some p) after → Wrote (store_in (Some bytes)) result p after
+wrote {T = T} {E = E} had bytes result p after was whole (inl had_them) =
+    let store : store_in (Some bytes) ≡ (seen_now p).store = ap (λ (b : List ℕ). store_in (Some b)) had_them.same ∙ was in
+    let seen : seen_now p ≡ with_store (store_in (Some bytes)) (seen_now p) = ap (λ (s : List Stored). with_store s (seen_now p)) (sym store) in
+    subst (λ (o : Option FolderPast). Wrote {T = T} {E = E} (store_in (Some bytes)) result p o) (sym had_them.told) (record {
+      ok = (had_ok result had_them.ok (seen_now p ≡ with_store (store_in (Some bytes)) (seen_now p)) ⊥ seen).0;
+      err = (had_ok result had_them.ok (Unit {0}) ((seen_now p ≡ seen_now p) ⊎ (seen_now p ≡ with_store (store_in (Some bytes)) (seen_now p))) tt).1;
+      files = λ file. same_file file p;
+      whole = whole;
+      stops = stands (InStore (Becomes (store_in (Some bytes)))) (clock_over (Some p)) (λ left. record { store = left.store; step = inl refl; rest = refl });
+      saved = (had_ok result had_them.ok ((p ≡ p) ⊎ HasSettledStore p) ⊥ (inl refl)).0;
+    })
+wrote had bytes result p after was whole (inr replaces) = record {
+  ok = replaced_sees bytes result p after replaces.ok;
+  err = replaces.err;
+  files = replaces.files;
+  whole = replaced_whole p after whole replaces.whole;
+  stops = replaces.stops;
+  saved = replaced_settles bytes result p after replaces.ok;
 }
 
 -- ---- the device is saved, or that failed
 
-pub turned_saved : {T E : Type 0} (saved : Saved) (old : Kept) (store : List Stored) (x : T) (before after : Option FolderPast) → store ≡ saved.device.store → IsDevice saved.device → IfSome before HasSettledStore → IfSome after HasSettledStore
-    → ((file : FileNo) → IfTold (KeepsFile file) before after) → told_over after ≡ option_map (with_store store) (told_over before)
-    → Passes (InStore (Becomes store)) (clock_over before) (clock_over after) → Turned {E = E} (λ _. saved.device) old (Here saved) (Ok x) before after
-turned_saved saved old store x before after is kept settled still files told stops =
-    let sees = sees_told (with_store store) before after settled still (files Zero) told in
-    record {
-      ok = turns_saved old saved store before after is sees files;
-      err = tt;
-      stops = stops_saved saved.device old store before after is (files Zero) stops;
-      in_step = in_step_saved saved store before after kept is still sees;
-    }
+same_record_decides : (a b : Stored) → Decides (is_same_record a b) (a ≡ b)
+same_record_decides a b = (
+  (λ is. (let both = and_both (nat_eq a.id b.id) (pointwise nat_eq a.bytes b.bytes) is in
+      ap (λ (n : ℕ). record { id = n; bytes = a.bytes }) ((unsigned_Decides a.id b.id).0 both.0) ∙ ap (λ (l : List ℕ). record { id = b.id; bytes = l }) ((bytes_decides a.bytes b.bytes).0 both.1))),
+  (λ is. and_is (nat_eq a.id b.id) (pointwise nat_eq a.bytes b.bytes) ((unsigned_Decides a.id b.id).1 (ap (λ (r : Stored). r.id) is)) ((bytes_decides a.bytes b.bytes).1 (ap (λ (r : Stored). r.bytes) is))),
+)
+  where
+    and_both : (x y : Bool) → (x && y) ≡ true → (x ≡ true) × (y ≡ true)
+    and_both true true is = (refl, refl)
+    and_both true false is = absurd cc
+    and_both false y is = absurd cc
 
-pub turned_saved_as : {T E : Type 0} (device : Device) (saved : Saved) (old : Kept) (store : List Stored) (x : T) (before after : Option FolderPast) → saved.device ≡ device → store ≡ device.store → IsDevice device → IfSome before HasSettledStore → IfSome after HasSettledStore
-    → ((file : FileNo) → IfTold (KeepsFile file) before after) → told_over after ≡ option_map (with_store store) (told_over before)
-    → Passes (InStore (Becomes store)) (clock_over before) (clock_over after) → Turned {E = E} (λ _. device) old (Here saved) (Ok x) before after
-turned_saved_as {T = T} {E = E} device saved old store x before after same is kept settled still files told stops =
-    subst (λ (d : Device). Turned {T = T} {E = E} (λ _. d) old (Here saved) (Ok x) before after) same
-    (turned_saved saved old store x before after (is ∙ ap (λ (d : Device). d.store) (sym same)) (subst IsDevice (sym same) kept) settled still files told stops)
+    and_is : (x y : Bool) → x ≡ true → y ≡ true → (x && y) ≡ true
+    and_is true true one two = refl
+    and_is true false one two = absurd cc
+    and_is false y one two = absurd cc
 
-pub turned_unsaved : {T E : Type 0} (device : Device) (old : Kept) (store : List Stored) (e : E) (before after : Option FolderPast) → store ≡ device.store → IfSome before (IsInStep old) → IfSome after HasSettledStore
-    → ((file : FileNo) → IfTold (KeepsFile file) before after) → told_over after ≡ told_over before
-    → Passes (InStore (Becomes store)) (clock_over before) (clock_over after) → Turned {T = T} (λ _. device) old old (Err e) before after
-turned_unsaved device old store e before after same is still files told stops =
-    let sees = sees_same before after (settled_in old before is) still (files Zero) told in
-    record {
-      ok = tt;
-      err = turns_unsaved old before after sees files;
-      stops = stops_saved device old store before after same (files Zero) stops;
-      in_step = in_step_unsaved old before after is still sees;
-    }
+-- of a lost device what is told is the one that the file holds
+lost_is : (before after : Device) (store : List Stored) → ((store ≡ after.store) × (volatile_in (Lost before after) store ≡ volatile_of after)) ⊎ ((store ≢ after.store) × (volatile_in (Lost before after) store ≡ volatile_of before))
+lost_is before after store = by (is_same_store store after.store) refl
+  where
+    by : (b : Bool) → is_same_store store after.store ≡ b → ((store ≡ after.store) × (volatile_in (Lost before after) store ≡ volatile_of after)) ⊎ ((store ≢ after.store) × (volatile_in (Lost before after) store ≡ volatile_of before))
+    by true is = inl ((pointwise_decides same_record_decides store after.store).0 is, ap (λ (b : Bool). if b then volatile_of after else volatile_of before) is)
+    by false is = inr (not_same, ap (λ (b : Bool). if b then volatile_of after else volatile_of before) is)
+      where
+        not_true : false ≡ true → ⊥
+        not_true e = cc
 
--- ---- a device was made of the one that was taken out, and saved
+        not_same : store ≢ after.store
+        not_same e = not_true (sym is ∙ (pointwise_decides same_record_decides store after.store).1 e)
 
-turns_to : (step : Device → Device) (made : Device) (lost old new : Kept) (p : FolderPast) (after : Option FolderPast) → made ≡ step (device_in old p) → IfTold (Turns (λ _. made) lost new) (Some p) after → IfTold (Turns step old new) (Some p) after
-turns_to step made lost old new p None same turns = turns
-turns_to step made lost old new p (Some q) same turns =
-    record { device = turns.device ∙ same; sees = turns.sees ∙ ap (λ (d : Device). with_store d.store (seen_now p)) same; files = turns.files }
+-- the step that a lost device has taken, or none
+record LostAs (step : Device → Device) (old : Kept) (before made : Device) (p q : FolderPast) : Type 0 where
+  turns : MayTurn step old (Lost before made) p q
+  device : IsDevice (device_in (Lost before made) q)
 
-turns_back : (lost old new : Kept) (p : FolderPast) (after : Option FolderPast) → device_in lost p ≡ device_in old p → IfTold (Turns (λ d. d) lost new) (Some p) after → IfTold (Turns (λ d. d) old new) (Some p) after
-turns_back lost old new p None same turns = turns
-turns_back lost old new p (Some q) same turns = record { device = turns.device ∙ same; sees = turns.sees; files = turns.files }
+lost_as : (step : Device → Device) (saved : Saved) (before made : Device) (p q : FolderPast) → IsInStep (Here saved) p → before ≡ record saved.device { store = [] } → made ≡ step (device_in (Here saved) p) → IsDevice made
+    → ((seen_now q ≡ seen_now p) ⊎ (seen_now q ≡ with_store made.store (seen_now p))) → ((file : FileNo) → KeepsFile file p q) → LostAs step (Here saved) before made p q
+lost_as step saved before made p q is was same kept sees files = elim (lost_is before made (seen_now q).store) [
+  | inl acted ↦
+      (let seen : seen_now q ≡ with_store made.store (seen_now p) = elim sees [
+        | inl still ↦ still ∙ ap (λ (s : List Stored). with_store s (seen_now p)) (sym (ap (λ (l : Left). l.store) still) ∙ acted.0)
+        | inr new ↦ new
+      ] in
+      let device : device_in (Lost before made) q ≡ made = ap (λ (v : Volatile). device_with (seen_now q).store v) acted.1 ∙ ap (λ (s : List Stored). device_with s (volatile_of made)) acted.0 in
+      record {
+        turns = inr (record { device = device ∙ same; sees = seen ∙ ap (λ (d : Device). with_store d.store (seen_now p)) same; files = files });
+        device = subst IsDevice (sym device) kept;
+      })
+  | inr not_acted ↦
+      (let still : seen_now q ≡ seen_now p = elim sees [ inl still ↦ still | inr new ↦ absurd (not_acted.0 (ap (λ (l : Left). l.store) new)) ] in
+      let device : device_in (Lost before made) q ≡ device_in (Here saved) p =
+      ap (λ (v : Volatile). device_with (seen_now q).store v) not_acted.1
+      ∙ (ap (λ (d : Device). device_with (seen_now q).store (volatile_of d)) was
+      ∙ ap (λ (l : Left). device_with l.store (volatile_of saved.device)) still) in
+      record {
+        turns = inl (record { device = device; sees = still; files = files });
+        device = subst IsDevice (sym device) is.device;
+      })
+]
 
-pub turned_to : {T E : Type 0} (step : Device → Device) (saved : Saved) (before made : Device) (new : Kept) (result : Result T E) (told after : Option FolderPast) → IfSome told (IsInStep (Here saved))
-    → before ≡ record saved.device { store = [] } → made ≡ step saved.device
-    → Turned (λ _. made) (Lost (Some before)) new result told after → Turned step (Here saved) new result told after
-turned_to step saved before made new result None after is kept same turned = record { ok = turned.ok; err = turned.err; stops = turned.stops; in_step = turned.in_step }
-turned_to step saved before made new result (Some p) after is kept same turned =
+-- a call that lost the device
+pub turned_lost : {T E : Type 0} (step : Device → Device) (saved : Saved) (before made : Device) (new : Kept) (e : E) (p : FolderPast) (after : Option FolderPast) → IsInStep (Here saved) p → before ≡ record saved.device { store = [] }
+    → made ≡ step saved.device → IsDevice made → new ≡ Lost before made → IfTold (λ x y. (seen_now y ≡ seen_now x) ⊎ (seen_now y ≡ with_store made.store (seen_now x))) (Some p) after
+    → ((file : FileNo) → IfTold (KeepsFile file) (Some p) after) → IfSome after HasWholeStore → Passes (InStore (Becomes made.store)) (clock_over (Some p)) (clock_over after) → Turned {T = T} step (Here saved) new (Err e) (Some p) after
+turned_lost step saved before made new e p None is was same kept lost sees files whole stops = absurd sees
+turned_lost {T = T} {E = E} step saved before made new e p (Some q) is was same kept lost sees files whole stops =
     let taken : saved.device ≡ device_in (Here saved) p = ap (λ (s : List Stored). device_with s (volatile_of saved.device)) is.over in
-    let stays : device_in (Lost (Some before)) p ≡ device_in (Here saved) p = ap (λ (d : Device). device_with (seen_now p).store (volatile_of d)) kept in
     let made_is : made ≡ step (device_in (Here saved) p) = same ∙ ap step taken in
-    record {
-      ok = on_ok_weaker result (turns_to step made (Lost (Some before)) (Here saved) new p after made_is) turned.ok;
-      err = on_err_weaker result (turns_back (Lost (Some before)) (Here saved) new p after stays) turned.err;
-      stops = subst (λ (d : Device). Passes (InStore (Becomes d.store)) (clock_over (Some p)) (clock_over after)) made_is turned.stops;
-      in_step = turned.in_step;
-    }
+    let ends = lost_as step saved before made p q is was made_is kept sees files in
+    subst (λ (k : Kept). Turned {T = T} {E = E} step (Here saved) k (Err e) (Some p) (Some q)) (sym lost) (record {
+      ok = tt;
+      err = ends.turns;
+      stops = subst (λ (d : Device). Passes (InStore (Becomes d.store)) (clock_over (Some p)) (clock_over (Some q))) made_is stops;
+      in_step = record { over = tt; device = ends.device; whole = whole };
+      saved = λ never. absurd never;
+    })
+
+-- a call that kept the device
+turned_put_back : {T E : Type 0} (step : Device → Device) (saved made : Saved) (new : Kept) (x : T) (p : FolderPast) (after : Option FolderPast) → IsInStep (Here saved) p → made.device ≡ step saved.device → IsDevice made.device → new ≡ Here made
+    → IfTold (λ x y. seen_now y ≡ with_store made.device.store (seen_now x)) (Some p) after → ((file : FileNo) → IfTold (KeepsFile file) (Some p) after) → IfSome after HasWholeStore
+    → Passes (InStore (Becomes made.device.store)) (clock_over (Some p)) (clock_over after) → IfTold (λ x y. (y ≡ x) ⊎ HasSettledStore y) (Some p) after → Turned {E = E} step (Here saved) new (Ok x) (Some p) after
+turned_put_back step saved made new x p None is same kept here sees files whole stops settled = absurd sees
+turned_put_back {T = T} {E = E} step saved made new x p (Some q) is same kept here sees files whole stops settled =
+    let taken : saved.device ≡ device_in (Here saved) p = ap (λ (s : List Stored). device_with s (volatile_of saved.device)) is.over in
+    let made_is : made.device ≡ step (device_in (Here saved) p) = same ∙ ap step taken in
+    let over : made.device.store ≡ (seen_now q).store = sym (ap (λ (l : Left). l.store) sees) in
+    subst (λ (k : Kept). Turned {T = T} {E = E} step (Here saved) k (Ok x) (Some p) (Some q)) (sym here) (record {
+      ok = record {
+        device = ap (λ (s : List Stored). device_with s (volatile_of made.device)) (sym over) ∙ made_is;
+        sees = sees ∙ ap (λ (d : Device). with_store d.store (seen_now p)) made_is;
+        files = files;
+      };
+      err = tt;
+      stops = subst (λ (d : Device). Passes (InStore (Becomes d.store)) (clock_over (Some p)) (clock_over (Some q))) made_is stops;
+      in_step = record { over = over; device = subst (λ (s : List Stored). IsDevice (device_with s (volatile_of made.device))) over kept; whole = whole };
+      saved = λ now. (tt, settled);
+    })
+
+-- where nothing is told
+turned_untold : {T E : Type 0} (step : Device → Device) (old new : Kept) (result : Result T E) (after : Option FolderPast) → after ≡ None → Turned step old new result None after
+turned_untold step old new result after same = record {
+  ok = any_ok result;
+  err = any_err result;
+  stops = stops_still step old None after same;
+  in_step = subst (λ (o : Option FolderPast). IfSome o (IsInStep new)) (sym same) tt;
+  saved = same;
+}
+  where
+    any_ok : {T E : Type 0} (result : Result T E) → OnOk result (after ≡ None)
+    any_ok (Ok x) = same
+    any_ok (Err e) = tt
+
+    any_err : {T E : Type 0} (result : Result T E) → OnErr result (after ≡ None)
+    any_err (Ok x) = tt
+    any_err (Err e) = same
+
+writes_untold : {T E : Type 0} (had bytes : List ℕ) (result : Result T E) (after : Option FolderPast) → Writes had bytes result None after → after ≡ None
+writes_untold had bytes result after (inl had_them) = had_them.told
+writes_untold had bytes result after (inr replaces) = replaces.files Zero
+
+-- a device was made of the one that was taken out, and its store was to come into the file
+pub turned_wrote : {T E : Type 0} (step : Device → Device) (saved made : Saved) (had : List ℕ) (before : Device) (new : Kept) (result : Result T E) (told after : Option FolderPast) → ((records : List Stored) → IsStore records → file_at (store_bytes records) ≡ Ok records)
+    → IfSome told (IsInStep (Here saved)) → before ≡ record saved.device { store = [] } → made.device ≡ step saved.device → IsDevice made.device → KeepsOrLoses result before made new
+    → had ≡ saved.file.items → Writes had made.file.items result told after → Turned step (Here saved) new result told after
+turned_wrote step saved made had before new result None after again is was same kept keeps held writes = turned_untold step (Here saved) new result after (writes_untold had made.file.items result after writes)
+turned_wrote {T = T} {E = E} step saved made had before new result (Some p) after again is was same kept keeps held writes =
+    let store : IsStore saved.device.store = subst IsStore (sym is.over) is.device.store in
+    let w : Wrote {T = T} {E = E} made.device.store result p after =
+    subst (λ (s : List Stored). Wrote {T = T} {E = E} s result p after) (bytes_again again made.file.items made.device.store kept.store made.same)
+    (wrote had made.file.items result p after (bytes_again again had saved.device.store store (held ∙ saved.same) ∙ is.over) is.whole writes) in
+    by result keeps w
+  where
+    by : (result : Result T E) → KeepsOrLoses result before made new → Wrote {T = T} {E = E} made.device.store result p after → Turned step (Here saved) new result (Some p) after
+    by (Ok x) keeps w = turned_put_back step saved made new x p after is same kept keeps w.ok w.files w.whole w.stops w.saved
+    by (Err e) keeps w = turned_lost step saved before made.device new e p after is was same kept keeps w.err w.files w.whole w.stops
+
+-- the device was made, and its store didn't come to the file
+pub turned_unwritten : {T E : Type 0} (step : Device → Device) (saved : Saved) (before made : Device) (new : Kept) (e : E) (told after : Option FolderPast) → after ≡ told → IfSome told (IsInStep (Here saved)) → before ≡ record saved.device { store = [] }
+    → made ≡ step saved.device → IsDevice made → new ≡ Lost before made → Turned {T = T} step (Here saved) new (Err e) told after
+turned_unwritten step saved before made new e None after same is was made_is kept lost = turned_untold step (Here saved) new (Err e) after same
+turned_unwritten {T = T} {E = E} step saved before made new e (Some p) after same is was made_is kept lost =
+    subst (λ (o : Option FolderPast). Turned {T = T} {E = E} step (Here saved) new (Err e) (Some p) o) (sym same)
+    (turned_lost step saved before made new e p (Some p) is was made_is kept lost (inl refl) (λ file. same_file file p) is.whole
+    (stands (InStore (Becomes made.store)) (clock_over (Some p)) (λ left. record { store = left.store; step = inl refl; rest = refl })))
 
 pub turned_or : {T E F : Type 0} (step : Device → Device) (old new : Kept) (result : Result T E) (f : F) (before after : Option FolderPast) → Turned step old new result before after → Turned step old new (result_or result (Err f)) before after
-turned_or step old new (Ok x) f before after turned = record { ok = turned.ok; err = tt; stops = turned.stops; in_step = turned.in_step }
-turned_or step old new (Err e) f before after turned = record { ok = tt; err = turned.err; stops = turned.stops; in_step = turned.in_step }
+turned_or step old new (Ok x) f before after turned = record { ok = turned.ok; err = tt; stops = turned.stops; in_step = turned.in_step; saved = turned.saved }
+turned_or step old new (Err e) f before after turned = record { ok = tt; err = turned.err; stops = turned.stops; in_step = turned.in_step; saved = turned.saved }
 
 pub put_is : (id : ℕ) (bytes : List ℕ) (d made : Device) → made ≡ with_put id bytes d → refusal_of id bytes d.store ≡ None → made ≡ after_put id bytes d
 put_is id bytes d made is free = is ∙ ap (λ (r : Option PutRefused). unless_refused r (with_put id bytes d) d) (sym free)
@@ -239,10 +432,15 @@ in_step_begun law None may = tt
 in_step_begun law (Some p) may = record {
   over = tt;
   device = IsDevice-new (seen_now p).store 0 (law p may) (omega arith);
-  settled = may.settled;
+  whole = may.whole;
 }
 
 pub held_begun : (how : Use) (told : Option FolderPast) → IfSome told MayBegin → IfSome told (AreHeld (files_for how))
 held_begun how None may = tt
 held_begun Alone (Some p) may = record { zero = may.zero; one = may.one }
-held_begun Reading (Some p) may = tt
+held_begun Reading (Some p) may = record { zero = may.zero; one = may.one }
+
+pub settled_begun : (how : Use) (kept : Kept) (told : Option FolderPast) → IfSome told (IsSettledBy (files_for how) kept)
+settled_begun how kept None = tt
+settled_begun Alone kept (Some p) = λ never. absurd never
+settled_begun Reading kept (Some p) = λ never. absurd never

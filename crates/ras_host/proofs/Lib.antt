@@ -1,3 +1,4 @@
-mod JournalLemmas
+pub mod JournalLemmas
 pub mod KeptLemmas
+mod ReadLemmas
 pub mod ToldLemmas

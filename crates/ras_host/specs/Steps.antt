@@ -2,4 +2,6 @@
 pub mod BoardLaws
 pub mod KeptDevice
 pub mod Listed
+pub mod Settled
 pub mod Telling
+pub mod Written

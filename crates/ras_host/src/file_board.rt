@@ -5,7 +5,7 @@ ghost use Rattle.board_core.specs.Stop.{Left};
 ghost use Rattle.host_system.specs.View.{MayBegin};
 ghost use Rattle.ras_host.specs.Steps.Telling.{clock_of, told_of};
 ghost use Rattle.ras_host.specs.JournalFiles.{files_for};
-ghost use Rattle.ras_host.specs.Steps.BoardLaws.{board_told_left, board_text_left, board_store_left, board_earlier_left};
+ghost use Rattle.ras_host.specs.Steps.BoardLaws.{board_told_left, board_text_left, board_earlier_left};
 
 use crate::faults::{count_put, counted};
 use crate::journal::{JournalFiles, Use};
@@ -17,9 +17,8 @@ use host_system::{Notes, System, print};
 use std::alloc::Global;
 use std::marker::Model;
 
-/// The files `rasd.0`, `rasd.1` and `rasd.store` of the working folder, and standard output. A run's
-/// board tells what a system tells of them; a report's tells nothing. Each call that fails is
-/// counted, by its kind.
+/// The files `rasd.0`, `rasd.1` and `rasd.store` of the working folder, and standard output, of which
+/// it tells what the system tells. Each call that fails is counted, by its kind.
 ///
 /// The record store is read at the device's first use, and empty if its file is missing. Each
 /// change of it is brought into its file before the call answers.
@@ -41,6 +40,7 @@ impl<S: System + Drop> Model for FileBoard<S> {
     ghost use Rattle.ras_host.specs.BoardState.{BoardState};
     ghost use Rattle.ras_host.specs.JournalFiles.{AreHeld};
     ghost use Rattle.ras_host.specs.Steps.KeptDevice.{IsInStep};
+    ghost use Rattle.ras_host.specs.Steps.Settled.{IsSettledBy};
 
     ghost Value = { BoardState };
 
@@ -58,7 +58,8 @@ impl<S: System + Drop> Model for FileBoard<S> {
     } };
 
     ghost invariant = { λ b. IfSome (S.told b.system) (AreHeld b.files)
-        × IfSome (S.told b.system) (IsInStep b.kept) };
+        × IfSome (S.told b.system) (IsInStep b.kept)
+        × IfSome (S.told b.system) (IsSettledBy b.files b.kept) };
 }
 
 impl<S: System + Drop> FileBoard<S> {
@@ -104,8 +105,6 @@ impl<S: System + Drop> Board for FileBoard<S> {
 
     ghost text_is_left = { λ b t left told now. board_text_left b t left told now };
 
-    ghost store_is_left = { λ b t left told now. board_store_left b t left told now };
-
     ghost counts_earlier = { λ b s t left within may. board_earlier_left b s t left within may };
 
     fn size(&mut self, file: FileNo) -> Result<u64, Failed> {
@@ -134,9 +133,14 @@ impl<S: System + Drop> Board for FileBoard<S> {
         counted(answer, &mut self.disk_faults)
     }
 
+    // Once a change of the store may not have come into its file, it isn't known which store the
+    // disk has. A sync that goes well would say so.
     fn sync(&mut self, file: FileNo) -> Result<(), Failed> {
-        let answer = self.files.sync(self.alloc, file, &mut self.system);
         list_disk_call(DiskCall::Sync(file), &mut self.disk_calls);
+        if !self.kept.is_saved() {
+            return counted(Err(Failed), &mut self.disk_faults);
+        }
+        let answer = self.files.sync(self.alloc, file, &mut self.system);
         counted(answer, &mut self.disk_faults)
     }
 

@@ -1,15 +1,17 @@
 //! The journal's files, `rasd.0` and `rasd.1`.
-ghost use Rattle.std.specs.Prelude.{◌≡◌, ◌≤◌, length, IsTrue, IfSome, IfOk, OnOk, OnErr};
+ghost use Rattle.std.specs.Prelude.{◌≡◌, ◌≤◌, length, IfSome, IfOk, OnOk, OnErr};
 ghost use Rattle.board_core.specs.Clock.{IsSynced};
 ghost use Rattle.board_core.specs.Stop.{Same, InFile, file_in};
 ghost use Rattle.board_core.specs.Told.{ReadsBytes, Torn};
 ghost use Rattle.host_system.specs.BoardFile.{SeesSame, SeesWritten, SeesTorn};
 ghost use Rattle.host_system.specs.View.{clock_over, seen_now};
-ghost use Rattle.ras_host.specs.JournalFiles.{AreHeld, Moves, files_for, is_run};
+ghost use Rattle.ras_host.specs.JournalFiles.{AreHeld, IsOneSound, Moves, files_for};
 
-use crate::reading::{Pair, read_journal};
+use crate::reading::{Pair, ReadFile, read_journal};
 use board_core::{Failed, FileNo};
-use host_system::{System, file_size, open_files, read_file, sync_file, write_file};
+use host_system::{
+    System, file_size, open_files, read_file, sync_file, sync_names, sync_seen, write_file,
+};
 use std::alloc::Global;
 
 /// What a board is to do with the journal's files.
@@ -22,18 +24,20 @@ pub enum Use {
     Reading,
 }
 
-/// The journal's files, both of which are opened at the first use of one.
+/// The journal's files, both of which are opened at the first use of one. What was written to a file
+/// before a sync that failed may be gone, though a later one goes well: so it isn't asked again.
 #[derive(Drop)]
 pub enum JournalFiles {
     /// A run's, which aren't open yet.
     Shut,
-    /// A run's, which are open and locked: of each, whether all its syncs went well. What was
-    /// written to a file before a sync that failed may be gone, though a later one goes well.
+    /// A run's, of which each that is sound is open and locked, its name is on the disk, and all its
+    /// syncs went well. If opening failed, neither is sound.
     Open(Pair<bool>),
     /// A report's, which aren't read yet.
     Unread,
-    /// A report's: the bytes of both at one moment.
-    Seen(Pair<Vec<u8>>),
+    /// A report's: what was read of both at one moment, and of each whether its name is on the disk
+    /// and all its syncs went well.
+    Seen(Pair<ReadFile>, Pair<bool>),
 }
 
 impl JournalFiles {
@@ -58,18 +62,19 @@ impl JournalFiles {
         ensures moves { Moves SeesSame Same self.old self.new (S.told system.old)
             (S.told system.new) }
         ensures held { IfSome (S.told system.new) (AreHeld self.new) }
-        ensures length { IsTrue (is_run self.old) → IfOk result (λ n. IfSome (S.told system.old)
+        ensures length { IfOk result (λ n. IfSome (S.told system.old)
             (λ p. n ≡ length (file_in file (seen_now p)))) }
     {
         self.open(alloc, system)?;
         match self {
             JournalFiles::Open(sound) if *sound.of(file) => file_size(file, system),
-            JournalFiles::Seen(seen) => Ok(seen.of(file).len() as u64),
+            JournalFiles::Seen(files, _) => Ok(files.of(file).length),
             _ => Err(Failed),
         }
     }
 
-    /// Reads from `place` on until the buffer is full or the file ends.
+    /// Reads from `place` on until the buffer is full or the file ends. A report fails past what it
+    /// read of a file that is too long.
     pub fn read_at<S: System>(
         &mut self,
         alloc: Global,
@@ -83,18 +88,18 @@ impl JournalFiles {
             (S.told system.new) }
         ensures held { IfSome (S.told system.new) (AreHeld self.new) }
         ensures within { IfOk result (λ n. n ≤ length buf.old) }
-        ensures read { IsTrue (is_run self.old) → IfOk result (λ n. IfSome (S.told system.old)
+        ensures read { IfOk result (λ n. IfSome (S.told system.old)
             (λ p. ReadsBytes place n buf.new (file_in file (seen_now p)))) }
     {
         self.open(alloc, system)?;
         match self {
             JournalFiles::Open(sound) if *sound.of(file) => read_file(file, place, buf, system),
-            JournalFiles::Seen(seen) => Ok(copy_from(seen.of(file), place, buf)),
+            JournalFiles::Seen(files, _) => files.of(file).read_at(place, buf),
             _ => Err(Failed),
         }
     }
 
-    /// Writes bytes at a place that is at most the file's length.
+    /// Writes bytes at a place that is at most the file's length. A report writes none and fails.
     pub fn write_at<S: System>(
         &mut self,
         alloc: Global,
@@ -104,7 +109,7 @@ impl JournalFiles {
         system: &mut S,
     ) -> Result<(), Failed>
         requires held { IfSome (S.told system.old) (AreHeld self.old) }
-        requires within { IsTrue (is_run self.old) → IfSome (S.told system.old)
+        requires within { IfSome (S.told system.old)
             (λ p. place ≤ length (file_in file (seen_now p))) }
         ensures wrote { OnOk result (Moves (SeesWritten file place bytes.now)
             (InFile file (Torn place (length bytes.now))) self.old self.new
@@ -132,8 +137,9 @@ impl JournalFiles {
         ensures moves { Moves SeesSame Same self.old self.new (S.told system.old)
             (S.told system.new) }
         ensures held { IfSome (S.told system.new) (AreHeld self.new) }
-        ensures synced { IsTrue (is_run self.old) → OnOk result (IfSome (S.told system.old)
+        ensures synced { OnOk result (IfSome (S.told system.old)
             (λ p. IsSynced file (file_in file (seen_now p)) (clock_over (S.told system.new)))) }
+        ensures sound { OnOk result (IsOneSound self.new) }
     {
         self.open(alloc, system)?;
         match self {
@@ -142,7 +148,11 @@ impl JournalFiles {
                 sound.set(file, answer.is_ok());
                 answer
             }
-            JournalFiles::Seen(_) => system.sync_read(file),
+            JournalFiles::Seen(_, sound) if *sound.of(file) => {
+                let answer = sync_seen(file, system);
+                sound.set(file, answer.is_ok());
+                answer
+            }
             _ => Err(Failed),
         }
     }
@@ -156,28 +166,28 @@ impl JournalFiles {
     {
         match self {
             JournalFiles::Shut => {
-                open_files(system)?;
-                *self = JournalFiles::Open(Pair {
-                    zero: true,
-                    one: true,
-                });
+                let answer = open_files(system);
+                let is_sound = answer.is_ok();
+                *self = JournalFiles::Open(both(is_sound));
+                answer
             }
-            JournalFiles::Unread => *self = JournalFiles::Seen(read_journal(alloc, system)?),
-            JournalFiles::Open(_) | JournalFiles::Seen(_) => {}
+            JournalFiles::Unread => {
+                let files = read_journal(alloc, system)?;
+                let is_sound = sync_names(system).is_ok();
+                *self = JournalFiles::Seen(files, both(is_sound));
+                Ok(())
+            }
+            JournalFiles::Open(_) | JournalFiles::Seen(..) => Ok(()),
         }
-        Ok(())
     }
 }
 
-// Copies bytes from a place on into a buffer until that is full or they end, and says how many.
-fn copy_from(bytes: &[u8], place: u64, buf: &mut [u8]) -> usize
-    ensures { result ≤ length buf.old }
+// The same of both files.
+fn both(is_sound: bool) -> Pair<bool>
+    ensures { result ≡ record { zero = is_sound; one = is_sound } }
 {
-    let left = match bytes.get(place as usize..) {
-        Some(left) => left,
-        None => &[],
-    };
-    let count = left.len().min(buf.len());
-    buf[..count].copy_from_slice(&left[..count]);
-    count
+    Pair {
+        zero: is_sound,
+        one: is_sound,
+    }
 }

@@ -1,14 +1,14 @@
 //! The device that a board keeps, over the record store of the working folder.
-ghost use Rattle.std.specs.Prelude.{◌≡◌, ◌+◌, ◌≤◌, [], length, take, drop, IsOk, OnOk, OnErr, IfOk, IfSome};
+ghost use Rattle.std.specs.Prelude.{◌≡◌, ◌+◌, ◌≤◌, [], length, take, drop, IsOk, IsTrue, OnOk, OnErr, IfOk, IfSome};
 ghost use Rattle.board_core.specs.Cause.{put_failure};
 ghost use Rattle.board_core.specs.Told.{AnswersPut, after_put, after_range_write, after_reg_write, register_in};
 ghost use Rattle.erst_store.specs.Actions.{range_length};
 ghost use Rattle.erst_store.specs.Device.{Device, act, with_put};
 ghost use Rattle.erst_store.specs.DeviceLaws.{IsDevice, MayChange};
 ghost use Rattle.erst_store.specs.Store.{AnswersRefusal, refusal_of};
-ghost use Rattle.erst_store.specs.StoreFile.{store_bytes};
-ghost use Rattle.host_system.specs.View.{seen_now};
-ghost use Rattle.ras_host.specs.Steps.KeptDevice.{Acts, Does, IfRefused, IsHere, IsInStep, IsThere, IsUsed, Keeps, Puts, Turned, after_answer, device_in};
+ghost use Rattle.host_system.specs.View.{HasWholeStore, seen_now};
+ghost use Rattle.ras_host.specs.Steps.KeptDevice.{Acts, Does, IfRefused, IsHere, IsInStep, IsSaved, IsThere, IsUsed, Keeps, KeepsOrLoses, Puts, Stays, Turned, after_answer, device_in};
+ghost use Rattle.ras_host.specs.Steps.Written.{Writes};
 
 use crate::saved::{RECORD_HEADING, Saved, write_store};
 use board_core::{BoardPut, Failed, Reg};
@@ -24,13 +24,17 @@ pub enum Kept {
     Unread,
     /// It is there.
     Here(Saved),
-    /// A call on it failed, so it isn't used again: what it held may not be on the disk. These are
-    /// its registers and its range before that call, if it was ever there, over an empty store.
-    Lost(Option<Dev>),
+    /// A call changed it, and its store may not have come into the file, which has the store from
+    /// before the call or from after it. So it isn't used again. The device from before is over an
+    /// empty store.
+    Lost { before: Dev, after: Dev },
+    /// The store's file couldn't be read.
+    Unreadable,
 }
 
 impl Kept {
-    // Takes the device out, which is read at its first use. It is lost unless the call puts it back.
+    // Takes the device out, which is read at its first use. The call puts it back, or says that it
+    // is lost.
     fn take<S: System>(&mut self, alloc: Global, system: &mut S) -> Result<Saved, Failed>
         requires { IfSome (S.told system.old) (IsInStep self.old) }
         ensures taken { IfOk result (λ saved. IfSome (S.told system.old)
@@ -41,14 +45,21 @@ impl Kept {
         ensures lost { OnErr result (IfSome (S.told system.old) (Keeps self.old self.new)) }
         ensures in_step { OnErr result (IfSome (S.told system.new) (IsInStep self.new)) }
     {
-        match replace(self, Kept::Lost(None)) {
+        match replace(self, Kept::Unreadable) {
             Kept::Here(saved) => Ok(saved),
             Kept::Unread => Saved::read(alloc, system),
-            Kept::Lost(device) => {
-                *self = Kept::Lost(device);
+            lost => {
+                *self = lost;
                 Err(Failed)
             }
         }
+    }
+
+    /// Whether each change of the device came into the store's file.
+    pub fn is_saved(&self) -> bool
+        ensures { IsTrue result → IsSaved self.now }
+    {
+        !matches!(self, Kept::Lost { .. })
     }
 
     // Puts the device back.
@@ -140,44 +151,52 @@ impl Kept {
             (S.told system.old) (S.told system.new) }
         ensures here { OnOk result (IsHere self.new (act action saved.device)) }
     {
+        file_laws();
+        let Ok(before) = saved.device.without_store(alloc) else {
+            self.put_back(saved);
+            return Err(Failed);
+        };
         let Saved { mut device, file } = saved;
-        let Ok(before) = device.without_store(alloc) else {
+        let Ok(()) = device.write_action(action) else {
             self.put_back(Saved { device, file });
             return Err(Failed);
         };
-        *self = Kept::Lost(Some(before));
-        let Ok(()) = device.write_action(action) else {
-            return Err(Failed);
-        };
         let Ok(bytes) = device.store().to_bytes(alloc) else {
+            *self = Kept::Lost {
+                before,
+                after: device,
+            };
             return Err(Failed);
         };
-        self.save(device, &file, bytes, system)
-    }
-
-    // Puts a device back once the bytes of its store are in the file, which has other ones.
-    fn save<S: System>(
-        &mut self,
-        device: Dev,
-        had: &[u8],
-        bytes: Vec<u8>,
-        system: &mut S,
-    ) -> Result<(), Failed>
-        requires in_step { IfSome (S.told system.old) (IsInStep self.old) }
-        requires device { IsDevice device }
-        requires bytes { bytes.items ≡ store_bytes device.store }
-        requires had { IfSome (S.told system.old)
-            (λ p. had.now ≡ store_bytes (seen_now p).store) }
-        ensures turned { Turned (λ _. device) self.old self.new result
-            (S.told system.old) (S.told system.new) }
-        ensures here { OnOk result (IsHere self.new device) }
-    {
-        file_laws();
-        write_store(had, &bytes, system)?;
-        *self = Kept::Here(Saved {
+        let made = Saved {
             device,
             file: bytes,
-        });
+        };
+        self.save(before, made, &file, system)
+    }
+
+    // Keeps a device once the bytes of its store are in the file, which has other ones. If that
+    // fails it is lost, with the one before.
+    fn save<S: System>(
+        &mut self,
+        before: Dev,
+        saved: Saved,
+        had: &[u8],
+        system: &mut S,
+    ) -> Result<(), Failed>
+        requires { IfSome (S.told system.old) HasWholeStore }
+        ensures writes { Writes had.now saved.file.items result (S.told system.old)
+            (S.told system.new) }
+        ensures kept { KeepsOrLoses result before saved self.new }
+    {
+        if write_store(had, &saved.file, system).is_err() {
+            *self = Kept::Lost {
+                before,
+                after: saved.device,
+            };
+            return Err(Failed);
+        }
+        *self = Kept::Here(saved);
         Ok(())
     }
 
@@ -245,7 +264,8 @@ impl Kept {
             (Puts id bytes.now result self.old self.new) }
         ensures answers { IfSome (S.told system.old)
             (λ p. AnswersPut result (refusal_of id bytes.now (seen_now p).store)) }
-        ensures refused { IfRefused result (S.told system.new ≡ S.told system.old) }
+        ensures refused { IfRefused result (Stays self.old self.new (S.told system.old)
+            (S.told system.new)) }
     {
         match self.take(alloc, system) {
             Ok(saved) => self.put_into(alloc, saved, id, bytes, system),
@@ -268,8 +288,10 @@ impl Kept {
         ensures answers { AnswersPut result (refusal_of id bytes.now saved.device.store) }
         ensures here { OnOk (put_failure result)
             (IsHere self.new (after_answer id bytes.now result saved.device)) }
-        ensures refused { IfRefused result (S.told system.new ≡ S.told system.old) }
+        ensures refused { IfRefused result (Stays (Kept.Here saved) self.new (S.told system.old)
+            (S.told system.new)) }
     {
+        file_laws();
         let Saved { mut device, file } = saved;
         let (before, mut new) = match put_alone(alloc, id, bytes, &mut device) {
             Ok(made) => made,
@@ -278,11 +300,15 @@ impl Kept {
                 return Err(BoardPut::Refused(refused));
             }
         };
-        *self = Kept::Lost(Some(before));
         let Ok(()) = device.store().push_bytes(&mut new) else {
+            *self = Kept::Lost {
+                before,
+                after: device,
+            };
             return Err(BoardPut::Failed);
         };
-        self.save(device, &file, new, system)
+        let made = Saved { device, file: new };
+        self.save(before, made, &file, system)
             .or(Err(BoardPut::Failed))
     }
 }

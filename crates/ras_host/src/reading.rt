@@ -1,12 +1,17 @@
 //! The journal's files as a report reads them, at one moment and beside a run.
-ghost use Rattle.std.specs.Prelude.{◌≡◌};
-ghost use Rattle.ras_host.specs.JournalFiles.{part_of, with_part};
+ghost use Rattle.std.specs.Prelude.{◌≡◌, ◌≤◌, ℕ, List, length, take, IfSome, IfOk};
+ghost use Rattle.board_core.specs.Stop.{file_in};
+ghost use Rattle.board_core.specs.Told.{ReadsBytes};
+ghost use Rattle.host_system.specs.BoardFile.{AreOpenable, IsOpenable};
+ghost use Rattle.host_system.specs.View.{seen_now};
+ghost use Rattle.ras_host.specs.JournalFiles.{AreRead, IsRead, most_read, part_of, with_part};
 
 use board_core::{Failed, FileNo};
 use host_system::{FileName, System};
 use std::alloc::Global;
 
-// A longer journal file isn't read whole: the daemon says that it is too long.
+// One byte more than the longest journal file has: a longer one isn't read whole, and the daemon
+// says that it is too long.
 const MOST_READ: u64 = 67_108_865;
 
 // A journal file's gate, magic, generation and the length of its checkpoint: what no run changes
@@ -45,8 +50,37 @@ impl<T: Drop> Pair<T> {
     }
 }
 
-/// The bytes of both journal files at one moment, though a run may be at work on them; of each at
-/// most the longest journal file and one byte more, and none if it is missing.
+/// What was read of a journal file.
+#[derive(Drop)]
+pub struct ReadFile {
+    pub length: u64,
+    /// All its bytes, but of a file that is too long only the first ones.
+    pub bytes: Vec<u8>,
+}
+
+impl ReadFile {
+    /// Copies bytes from a place on into a buffer until that is full or the file ends, and answers
+    /// how many. Fails if not all of them were read.
+    pub(crate) fn read_at(&self, place: u64, buf: &mut [u8]) -> Result<usize, Failed>
+        ensures within { IfOk result (λ n. n ≤ length buf.old) }
+        ensures read { IfOk result (λ n. (file : List ℕ) → IsRead self.now file
+            → ReadsBytes place n buf.new file) }
+    {
+        let left = self.length.saturating_sub(place);
+        let count = left.min(buf.len() as u64) as usize;
+        if count == 0 {
+            return Ok(0);
+        }
+        let Some(found) = self.bytes.get(place as usize..place as usize + count) else {
+            return Err(Failed);
+        };
+        buf[..count].copy_from_slice(found);
+        Ok(count)
+    }
+}
+
+/// What is read of both journal files at one moment, though a run may be at work on them; of one
+/// that is missing, as of an empty one.
 ///
 /// A run writes after a file's closed gate, and opens that gate only once all after it is
 /// written. So a file that is read from its first byte to its last holds whole links up to a closed
@@ -55,8 +89,10 @@ impl<T: Drop> Pair<T> {
 pub(crate) fn read_journal<S: System>(
     alloc: Global,
     system: &mut S,
-) -> Result<Pair<Vec<u8>>, Failed>
-    ensures { S.told system.new ≡ S.told system.old }
+) -> Result<Pair<ReadFile>, Failed>
+    requires { IfSome (S.told system.old) AreOpenable }
+    ensures read { IfOk result (λ files. IfSome (S.told system.old) (AreRead files)) }
+    ensures told { S.told system.new ≡ S.told system.old }
 {
     for _ in 0..MOST_READINGS {
         let zero = read_first(alloc, FileNo::Zero, MOST_READ, system)?;
@@ -64,6 +100,8 @@ pub(crate) fn read_journal<S: System>(
         if zero.starts_with(&read_first(alloc, FileNo::Zero, FRONT, system)?)
             && one.starts_with(&read_first(alloc, FileNo::One, FRONT, system)?)
         {
+            let zero = with_length(FileNo::Zero, zero, system)?;
+            let one = with_length(FileNo::One, one, system)?;
             return Ok(Pair { zero, one });
         }
     }
@@ -77,8 +115,28 @@ fn read_first<S: System>(
     most: u64,
     system: &mut S,
 ) -> Result<Vec<u8>, Failed>
-    ensures { S.told system.new ≡ S.told system.old }
+    requires { IfSome (S.told system.old) (IsOpenable file) }
+    ensures read { IfOk result (λ bytes. IfSome (S.told system.old)
+        (λ p. bytes.items ≡ take most (file_in file (seen_now p)))) }
+    ensures told { S.told system.new ≡ S.told system.old }
 {
     let found = system.read(FileName::Journal(file), most)?;
     Ok(found.unwrap_or(Vec::new(alloc)))
+}
+
+// The first bytes of a file with its length, which is asked for only if there may be more.
+fn with_length<S: System>(file: FileNo, bytes: Vec<u8>, system: &mut S) -> Result<ReadFile, Failed>
+    requires { IfSome (S.told system.old)
+        (λ p. bytes.items ≡ take most_read (file_in file (seen_now p))) }
+    ensures read { IfOk result (λ read. IfSome (S.told system.old)
+        (λ p. IsRead read (file_in file (seen_now p)))) }
+    ensures told { S.told system.new ≡ S.told system.old }
+{
+    let length = bytes.len() as u64;
+    if length < MOST_READ {
+        return Ok(ReadFile { length, bytes });
+    }
+    let found = system.find(FileName::Journal(file))?;
+    let length = found.ok_or(Failed)?;
+    Ok(ReadFile { length, bytes })
 }

@@ -44,6 +44,23 @@ impl RealSystem {
     fn opened(&self, name: FileName) -> Result<&File, Failed> {
         self.open[number(name)].as_ref().ok_or(Failed)
     }
+
+    // Brings the names in the folder to the disk, and those in the folders of linked files.
+    fn sync_folders(&self) -> io::Result<()> {
+        File::open(&self.rt, ".")?.sync_all()?;
+        for folder in &self.linked {
+            folder.sync_all()?;
+        }
+        Ok(())
+    }
+}
+
+// Whether a sync was refused by a file system that can be read alone, or that has none.
+fn is_without_sync(kind: ErrorKind) -> bool {
+    matches!(
+        kind,
+        ErrorKind::ReadOnlyFilesystem | ErrorKind::InvalidInput
+    )
 }
 
 impl System for RealSystem {
@@ -123,8 +140,8 @@ impl System for RealSystem {
             return Ok(());
         };
         match opened.sync_data().map_err(|error| error.kind()) {
-            Ok(()) | Err(ErrorKind::ReadOnlyFilesystem | ErrorKind::InvalidInput) => Ok(()),
-            Err(_) => Err(Failed),
+            Err(kind) if is_without_sync(kind) => Ok(()),
+            answer => answer.map_err(|_| Failed),
         }
     }
 
@@ -137,13 +154,16 @@ impl System for RealSystem {
         rename(&self.rt, path(FileName::New), path(FileName::Store)).map_err(|_| Failed)
     }
 
+    // A run has its files open, a report none. What a run told is on the disk, since the run itself
+    // brought the names there first. So a report goes on where it may search the folder and not open
+    // it, or where the folder can't be synced, as it does with a file.
     fn sync_names(&mut self) -> Result<(), Failed> {
-        let folder = File::open(&self.rt, ".").map_err(|_| Failed)?;
-        folder.sync_all().map_err(|_| Failed)?;
-        for folder in &self.linked {
-            folder.sync_all().map_err(|_| Failed)?;
+        let is_report = self.open.iter().all(|file| file.is_none());
+        match self.sync_folders().map_err(|error| error.kind()) {
+            Err(ErrorKind::PermissionDenied) if is_report => Ok(()),
+            Err(kind) if is_report && is_without_sync(kind) => Ok(()),
+            answer => answer.map_err(|_| Failed),
         }
-        Ok(())
     }
 
     fn print(&mut self, bytes: &[u8]) -> Result<(), Failed> {

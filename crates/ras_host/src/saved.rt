@@ -1,14 +1,11 @@
 //! The record store of the working folder, and a device over it.
-ghost use Rattle.std.specs.Prelude.{◌≡◌, Some, OnOk, OnErr, IfOk, IfSome};
+ghost use Rattle.std.specs.Prelude.{◌≡◌, OnOk, OnErr, IfOk, IfSome};
 ghost use Rattle.std.specs.Option.{option_map};
-ghost use Rattle.board_core.specs.Clock.{Passes};
-ghost use Rattle.board_core.specs.Stop.{Becomes, InStore};
-ghost use Rattle.board_core.specs.declared.board.FileNo.{FileNo};
 ghost use Rattle.erst_store.specs.Device.{new_device};
 ghost use Rattle.erst_store.specs.StoreFile.{store_bytes};
-ghost use Rattle.host_system.specs.BoardFile.{KeepsFile};
-ghost use Rattle.host_system.specs.FolderPast.{IfTold, bytes_named};
-ghost use Rattle.host_system.specs.View.{HasSettledStore, clock_over, seen_now, store_in, told_over, with_store};
+ghost use Rattle.host_system.specs.FolderPast.{bytes_named};
+ghost use Rattle.host_system.specs.View.{HasWholeStore, seen_now, store_in};
+ghost use Rattle.ras_host.specs.Steps.Written.{Writes};
 
 use board_core::Failed;
 use erst_store::{Dev, MOST_BYTES, MOST_RECORDS, Store};
@@ -33,7 +30,7 @@ pub struct Saved {
 impl Saved {
     /// A new device over the record store of the working folder.
     pub fn read<S: System>(alloc: Global, system: &mut S) -> Result<Saved, Failed>
-        requires { IfSome (S.told system.old) HasSettledStore }
+        requires { IfSome (S.told system.old) HasWholeStore }
         ensures new { IfOk result (λ saved. IfSome (S.told system.old)
             (λ p. saved.device ≡ new_device (seen_now p).store 0)) }
         ensures fresh { IfOk result (λ saved. saved.device ≡ new_device saved.device.store 0) }
@@ -54,7 +51,7 @@ impl Saved {
 // The bytes of the record store's file, or none if it is missing. A file that is longer than every
 // store's is an error, before memory is taken for it.
 fn read_store<S: System>(system: &mut S) -> Result<Option<Vec<u8>>, Failed>
-    requires { IfSome (S.told system.old) HasSettledStore }
+    requires { IfSome (S.told system.old) HasWholeStore }
     ensures read { IfOk result (λ found. IfSome (S.told system.old)
         (λ p. option_map (λ v. v.items) found ≡ bytes_named FileName.Store p)) }
     ensures told { S.told system.new ≡ S.told system.old }
@@ -78,18 +75,8 @@ fn store_from(alloc: Global, found: Option<Vec<u8>>) -> Result<Store, Failed>
 
 /// Puts a file of these bytes in the place of the record store's, unless they are those that it has.
 pub fn write_store<S: System>(had: &[u8], bytes: &[u8], system: &mut S) -> Result<(), Failed>
-    requires settled { IfSome (S.told system.old) HasSettledStore }
-    requires had { IfSome (S.told system.old)
-        (λ p. store_in (Some had.now) ≡ (seen_now p).store) }
-    ensures settled { IfSome (S.told system.new) HasSettledStore }
-    ensures files { (file : FileNo) → IfTold (KeepsFile file) (S.told system.old)
-        (S.told system.new) }
-    ensures told { OnOk result (told_over (S.told system.new)
-        ≡ option_map (with_store (store_in (Some bytes.now))) (told_over (S.told system.old))) }
-    ensures failed { OnErr result (told_over (S.told system.new)
-        ≡ told_over (S.told system.old)) }
-    ensures stops { Passes (InStore (Becomes (store_in (Some bytes.now))))
-        (clock_over (S.told system.old)) (clock_over (S.told system.new)) }
+    requires { IfSome (S.told system.old) HasWholeStore }
+    ensures { Writes had.now bytes.now result (S.told system.old) (S.told system.new) }
 {
     if bytes == had {
         return Ok(());

@@ -9,7 +9,7 @@ use Rattle.board_core.proofs.DoingLemmas.{broke_faults, well_faults}
 use Rattle.ras_account.specs.Account.{State}
 use Rattle.ras_journal.specs.Recovered.{Refusal, damaged, recovered, too_long}
 use Rattle.ras_recover.specs.OpeningCalls.{AfterRecovery}
-use Rattle.ras_recover.specs.Recovering.{RefusesHeld, RestsHere, UnlessDisk, file_number, open_failure}
+use Rattle.ras_recover.specs.Recovering.{KeepsTold, RefusesHeld, RestsHere, UnlessDisk, file_number, open_failure}
 use Rattle.ras_recover.specs.declared.refused.OpenRefused.{OpenRefused}
 use Rattle.ras_recover.specs.declared.refused.OpenRefused.TheVariants as opening
 use Rattle.ras_texts.specs.declared.listing.Listing.{Listing}
@@ -20,7 +20,7 @@ use Rattle.ras_exit.specs.Causes.{BoardCause}
 use Rattle.board_core.specs.Device.{KeepsDevice, LeavesDevice}
 use Rattle.ras_exit.specs.Endings.{IsCut}
 use Rattle.ras_exit.specs.StopLine.{stop_line}
-use Rattle.ras_exit.proofs.DeviceLemmas.{StoreIsLeft, device_by}
+use Rattle.ras_exit.proofs.DeviceLemmas.{device_by}
 use Rattle.ras_exit.proofs.EndingLemmas.{on_answer, on_cut}
 use Rattle.ras_listing.specs.Steps.Answering.{IsCutBy, IsReportAnswer, IsSaid, stop_mark, unrecovered, whole_listing}
 use Rattle.ras_listing.specs.Reporting.{ReportMoment, Reports, exit_by, report_exit, report_output}
@@ -173,10 +173,13 @@ unless_disk (Err opening.NoMemory) P whole holds = holds
 
 -- ---- the device
 
-pub read_device : (old mid : Option Told) (a b : Clock) → StoreIsLeft old a → Relates AfterRecovery old mid → Adds (LeftNow a) a b → LeavesDevice old mid a b
-read_device old mid a b law after adds =
+pub read_device : (old mid : Option Told) (a b : Clock) → Relates AfterRecovery old mid → KeepsTold old a mid b → LeavesDevice old mid a b
+read_device old mid a b after keeps =
     device_by AfterRecovery old mid a b recovery_device after
-    (λ t is. adds_weaker (LeftNow a) (λ left. left.store ≡ t.here.store) a b adds (λ left was. law t left is was))
+    (λ t is stored. record {
+      since = adds_weaker (LeftNow a) (λ left. left.store ≡ t.here.store) a b keeps.stops stored;
+      now = λ left now. stored left (keeps.ends left now);
+    })
 
 -- what is said once it is known what the board tells
 pub says_here : (Q : Told → Type 0) (old : Option Told) (listing : Listing) (exit : Exit) (text : List ℕ)

@@ -5,7 +5,7 @@ use Rattle.std.specs.Option.{option_map}
 use Rattle.board_core.specs.declared.board.FileNo.TheVariants.{Zero, One}
 use Rattle.board_core.specs.declared.board.DiskCall.{DiskCall}
 use Rattle.board_core.specs.declared.board.DiskCall.TheVariants.{Sync}
-use Rattle.board_core.specs.Clock.{Clock, LeftNow, After, Passes, IsSynced}
+use Rattle.board_core.specs.Clock.{Clock, LeftNow, After, Passes, IsSynced, StoreIsLeft}
 use Rattle.board_core.specs.Steps.ClockLemmas.{adds_after, adds_both, adds_weaker, adds_none, synced_over, rests_synced}
 use Rattle.board_core.specs.Stop.{Left, Same}
 use Rattle.board_core.specs.Told.{Told, Steps, Relates, MayList, with_call, file_of}
@@ -78,7 +78,7 @@ rests_still here told_old old (Some u) new rests keeps =
 -- both files are synced
 pub both_synced : (t : Told) (told mid new : Option Told) (synced last : Clock) → told ≡ Some t → Steps (with_call (Sync Zero)) told mid → IfSome told (λ u. IsSynced Zero (file_of Zero u) synced) → Passes Same synced last
     → Steps (with_call (Sync One)) mid new → IfSome mid (λ u. IsSynced One (file_of One u) last)
-    → ((u : Told) (left : Left) → new ≡ Some u → LeftNow last left → left.store ≡ u.here.store) → ((u : Told) (left : Left) → new ≡ Some u → LeftNow last left → left.out ≡ u.here.out) → RestsHere t.here new last
+    → StoreIsLeft new last → ((u : Told) (left : Left) → new ≡ Some u → LeftNow last left → left.out ≡ u.here.out) → RestsHere t.here new last
 both_synced t told mid new synced last is first zero passes second one store out =
     let u = with_call (Sync Zero) t in
     let v = with_call (Sync One) u in
@@ -90,7 +90,7 @@ both_synced t told mid new synced last is first zero passes second one store out
       there = v;
       same = refl;
       rests = rests_synced v new last new_is (synced_over Zero t.here.file0 synced last zero_synced passes) one_synced
-          (λ left now. store v left new_is now) (λ left now. out v left new_is now);
+          (store v new_is) (λ left now. out v left new_is now);
     }
 
 -- ---- faults

@@ -4,7 +4,7 @@ use Rattle.std.proofs.Common.{sym, ◌∙◌, ap, subst, inl, inr, arith}
 use Rattle.erst_store.specs.Store.{Stored}
 use Rattle.board_core.specs.declared.board.FileNo.{FileNo}
 use Rattle.board_core.specs.declared.board.FileNo.TheVariants.{Zero, One}
-use Rattle.board_core.specs.Clock.{LeftNow, After, Passes, Leads, IsSynced}
+use Rattle.board_core.specs.Clock.{LeftNow, After, Passes, Leads, IsSynced, StoreIsLeft}
 use Rattle.board_core.specs.Steps.DiskLemmas.{overlay_more, settled_left, begins_none, nothing_begins}
 use Rattle.board_core.specs.DiskModel.{greatest_length, MayLeaveFile, Disk, MayLeave, Call, rests, disk_file, after, after_all}
 use Rattle.board_core.specs.MemBoard.{Held, device_in, DeviceChange, device_step, Change, wrote, synced, acted, printed, Past, with_change, after_change, after_changes, call_of, calls_of, settled_disk, held_of, disk_of, clock_of, State, told_of}
@@ -56,8 +56,8 @@ kept_left past left now =
 pub text_left : (s : State) (t : Told) (left : Left) → Some (told_of s) ≡ Some t → LeftNow (clock_of s.past) left → left.out ≡ t.here.out
 text_left s t left is now = (kept_left s.past left now).1 ∙ ap (λ (u : Told). u.here.out) (some_is (told_of s) t is)
 
-pub store_left : (s : State) (t : Told) (left : Left) → Some (told_of s) ≡ Some t → LeftNow (clock_of s.past) left → left.store ≡ t.here.store
-store_left s t left is now = (kept_left s.past left now).0 ∙ ap (λ (u : Told). u.here.store) (some_is (told_of s) t is)
+pub store_left : (s : State) → StoreIsLeft (Some (told_of s)) (clock_of s.past)
+store_left s t is left now = (kept_left s.past left now).0 ∙ ap (λ (u : Told). u.here.store) (some_is (told_of s) t is)
 
 -- changes with one more
 

@@ -6,7 +6,7 @@ use Rattle.erst_store.specs.Store.{Stored}
 use Rattle.board_core.specs.declared.board.DiskCall.{DiskCall}
 use Rattle.board_core.specs.declared.board.FileNo.{FileNo}
 use Rattle.board_core.specs.declared.board.FileNo.TheVariants.{Zero, One}
-use Rattle.board_core.specs.Clock.{Clock, LeftNow, After, Passes, Leads, IsSynced, IsStored, Adds, Rests, Always}
+use Rattle.board_core.specs.Clock.{Clock, LeftNow, After, Passes, Leads, IsSynced, IsStored, StoreIsLeft, Adds, Rests, Always}
 use Rattle.board_core.specs.Stop.{Left, file_in, with_file_in, Same, InFile, InStore, InOut, Appends}
 use Rattle.board_core.specs.Told.{Told, file_of, with_call, after_print, Steps}
 
@@ -59,6 +59,13 @@ always_at_rest P t told clock rests has left now = subst P (sym (rests.only left
 
 -- What is told, and nothing else
 
+some_told : (t u : Told) → Some t ≡ Some u → t ≡ u
+some_told t u e = cc
+
+-- then the record store is what is told, too
+pub rests_store : (t : Told) (told : Option Told) (clock : Clock) → Rests t told clock → StoreIsLeft told clock
+rests_store t told clock rests u is left now = ap (λ (l : Left). l.store) (rests.only left now) ∙ ap (λ (v : Told). v.here.store) (some_told t u (sym rests.is ∙ is))
+
 pub file_in-with : (file : FileNo) (bytes : List ℕ) (left : Left) → file_in file (with_file_in file bytes left) ≡ bytes
 file_in-with Zero bytes left = refl
 file_in-with One bytes left = refl
@@ -107,8 +114,8 @@ rests_through file Step t there told_old told_new old mid new rests writes syncs
       left_is ∙ (ap (λ bytes. with_file_in file bytes t.here) bytes_are ∙ sym frame));
 }
 
--- Both files are synced: a stop leaves just what is told. (That the store and the text are told are
--- laws of the board.)
+-- Both files are synced: a stop leaves just what is told. (That the store and the text are told
+-- comes of the syncs and of the board's laws.)
 pub rests_synced : (t : Told) (told : Option Told) (clock : Clock) → told ≡ Some t → IsSynced Zero t.here.file0 clock → IsSynced One t.here.file1 clock
     → IsStored t.here.store clock → ((left : Left) → LeftNow clock left → left.out ≡ t.here.out) → Rests t told clock
 rests_synced t told clock is zero one store out = record {

@@ -8,7 +8,7 @@ ghost use Rattle.board_core.specs.declared.board.Access.TheVariants.{Read, Write
 ghost use Rattle.board_core.specs.declared.board.DiskCall.TheVariants.{Size, ReadAt, WriteAt, Sync};
 ghost use Rattle.board_core.specs.declared.mem_board.BoardCall.TheVariants.{Disk, Device, Put, Print};
 ghost use Rattle.board_core.specs.Cause.{put_failure};
-ghost use Rattle.board_core.specs.Steps.ChangeLemmas.{told_left, text_left, store_left};
+ghost use Rattle.board_core.specs.Steps.ChangeLemmas.{told_left, text_left};
 ghost use Rattle.board_core.specs.Steps.MomentLemmas.{since_earlier};
 ghost use Rattle.board_core.specs.MemBoard.{told_of, clock_of, settled_disk, calls_of, Performs, past_after, with_change};
 ghost use Rattle.board_core.specs.MemBoard.{wrote, synced, acted, printed, wrote_register, wrote_range, put_record};
@@ -28,8 +28,6 @@ impl Board for MemBoard {
     ghost told_may_be_left = { λ b t is. told_left b t is };
 
     ghost text_is_left = { λ b t left is now. text_left b t left is now };
-
-    ghost store_is_left = { λ b t left is now. store_left b t left is now };
 
     ghost counts_earlier = { λ b s t left within may.
         since_earlier (settled_disk b.past.first.here)

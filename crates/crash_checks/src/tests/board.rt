@@ -156,8 +156,6 @@ impl Board for TestBoard {
 
     ghost text_is_left = { λ _ t left told now. absurd now };
 
-    ghost store_is_left = { λ _ t left told now. absurd now };
-
     ghost counts_earlier = { λ _ s t left within may. may };
 
     fn size(&mut self, file: FileNo) -> Result<u64, Failed> {

@@ -1,6 +1,6 @@
 //! The program's own board, over a system in memory: a stop of the machine before each call of the
-//! system in a run, what it leaves by choices of names and of writes, and a run that goes on from
-//! that.
+//! system in a run, or after one that failed, what it leaves by choices of names and of writes, and
+//! a run that goes on from that.
 
 ghost use Rattle.ras_base.specs.LittleEndian.{AreBytes};
 
@@ -8,7 +8,7 @@ use super::journals::full_chain;
 use super::records::{ENTRIES, ERST, PANIC, POLL, PUT_5, RECORD};
 use super::{ANOTHER, EVERYDAY, MODULE, joined};
 use board_core::MemSource;
-use host_system::{LeftFolder, MemSystem, NamePick, StopPick, WriteLeft, system_laws};
+use host_system::{Effect, LeftFolder, MemSystem, NamePick, StopPick, WriteLeft, system_laws};
 use ras_daemon::{Exit, RasWord, rasd};
 use ras_host::{FileBoard, Use};
 use std::alloc::Global;
@@ -54,21 +54,34 @@ fn are_bytes(_bytes: &[u8])
     ensures { AreBytes _bytes.now }
 {}
 
-// A call of the daemon over a folder, of which a stop before a call of the system is kept.
+// What befalls a run: nothing, a stop before the call of the system of this number, or that this
+// call fails, with this done.
+#[derive(Clone, Copy)]
+enum Trouble {
+    Nothing,
+    Stop(u64),
+    Failure(u64, Effect),
+}
+
+// A call of the daemon over a folder, and what befalls it.
 fn call_over(
     alloc: Global,
     words: &[RasWord],
     script: Vec<u8>,
     how: Use,
     start: &LeftFolder,
-    stop: u64,
+    trouble: Trouble,
 ) -> Result<(Exit, MemSystem), Fail> {
     if let Some(bytes) = &start.store {
         are_bytes(bytes);
     }
     let mut system = MemSystem::over(alloc, start)?;
     system_laws();
-    system.stop_before(stop);
+    match trouble {
+        Trouble::Nothing => {}
+        Trouble::Stop(call) => system.stop_before(call),
+        Trouble::Failure(call, effect) => system.fail_at(call, effect)?,
+    }
     let mut source = MemSource::new(script, 7, Vec::new(alloc));
     let mut board = FileBoard::new(alloc, how, system);
     let exit = rasd(alloc, words, &mut source, &mut board);
@@ -80,7 +93,7 @@ fn run_over(
     alloc: Global,
     script: &[&[u8]],
     start: &LeftFolder,
-    stop: u64,
+    trouble: Trouble,
 ) -> Result<(Exit, MemSystem), Fail> {
     let words = vec![in alloc; RasWord::new(alloc, b"run")?]?;
     call_over(
@@ -89,7 +102,7 @@ fn run_over(
         joined(alloc, script)?,
         Use::Alone,
         start,
-        stop,
+        trouble,
     )
 }
 
@@ -99,7 +112,14 @@ fn names_in(alloc: Global, start: &LeftFolder) -> Result<Vec<u8>, Fail> {
         RasWord::new(alloc, b"report")?,
         RasWord::new(alloc, b"names")?,
     ]?;
-    let (_, system) = call_over(alloc, &words, Vec::new(alloc), Use::Reading, start, 0)?;
+    let (_, system) = call_over(
+        alloc,
+        &words,
+        Vec::new(alloc),
+        Use::Reading,
+        start,
+        Trouble::Nothing,
+    )?;
     Ok(now(&system)?.out)
 }
 
@@ -110,7 +130,7 @@ fn is_whole(
     left: &LeftFolder,
     names: &[u8],
 ) -> Result<bool, Fail> {
-    let (exit, system) = run_over(alloc, script, left, 0)?;
+    let (exit, system) = run_over(alloc, script, left, Trouble::Nothing)?;
     Ok(exit == Exit::Done && names_in(alloc, &now(&system)?)?.as_slice() == names)
 }
 
@@ -121,10 +141,10 @@ fn calls_that_lose_nothing(
     script: &[&[u8]],
     start: &LeftFolder,
 ) -> Result<Option<u64>, Fail> {
-    let (_, undisturbed) = run_over(alloc, script, start, 0)?;
+    let (_, undisturbed) = run_over(alloc, script, start, Trouble::Nothing)?;
     let names = names_in(alloc, &now(&undisturbed)?)?;
     for stop in 1..MOST_CALLS {
-        let (_, system) = run_over(alloc, script, start, stop)?;
+        let (_, system) = run_over(alloc, script, start, Trouble::Stop(stop))?;
         for is_old in OLD_NAMES {
             for rest in WRITES {
                 let Some(left) = system.left_before(&pick_of(is_old, rest))? else {
@@ -133,6 +153,48 @@ fn calls_that_lose_nothing(
                 if !is_whole(alloc, script, &left, &names)? {
                     return Ok(None);
                 }
+            }
+        }
+    }
+    Ok(None)
+}
+
+// Whether runs are whole over all that a stop now may leave, by those choices.
+fn are_whole(
+    alloc: Global,
+    script: &[&[u8]],
+    system: &MemSystem,
+    names: &[u8],
+) -> Result<bool, Fail> {
+    for is_old in OLD_NAMES {
+        for rest in WRITES {
+            let left = system.left(&pick_of(is_old, rest))?;
+            if !is_whole(alloc, script, &left, names)? {
+                return Ok(false);
+            }
+        }
+    }
+    Ok(true)
+}
+
+// Makes each call of a run fail, done or not, which ends the run, and then stops the machine.
+// Answers how many those were, if the account was whole after each.
+fn failures_that_lose_nothing(
+    alloc: Global,
+    script: &[&[u8]],
+    start: &LeftFolder,
+) -> Result<Option<u64>, Fail> {
+    let (_, undisturbed) = run_over(alloc, script, start, Trouble::Nothing)?;
+    let names = names_in(alloc, &now(&undisturbed)?)?;
+    for call in 1..MOST_CALLS {
+        for effect in [Effect::Nothing, Effect::All] {
+            let trouble = Trouble::Failure(call, effect);
+            let (exit, system) = run_over(alloc, script, start, trouble)?;
+            if exit == Exit::Done {
+                return Ok(Some(call - 1));
+            }
+            if !are_whole(alloc, script, &system, &names)? {
+                return Ok(None);
             }
         }
     }
@@ -159,6 +221,17 @@ fn nothing_is_lost_over_polls(rt: HostRuntime) -> Result<(), Fail> {
     let start = LeftFolder::empty(alloc);
     assert!(rt;
         matches!(calls_that_lose_nothing(alloc, script, &start)?, Some(calls) if calls > 40)
+    );
+    Ok(())
+}
+
+#[test]
+fn nothing_is_lost_over_failures(rt: HostRuntime) -> Result<(), Fail> {
+    let alloc = rt.alloc();
+    let script: &[&[u8]] = &[ERST, ENTRIES, PUT_5, RECORD, PANIC, POLL, EVERYDAY];
+    let start = LeftFolder::empty(alloc);
+    assert!(rt;
+        matches!(failures_that_lose_nothing(alloc, script, &start)?, Some(calls) if calls > 40)
     );
     Ok(())
 }

@@ -3,6 +3,7 @@ use Rattle.std.specs.Prelude.{◌≡◌, ℕ, ◌+◌, ◌≤◌, ◌⊎◌, nat
 use Rattle.erst_store.specs.Store.{Stored, most_records, ids}
 use Rattle.erst_store.specs.Device.{Device}
 use Rattle.erst_store.specs.DeviceLaws.{IsDevice, left_to_list}
+use Rattle.board_core.specs.Clock.{StoreIsLeft}
 use Rattle.board_core.specs.Told.{Told, device_of}
 use Rattle.erst_interp.specs.declared.entries.InstructionEntry.{InstructionEntry}
 use Rattle.erst_interp.specs.Admission.{IsAdmittedTable}
@@ -51,6 +52,11 @@ abbrev pub Leaves : {T : Type 0} → Result T DriverRefused → Told → Option 
 Leaves (Err Register) old new calls = IsCutShort calls old new
 Leaves (Err NoMemory) old new calls = Begins calls old new
 Leaves result old new calls = new ≡ Some (after_acts (acts_of calls) old)
+
+-- If no call failed, and a stop before leaves the store that is told, so does one after.
+abbrev pub KeepsStored : {T : Type 0} → Result T DriverRefused → Seen → Seen → Type 0
+KeepsStored (Err Register) old new = Unit {0}
+KeepsStored result old new = StoreIsLeft old.told old.clock → StoreIsLeft new.told new.clock
 
 -- ---- plans
 

@@ -4,7 +4,7 @@ use Rattle.erst_store.specs.Store.{Stored}
 use Rattle.erst_store.specs.Actions.{range_address, range_length}
 use Rattle.board_core.specs.Told.{Steps, Told, device_of, Relates}
 use Rattle.board_core.specs.Stop.{InStore}
-use Rattle.board_core.specs.Clock.{Passes}
+use Rattle.board_core.specs.Clock.{Passes, StoreIsLeft}
 use Rattle.board_core.specs.Cause.{device_call}
 use Rattle.board_core.specs.Doing.{DeviceCall, Moment, Raises, Seen, after_acts}
 use Rattle.erst_interp.specs.declared.entries.InstructionEntry.{InstructionEntry}
@@ -15,10 +15,12 @@ use Rattle.erst_interp.specs.Machine.{MachineState, Outcome, goes, stops, new_va
 use Rattle.erst_interp.specs.Run.{KeepsButDevice, IsCutShort, acts_of}
 use Rattle.erst_interp.specs.Steps.Parts.{uses_register}
 
--- Calls went well, or the last of them failed. The record store may have changed so.
+-- Calls went well, or the last of them failed. The record store may have changed so. If a stop before
+-- calls that went well leaves the store that is told, so does one after them.
 pub record GoesWell (Store : List Stored → List Stored → Type 0) (old new : Seen) : Type 0 where
   pub kept : Relates KeepsButDevice old.told new.told
   pub stops : Passes (InStore Store) old.clock new.clock
+  pub stored : StoreIsLeft old.told old.clock → StoreIsLeft new.told new.clock
   pub faults : new.faults ≡ old.faults
 
 pub record Fails (Store : List Stored → List Stored → Type 0) (old new : Seen) : Type 0 where

@@ -9,7 +9,7 @@ use Rattle.board_core.specs.DiskModel.{Range, DiskFile, MayLeaveFile}
 use Rattle.board_core.specs.Stop.{Left}
 use Rattle.host_system.specs.Folder.{FolderFile, NameEntry, shut, lost, on_disk, entry_from, Stopped, MayLeaveOne, MayLeaveAny, MayLeaveName, MayLeaveFolder, bytes_now, here_in, settled_folder}
 use Rattle.host_system.specs.Steps.FolderLemmas.{IsConsistent}
-use Rattle.host_system.specs.View.{is_none_of, is_settled_file, is_settled, seen_if, told_over}
+use Rattle.host_system.specs.View.{HasSettledStore, is_none_of, is_settled_file, is_settled, told_over}
 use Rattle.host_system.specs.FolderPast.{FolderPast, folder_of, bytes_or}
 use Rattle.host_system.specs.Steps.FolderPastLemmas.{consistent_of, here_left, now_only, now_counts, since_earlier}
 use Rattle.host_system.specs.View.{MayBegin, store_in, seen_now, clock_over}
@@ -20,14 +20,6 @@ none_some t e = cc
 some_is : (s t : Left) → Some s ≡ Some t → s ≡ t
 some_is s t e = cc
 
-seen_is : (is : Bool) (s t : Left) → seen_if is s ≡ Some t → s ≡ t
-seen_is true s t e = some_is s t e
-seen_is false s t e = absurd (none_some t e)
-
-seen_settled : (is : Bool) (s t : Left) → seen_if is s ≡ Some t → is ≡ true
-seen_settled true s t e = refl
-seen_settled false s t e = absurd (none_some t e)
-
 may_now : (past : FolderPast) (left : Left) (now : LeftNow (clock_over (Some past)) left) → MayLeaveFolder (folder_of past) now.stopped
 may_now past left now = now_only (settled_folder past.first) past.changes now.stopped now.may
 
@@ -36,13 +28,13 @@ told_left None t is = absurd (none_some t is)
 told_left (Some past) t is = record {
   stopped = here_in (folder_of past);
   may = now_counts (settled_folder past.first) past.changes (length past.changes) (here_in (folder_of past)) (omega arith) (here_left past);
-  is = sym (seen_is (is_settled (folder_of past).store) (seen_now past) t is);
+  is = sym (some_is (seen_now past) t is);
 }
 
 pub text_left : (past : Option FolderPast) (t left : Left) → told_over past ≡ Some t → LeftNow (clock_over past) left → left.out ≡ t.out
 text_left None t left is now = absurd (none_some t is)
 text_left (Some past) t left is now =
-    ap (λ (l : Left). l.out) now.is ∙ ((may_now past left now).out ∙ ap (λ (l : Left). l.out) (seen_is (is_settled (folder_of past).store) (seen_now past) t is))
+    ap (λ (l : Left). l.out) now.is ∙ ((may_now past left now).out ∙ ap (λ (l : Left). l.out) (some_is (seen_now past) t is))
 
 -- a file none of whose writes is on its way
 
@@ -81,12 +73,8 @@ only_here : (entry : NameEntry) (left : Option (List ℕ)) → is_settled entry 
 only_here entry left is here_in (inl may) = only_now entry.now left (both (is_none_of entry.others) (is_settled_file entry.now) is).1 here_in may
 only_here entry left is here_in (inr may) = absurd (no_others entry.others left (both (is_none_of entry.others) (is_settled_file entry.now) is).0 may)
 
-pub store_left : (past : Option FolderPast) (t left : Left) → told_over past ≡ Some t → LeftNow (clock_over past) left → left.store ≡ t.store
-store_left None t left is now = absurd (none_some t is)
-store_left (Some past) t left is now =
-    ap (λ (l : Left). l.store) now.is
-    ∙ (ap store_in (only_here (folder_of past).store now.stopped.store (seen_settled (is_settled (folder_of past).store) (seen_now past) t is) (consistent_of past).store (may_now past left now).store)
-    ∙ ap (λ (l : Left). l.store) (seen_is (is_settled (folder_of past).store) (seen_now past) t is))
+pub store_left : (past : FolderPast) (left : Left) → HasSettledStore past → LeftNow (clock_over (Some past)) left → left.store ≡ (seen_now past).store
+store_left past left is now = ap (λ (l : Left). l.store) now.is ∙ ap store_in (only_here (folder_of past).store now.stopped.store is (consistent_of past).store (may_now past left now).store)
 
 pub earlier_left : (past : Option FolderPast) (s t : ℕ) (left : Left) → s ≤ t → (clock_over past).may_leave_since t left → (clock_over past).may_leave_since s left
 earlier_left None s t left within may = may
@@ -97,9 +85,9 @@ earlier_left (Some past) s t left within may = record { stopped = may.stopped; m
 shut_lost : shut ≡ lost → ⊥
 shut_lost e = cc
 
-begins_settled : (bytes : Option (List ℕ)) → is_settled (entry_from bytes) ≡ true
-begins_settled None = refl
-begins_settled (Some bytes) = refl
+begins_whole : (bytes : Option (List ℕ)) → is_settled_file (entry_from bytes).now ≡ true
+begins_whole None = refl
+begins_whole (Some bytes) = refl
 
 begins_bytes : (bytes : Option (List ℕ)) → bytes_or bytes ≡ bytes_or (bytes_now (entry_from bytes))
 begins_bytes None = refl
@@ -109,6 +97,6 @@ pub may_begin : (start : Stopped) → AreBytes (bytes_or start.store) → MayBeg
 may_begin start bytes = record {
   zero = shut_lost;
   one = shut_lost;
-  settled = begins_settled start.store;
+  whole = begins_whole start.store;
   bytes = subst AreBytes (begins_bytes start.store) bytes;
 }

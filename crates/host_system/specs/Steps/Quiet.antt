@@ -1,8 +1,8 @@
 -- Calls of which a board sees nothing, and the one that gives the record store a new file.
-use Rattle.std.specs.Prelude.{◌≡◌, ℕ, List, Option, Some}
+use Rattle.std.specs.Prelude.{◌≡◌, ℕ, ◌⊎◌, List, Option, Some}
 use Rattle.board_core.specs.Clock.{Passes}
 use Rattle.board_core.specs.Stop.{Same}
-use Rattle.host_system.specs.Folder.{Folder, FolderFile, opened, settled_name, entry_from}
+use Rattle.host_system.specs.Folder.{Folder, FolderFile, opened, settled_name, settled_file_of, entry_from}
 use Rattle.host_system.specs.FolderPast.{FolderPast, folder_of, IfTold}
 use Rattle.host_system.specs.View.{clock_over}
 
@@ -29,6 +29,19 @@ pub record HasNew (file : FolderFile) (past : FolderPast) : Type 0 where
   pub is : (folder_of past).new.now ≡ Some file
   pub is_open : (folder_of past).uses.new ≡ opened
 
+-- The store's file has these bytes, all of them on the disk. Its name may be on its way. All else is
+-- as it was.
+pub record Moved (bytes : List ℕ) (old new : Folder) : Type 0 where
+  pub zero : new.zero ≡ old.zero
+  pub one : new.one ≡ old.one
+  pub store : new.store.now ≡ Some (settled_file_of bytes)
+  pub out : new.out ≡ old.out
+  pub zero_use : new.uses.zero ≡ old.uses.zero
+  pub one_use : new.uses.one ≡ old.uses.one
+
+abbrev pub HasMoved : List ℕ → FolderPast → FolderPast → Type 0
+HasMoved bytes old new = Moved bytes (folder_of old) (folder_of new)
+
 -- The store's file has these bytes, and so has the disk under its name. All else is as a read gave
 -- it.
 pub record Replaced (bytes : List ℕ) (old new : Folder) : Type 0 where
@@ -39,5 +52,9 @@ pub record Replaced (bytes : List ℕ) (old new : Folder) : Type 0 where
   pub zero_use : new.uses.zero ≡ old.uses.zero
   pub one_use : new.uses.one ≡ old.uses.one
 
-abbrev pub Replaces : List ℕ → FolderPast → FolderPast → Type 0
-Replaces bytes old new = Replaced bytes (folder_of old) (folder_of new)
+abbrev pub IsReplaced : List ℕ → FolderPast → FolderPast → Type 0
+IsReplaced bytes old new = Replaced bytes (folder_of old) (folder_of new)
+
+-- A call that failed did nothing of it, or gave the file its name.
+abbrev pub MayHaveMoved : List ℕ → FolderPast → FolderPast → Type 0
+MayHaveMoved bytes old new = SeesNothing old new ⊎ HasMoved bytes old new

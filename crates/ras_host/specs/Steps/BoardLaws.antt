@@ -6,9 +6,9 @@ use Rattle.board_core.specs.Clock.{LeftNow}
 use Rattle.board_core.specs.Stop.{Left}
 use Rattle.board_core.specs.Told.{Told}
 use Rattle.host_system.specs.View.{told_over}
-use Rattle.host_system.specs.Steps.LawLemmas.{told_left, text_left, store_left, earlier_left}
+use Rattle.host_system.specs.Steps.LawLemmas.{told_left, text_left, earlier_left}
 use Rattle.ras_host.specs.BoardState.{BoardState}
-use Rattle.ras_host.specs.Steps.Telling.{told_with, past_of, told_of, clock_of}
+use Rattle.ras_host.specs.Steps.Telling.{told_with, told_of, clock_of}
 
 none_some : (t : Told) → None ≡ Some t → ⊥
 none_some t e = cc
@@ -22,13 +22,10 @@ seen b None t is = absurd (none_some t is)
 seen b (Some here) t is = ap (λ (s : Told). Some s.here) (some_is (told_with b here) t is)
 
 pub board_told_left : (b : BoardState) (t : Told) → told_of b ≡ Some t → LeftNow (clock_of b) t.here
-board_told_left b t is = told_left (past_of b) t.here (seen b (told_over (past_of b)) t is)
+board_told_left b t is = told_left b.past t.here (seen b (told_over b.past) t is)
 
 pub board_text_left : (b : BoardState) (t : Told) (left : Left) → told_of b ≡ Some t → LeftNow (clock_of b) left → left.out ≡ t.here.out
-board_text_left b t left is now = text_left (past_of b) t.here left (seen b (told_over (past_of b)) t is) now
-
-pub board_store_left : (b : BoardState) (t : Told) (left : Left) → told_of b ≡ Some t → LeftNow (clock_of b) left → left.store ≡ t.here.store
-board_store_left b t left is now = store_left (past_of b) t.here left (seen b (told_over (past_of b)) t is) now
+board_text_left b t left is now = text_left b.past t.here left (seen b (told_over b.past) t is) now
 
 pub board_earlier_left : (b : BoardState) (s t : ℕ) (left : Left) → s ≤ t → (clock_of b).may_leave_since t left → (clock_of b).may_leave_since s left
-board_earlier_left b s t left within may = earlier_left (past_of b) s t left within may
+board_earlier_left b s t left within may = earlier_left b.past s t left within may

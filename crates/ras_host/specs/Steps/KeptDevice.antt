@@ -1,5 +1,6 @@
 -- The device that a board keeps, over the record store that the folder's store file holds.
-use Rattle.std.specs.Prelude.{◌≡◌, ℕ, List, [], Option, None, Some, IfSome, Result, Ok, Err, OnOk, OnErr}
+use Rattle.std.specs.Prelude.{◌≡◌, ℕ, ◌⊎◌, Bool, ◌&&◌, nat_eq, if◌then◌else◌, List, [], Option, None, Some, IfSome, Result, Ok, Err, OnOk, OnErr}
+use Rattle.std.specs.Cmp.Lexicographic.{pointwise}
 use Rattle.board_core.specs.Clock.{Passes}
 use Rattle.board_core.specs.Stop.{Becomes, InStore}
 use Rattle.board_core.specs.Told.{AnswersPut}
@@ -11,21 +12,29 @@ use Rattle.erst_store.specs.DeviceLaws.{IsDevice}
 use Rattle.erst_store.specs.Store.{Stored, refusal_of}
 use Rattle.host_system.specs.BoardFile.{KeepsFile}
 use Rattle.host_system.specs.FolderPast.{FolderPast, IfTold}
-use Rattle.host_system.specs.View.{HasSettledStore, clock_over, seen_now, with_store}
+use Rattle.host_system.specs.View.{HasSettledStore, HasWholeStore, clock_over, seen_now, with_store}
 use Rattle.ras_host.specs.declared.kept.Kept.{Kept}
 use Rattle.ras_host.specs.declared.saved.Saved.{Saved}
-use Rattle.ras_host.specs.declared.kept.Kept.TheVariants.{Unread, Here, Lost}
+use Rattle.ras_host.specs.declared.kept.Kept.TheVariants.{Unread, Here, Lost, Unreadable}
 
--- the registers and the range, which are those of a new device at first
-abbrev pub volatile_in : Kept → Volatile
-volatile_in Unread = volatile_of (new_device [] 0)
-volatile_in (Here saved) = volatile_of saved.device
-volatile_in (Lost None) = volatile_of (new_device [] 0)
-volatile_in (Lost (Some device)) = volatile_of device
+-- whether two stores are the same
+abbrev pub is_same_record : Stored → Stored → Bool
+is_same_record one other = nat_eq one.id other.id && pointwise nat_eq one.bytes other.bytes
+
+abbrev pub is_same_store : List Stored → List Stored → Bool
+is_same_store one other = pointwise is_same_record one other
+
+-- The registers and the range, which are those of a new device at first. Of a device that is lost
+-- they are those after the call if the file holds the store from after it, and else those before it.
+abbrev pub volatile_in : Kept → List Stored → Volatile
+volatile_in Unread store = volatile_of (new_device [] 0)
+volatile_in (Here saved) store = volatile_of saved.device
+volatile_in (Lost before after) store = if is_same_store store after.store then volatile_of after else volatile_of before
+volatile_in Unreadable store = volatile_of (new_device [] 0)
 
 -- the device as a whole
 abbrev pub device_in : Kept → FolderPast → Device
-device_in kept past = device_with (seen_now past).store (volatile_in kept)
+device_in kept past = device_with (seen_now past).store (volatile_in kept (seen_now past).store)
 
 -- A device that is there has this store.
 abbrev pub IsOver : Kept → List Stored → Type 0
@@ -36,7 +45,12 @@ IsOver kept store = Unit {0}
 pub record IsInStep (kept : Kept) (past : FolderPast) : Type 0 where
   pub over : IsOver kept (seen_now past).store
   pub device : IsDevice (device_in kept past)
-  pub settled : HasSettledStore past
+  pub whole : HasWholeStore past
+
+-- Each change of the device came into the store's file.
+abbrev pub IsSaved : Kept → Type 0
+IsSaved (Lost before after) = ⊥
+IsSaved kept = Unit {0}
 
 -- A device has taken this step, which left its store as it was, and is kept.
 pub record Acts (step : Device → Device) (old : Device) (new : Kept) : Type 0 where
@@ -47,8 +61,9 @@ pub record Acts (step : Device → Device) (old : Device) (new : Kept) : Type 0 
   pub device : IsDevice saved.device
 
 -- The folder stays as it is, and so does the device.
-abbrev pub Keeps : Kept → Kept → FolderPast → Type 0
-Keeps old new past = device_in new past ≡ device_in old past
+pub record Keeps (old new : Kept) (past : FolderPast) : Type 0 where
+  pub device : device_in new past ≡ device_in old past
+  pub saved : IsSaved new → IsSaved old
 
 -- The device has taken this step, and a board sees nothing else changed. The files stay as usable as
 -- they were.
@@ -57,23 +72,44 @@ pub record Turns (step : Device → Device) (old new : Kept) (before after : Fol
   pub sees : seen_now after ≡ with_store (step (device_in old before)).store (seen_now before)
   pub files : (file : FileNo) → KeepsFile file before after
 
+-- It has taken this step or none.
+abbrev pub MayTurn : (Device → Device) → Kept → Kept → FolderPast → FolderPast → Type 0
+MayTurn step old new before after = Turns (λ d. d) old new before after ⊎ Turns step old new before after
+
 -- Where the folder is told, a store is as it was, or has become that of the device after a step.
 abbrev pub BecomesBy : (Device → Device) → Kept → Option FolderPast → List Stored → List Stored → Type 0
 BecomesBy step kept None = λ old new. Unit {0}
 BecomesBy step kept (Some past) = Becomes (step (device_in kept past)).store
 
--- A call on the device went well and turned it by this step, or failed and left it as it was. A stop
--- meanwhile leaves the store before the step or after it.
+-- If each change came into the store's file, each one before had, and the folder is as it was or
+-- nothing of that file is on its way.
+abbrev pub Settles : Kept → Kept → FolderPast → FolderPast → Type 0
+Settles old new before after = IsSaved new → IsSaved old × ((after ≡ before) ⊎ HasSettledStore after)
+
+-- A call on the device went well and turned it by this step, or failed and turned it by this step or
+-- left it as it was. A stop meanwhile leaves the store before the step or after it.
 pub record Turned {T E : Type 0} (step : Device → Device) (old new : Kept) (result : Result T E) (before after : Option FolderPast) : Type 0 where
   pub ok : OnOk result (IfTold (Turns step old new) before after)
-  pub err : OnErr result (IfTold (Turns (λ d. d) old new) before after)
+  pub err : OnErr result (IfTold (MayTurn step old new) before after)
   pub stops : Passes (InStore (BecomesBy step old before)) (clock_over before) (clock_over after)
   pub in_step : IfSome after (IsInStep new)
+  pub saved : IfTold (Settles old new) before after
 
 -- what holds of a put that the store refused
 abbrev pub IfRefused : Result (Unit {0}) BoardPut → Type 0 → Type 0
 IfRefused (Err (Refused cause)) P = P
 IfRefused result P = Unit {0}
+
+-- Nothing changed.
+pub record Stays (old new : Kept) (before after : Option FolderPast) : Type 0 where
+  pub told : after ≡ before
+  pub keeps : IfSome before (Keeps old new)
+
+-- A device is kept if its store came into the file, and else is lost, together with the one from
+-- before.
+abbrev pub KeepsOrLoses : {T E : Type 0} → Result T E → Device → Saved → Kept → Type 0
+KeepsOrLoses (Ok done) before saved new = new ≡ Here saved
+KeepsOrLoses (Err failed) before saved new = new ≡ Lost before saved.device
 
 -- ---- the device also where nothing is told
 
@@ -81,7 +117,7 @@ IfRefused result P = Unit {0}
 abbrev pub IsUsed : Kept → Device → Type 0
 IsUsed Unread d = d ≡ new_device d.store 0
 IsUsed (Here saved) d = d ≡ saved.device
-IsUsed (Lost before) d = ⊥
+IsUsed kept d = ⊥
 
 -- The device that is kept is this one.
 abbrev pub IsHere : Kept → Device → Type 0

@@ -1,13 +1,11 @@
--- What a board over a system tells.
-use Rattle.std.specs.Prelude.{Bool, true, false, Option, None}
+-- What a board over a system tells: it tells where the system tells.
+use Rattle.std.specs.Prelude.{Option}
 use Rattle.std.specs.Option.{option_map}
 use Rattle.board_core.specs.Clock.{Clock}
 use Rattle.board_core.specs.Stop.{Left}
 use Rattle.board_core.specs.Told.{Told}
-use Rattle.host_system.specs.FolderPast.{FolderPast}
 use Rattle.host_system.specs.View.{told_over, clock_over}
 use Rattle.ras_host.specs.BoardState.{BoardState}
-use Rattle.ras_host.specs.JournalFiles.{is_run}
 use Rattle.ras_host.specs.Steps.KeptDevice.{volatile_in}
 use Rattle.ras_host.specs.Steps.Listed.{disk_calls_noted, accesses_noted}
 
@@ -15,22 +13,14 @@ use Rattle.ras_host.specs.Steps.Listed.{disk_calls_noted, accesses_noted}
 abbrev pub told_with : BoardState → Left → Told
 told_with b here = record {
   here = here;
-  volatile = volatile_in b.kept;
+  volatile = volatile_in b.kept here.store;
   disk_calls = disk_calls_noted b.disk_calls;
   accesses = accesses_noted b.accesses;
 }
 
--- A run's board tells where the system tells. A report's tells nothing.
-abbrev pub past_told : Bool → Option FolderPast → Option FolderPast
-past_told true past = past
-past_told false past = None
-
-abbrev pub past_of : BoardState → Option FolderPast
-past_of b = past_told (is_run b.files) b.past
-
 abbrev pub told_of : BoardState → Option Told
-told_of b = option_map (told_with b) (told_over (past_of b))
+told_of b = option_map (told_with b) (told_over b.past)
 
 -- its moments
 abbrev pub clock_of : BoardState → Clock
-clock_of b = clock_over (past_of b)
+clock_of b = clock_over b.past

@@ -6,4 +6,4 @@ pub returns-clause-does : goal.returns-clause-does
 returns-clause-does g c =
     does_put (looks g.B.Board.told g.B.Board.clock g.B.Board.faults) c.args.id c.args.bytes.now c.put.result c.args.board.now c.put.new.self
     c.put.ensures.told c.put.ensures.refused c.put.ensures.failed c.put.ensures.stops c.put.ensures.still c.put.ensures.cause
-    (g.met.B.Board.store_is_left c.put.new.self) (g.met.B.Board.counts_earlier c.args.board.now)
+    c.put.ensures.stored (g.met.B.Board.counts_earlier c.args.board.now)

@@ -144,4 +144,4 @@ returns-clause-turns g c =
     let wrote = c.in_ok-reg_write.ensures in
     let b = see c.if-entry.board in
     let d = see c.reg_write.new.self in
-    writes e reg v c.if-entry.whole a b d filled c.next.result c.next.ensures (write_made reg c.if-entry.whole b d wrote.stops wrote.told wrote.cause)
+    writes e reg v c.if-entry.whole a b d filled c.next.result c.next.ensures (write_made reg c.if-entry.whole b d wrote.stops wrote.told wrote.stored wrote.cause)

@@ -8,7 +8,7 @@ pub returns-clause-text : goal.returns-clause-text
 returns-clause-text c = λ past t left is now. text_left past t left is now
 
 pub returns-clause-store : goal.returns-clause-store
-returns-clause-store c = λ past t left is now. store_left past t left is now
+returns-clause-store c = λ past left is now. store_left past left is now
 
 pub returns-clause-earlier : goal.returns-clause-earlier
 returns-clause-earlier c = λ past s t left within may. earlier_left past s t left within may

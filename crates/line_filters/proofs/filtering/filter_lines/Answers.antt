@@ -3,6 +3,7 @@ use Rattle.board_core.specs.Doing.{looks}
 use Rattle.ras_exit.specs.Telling.{PrintMoment}
 use Rattle.line_filters.specs.Filters.{filter_output}
 use Rattle.line_filters.proofs.CallLemmas.{filters_nothing, filters_on, filters_stop, of_both, stops_both, takes_at}
+use Rattle.ras_exit.proofs.DeviceLemmas.{device_goes_on}
 use Rattle.line_filters.proofs.filtering.filter_lines.Goals as goal
 
 pub returns-in-Err-clause-filters : goal.returns-in-Err-clause-filters
@@ -28,3 +29,6 @@ pub returns-clause-takes : goal.returns-clause-takes
 returns-clause-takes g c =
     takes_at (looks g.B.Board.told g.B.Board.clock g.B.Board.faults) c.take_lines-exit.result c.end_lines.result _ c.take_lines-exit.new.board c.end_lines.new.board (g.S.Source.left c.args.source.now)
     (g.S.Source.left c.take_lines-exit.new.source) c.end_lines.ensures.ends c.take_lines-exit.ensures.takes
+
+pub returns-clause-device : goal.returns-clause-device
+returns-clause-device g c = device_goes_on _ _ _ _ _ _ c.take_lines-exit.ensures.device c.end_lines.ensures.device

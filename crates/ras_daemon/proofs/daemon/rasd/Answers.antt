@@ -23,14 +23,12 @@ returns-in-Some-Run-clause-ran g c =
     (λ account script t left is recovers comes. run-ran see (c.run.new.source ≡ c.args.source.now) account script c.run.result t (g.S.Source.left c.run.new.source) c.args.board.now c.run.new.board is recovers
     (record {
       text = λ u rest here may. g.met.B.Board.text_is_left c.args.board.now u rest here may;
-      store = λ u rest here may. g.met.B.Board.store_is_left c.args.board.now u rest here may;
       now = λ u here. g.met.B.Board.told_may_be_left c.args.board.now u here;
       earlier = λ m n rest within may. g.met.B.Board.counts_earlier c.args.board.now m n rest within may;
     })
     comes
     (record {
       text = λ u rest here may. g.met.B.Board.text_is_left c.run.new.board u rest here may;
-      store = λ u rest here may. g.met.B.Board.store_is_left c.run.new.board u rest here may;
       now = λ u here. g.met.B.Board.told_may_be_left c.run.new.board u here;
       earlier = λ m n rest within may. g.met.B.Board.counts_earlier c.run.new.board m n rest within may;
     })
@@ -47,7 +45,6 @@ returns-in-Some-Run-clause-stops g c =
     (λ account script t left is recovers comes. run-stops see (c.run.new.source ≡ c.args.source.now) account script c.run.result t (g.S.Source.left c.run.new.source) c.args.board.now c.run.new.board is recovers
     (record {
       text = λ u rest here may. g.met.B.Board.text_is_left c.args.board.now u rest here may;
-      store = λ u rest here may. g.met.B.Board.store_is_left c.args.board.now u rest here may;
       now = λ u here. g.met.B.Board.told_may_be_left c.args.board.now u here;
       earlier = λ m n rest within may. g.met.B.Board.counts_earlier c.args.board.now m n rest within may;
     })

@@ -60,7 +60,7 @@ returns-in-Err-open-clause-refused g c =
     files_refused (looks g.B.Board.told g.B.Board.clock g.B.Board.faults) (c.args.source.now ≡ c.args.source.now) c.in-Err-open.exit c.end_run-in-Err-open.result c.new-in-Err-open.result.state
     c.args.board.now c.open.new.board c.end_run-in-Err-open.new.board refl
     (device_goes_on _ _ _ _ _ _
-    (opening_device _ _ _ _ (λ t left told now. g.met.B.Board.store_is_left c.args.board.now t left told now) c.in-Err-open.ensures.does.told c.in-Err-open.ensures.stops)
+    (opening_device _ _ _ _ c.in-Err-open.ensures.does.told c.in-Err-open.ensures.stops (g.met.B.Board.counts_earlier c.open.new.board))
     c.end_run-in-Err-open.ensures.device)
     c.in-Err-open.ensures.does.told c.in-Err-open.ensures.opens.held c.end_run-in-Err-open.ensures.ends c.in-Err-open.ensures.stops c.in-Err-open.ensures.refused
     c.end_run-in-Err-open.ensures.stops

@@ -36,8 +36,8 @@ returns-in-Err-clause-does g c =
 
 pub returns-in-Ok-clause-device : goal.returns-in-Ok-clause-device
 returns-in-Ok-clause-device g c =
-    device_printed c.args.text.now (Begins c.args.text.now) _ _ _ _ (g.met.B.Board.store_is_left c.args.board.now) c.in-Ok.ensures.told c.in-Ok.ensures.stops
+    device_printed c.args.text.now (Begins c.args.text.now) _ _ _ _ c.in-Ok.ensures.told c.in-Ok.ensures.stops
 
 pub returns-in-Err-clause-device : goal.returns-in-Err-clause-device
 returns-in-Err-clause-device g c =
-    device_not_printed c.args.text.now (Begins c.args.text.now) _ _ _ _ (g.met.B.Board.store_is_left c.args.board.now) c.in-Err.ensures.failed c.in-Err.ensures.stops
+    device_not_printed c.args.text.now (Begins c.args.text.now) _ _ _ _ c.in-Err.ensures.failed c.in-Err.ensures.stops

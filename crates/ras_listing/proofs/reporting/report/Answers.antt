@@ -25,7 +25,7 @@ returns-in-Ok-print-clause-stops g c = λ t is.
 
 pub returns-in-Ok-print-clause-device : goal.returns-in-Ok-print-clause-device
 returns-in-Ok-print-clause-device g c =
-    device_goes_on _ _ _ _ _ _ (read_device _ _ _ _ (g.met.B.Board.store_is_left c.args.board.now) c.recover.ensures.told c.recover.ensures.keeps.stops) c.print.ensures.device
+    device_goes_on _ _ _ _ _ _ (read_device _ _ _ _ c.recover.ensures.told c.recover.ensures.keeps) c.print.ensures.device
 
 pub returns-clause-reports : goal.returns-clause-reports
 returns-clause-reports g c =
@@ -44,4 +44,4 @@ returns-clause-stops g c = λ t is.
 
 pub returns-clause-device : goal.returns-clause-device
 returns-clause-device g c =
-    device_goes_on _ _ _ _ _ _ (read_device _ _ _ _ (g.met.B.Board.store_is_left c.args.board.now) c.recover.ensures.told c.recover.ensures.keeps.stops) c.print.ensures.device
+    device_goes_on _ _ _ _ _ _ (read_device _ _ _ _ c.recover.ensures.told c.recover.ensures.keeps) c.print.ensures.device

@@ -8,6 +8,6 @@ returns g c =
     let a = c.args.board.now in
     let b = c.operate.new.board in
     record {
-      clears = clears (looks g.B.Board.told g.B.Board.clock g.B.Board.faults) c.args.self.now a b (λ t left. g.met.B.Board.store_is_left a t left) (λ t left. g.met.B.Board.store_is_left b t left)
+      clears = clears (looks g.B.Board.told g.B.Board.clock g.B.Board.faults) c.args.self.now a b
           c.args.id (omega (arith, c.ranges.id.fits)) c.operate.result (rw c.clear_steps-steps.ensures at c.operate.ensures.operates) c.operate.ensures.refused c.operate.ensures.device;
     }

@@ -15,7 +15,7 @@ returns g c =
     let b = c.collect.new.board in
     let all = lists_then lists (see a) (see c.list_to_end.new.board) (see b) c.in_ok-list_to_end.ensures.lists (λ (v : Vec ℕ Global). v.items) c.collect.result c.collect.ensures.collects in
     record {
-      lists = lists_records see lists a b (λ t left. g.met.B.Board.store_is_left a t left) (λ t left. g.met.B.Board.store_is_left b t left) (λ (v : Vec ℕ Global). v.items) c.collect.result all has;
+      lists = lists_records see lists a b (λ (v : Vec ℕ Global). v.items) c.collect.result all has;
       ids = all_ids (λ (v : Vec ℕ Global). v.items) lists (see a) (see b) c.collect.result has all;
       few = all_few (λ (v : Vec ℕ Global). v.items) lists (see a) (see b) c.collect.result all;
     }
@@ -31,7 +31,7 @@ returns-in_err-list_to_end g c =
     let all = lists_refused (λ (v : Vec ℕ Global). v.items) lists (see a) (see b) why c.in_err-list_to_end.ensures.lists in
     let p = err_from_is_err_and c.from_residual.result c.from_residual.ensures.1 in
     rw (p.1, p.2) (record {
-      lists = lists_records see lists a b (λ t left. g.met.B.Board.store_is_left a t left) (λ t left. g.met.B.Board.store_is_left b t left) (λ (v : Vec ℕ Global). v.items) (Err why) all has;
+      lists = lists_records see lists a b (λ (v : Vec ℕ Global). v.items) (Err why) all has;
       ids = tt;
       few = tt;
     })

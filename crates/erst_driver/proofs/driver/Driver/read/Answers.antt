@@ -1,4 +1,4 @@
-use Rattle.std.proofs.Common.{◌≡◌, ℕ, List, arith, subst, take, drop}
+use Rattle.std.proofs.Common.{◌≡◌, ℕ, List, arith, refl, subst, take, drop}
 use Rattle.std.specs.Prelude.{Ok, Err, IfSome}
 use Rattle.std.proofs.lemmas.Result.{err_from_is_err_and}
 use Rattle.board_core.specs.declared.board.Access.TheVariants.{RangeRead}
@@ -28,7 +28,7 @@ returns-in_err-operate g c =
     (subst (λ (steps : List Step). Operates lists (actions_of steps) (answer_of steps) (Err why) (see a) (see b)) c.read_steps-steps.ensures c.in_err-operate.ensures.operates) in
     let p = err_from_is_err_and c.from_residual.result c.from_residual.ensures.1 in
     rw (p.1, p.2) (record {
-      reads = reads see lists a b (λ t left. g.met.B.Board.store_is_left a t left) (λ t left. g.met.B.Board.store_is_left b t left) id (omega (arith, c.ranges.id.fits)) c.args.buf.now (Err why) done
+      reads = reads see lists a b id (omega (arith, c.ranges.id.fits)) c.args.buf.now (Err why) done
           c.in_err-operate.ensures.refused c.in_err-operate.ensures.device;
       record_read = tt;
     })
@@ -47,7 +47,7 @@ returns-in_err-range_read g c =
     (one_fails (range_read 0 range_length) (g.B.Board.told m) (g.B.Board.told b) failed) (quiet_fails (range_read 0 range_length) (see m) (see b) read.stops failed read.cause) in
     let p = err_from_is_err_and c.from_residual-in_err-range_read.result c.from_residual-in_err-range_read.ensures.1 in
     rw (p.1, p.2) (record {
-      reads = reads see lists a b (λ t left. g.met.B.Board.store_is_left a t left) (λ t left. g.met.B.Board.store_is_left b t left) id (omega (arith, c.ranges.id.fits)) c.range_read.new.buf (Err Register) done
+      reads = reads see lists a b id (omega (arith, c.ranges.id.fits)) c.range_read.new.buf (Err Register) done
           tt c.in_ok-operate.ensures.device;
       record_read = tt;
     })
@@ -65,9 +65,9 @@ returns g c =
     let told = subst (λ (n : ℕ). Steps (with_access (RangeRead 0 n)) (g.B.Board.told m) (g.B.Board.told b)) c.requires read.told in
     let bytes = subst (λ (n : ℕ). IfSome (g.B.Board.told m) (λ t. buffer ≡ take n (drop 0 (device_of t).range))) c.requires read.read in
     let done = fetched lists (read_steps id) buffer (see a) (see m) (see b) (rw c.read_steps-steps.ensures at c.in_ok-operate.ensures.operates) bytes told
-    (quiet_well (range_read 0 range_length) (see m) (see b) read.stops told read.cause) in
+    (quiet_well (range_read 0 range_length) (see m) (see b) read.stops (λ t. refl) told read.cause) in
     record {
-      reads = reads see lists a b (λ t left. g.met.B.Board.store_is_left a t left) (λ t left. g.met.B.Board.store_is_left b t left) id (omega (arith, c.ranges.id.fits)) buffer (Ok tt) done
+      reads = reads see lists a b id (omega (arith, c.ranges.id.fits)) buffer (Ok tt) done
           tt c.in_ok-operate.ensures.device;
       record_read = read_found lists id buffer (see a) (see b) (Ok tt) c.in_ok-operate.ensures.device done;
     }

@@ -1,4 +1,4 @@
-use Rattle.std.proofs.Common.{inl, inr, rules}
+use Rattle.std.proofs.Common.{inl, inr, refl, rules}
 use Rattle.std.specs.Prelude.{Err}
 use Rattle.std.proofs.lemmas.Result.{err_from_is_err_and}
 use Rattle.board_core.specs.Doing.{looks, range_write}
@@ -21,7 +21,7 @@ returns-in_err-range_write g c =
     let done = fill_fails bytes c.args.self.now (see a) (see b) (one_fails (range_write 0 bytes) (g.B.Board.told a) (g.B.Board.told b) wrote.failed) fails in
     let p = err_from_is_err_and c.from_residual.result c.from_residual.ensures.1 in
     rw (p.1, p.2) (record {
-      writes = puts see c.args.self.now a b (λ t left. g.met.B.Board.store_is_left a t left) (λ t left. g.met.B.Board.store_is_left b t left) bytes c.requires.fits.0 c.requires.fits.1 c.requires.whole
+      writes = puts see c.args.self.now a b bytes c.requires.fits.0 c.requires.fits.1 c.requires.whole
           (inl fails.stops) (Err Register) done tt wrote.device;
     })
 
@@ -34,9 +34,9 @@ returns g c =
     let b = c.operate.new.board in
     let wrote = c.in_ok-range_write.ensures in
     let are : AreBytes bytes = search rules in
-    let done = writes_then bytes c.args.self.now (see a) (see m) (see b) wrote.told c.requires.fits.1 are (quiet_well (range_write 0 bytes) (see a) (see m) wrote.stops wrote.told wrote.cause)
+    let done = writes_then bytes c.args.self.now (see a) (see m) (see b) wrote.told c.requires.fits.1 are (quiet_well (range_write 0 bytes) (see a) (see m) wrote.stops (λ t. refl) wrote.told wrote.cause)
     c.operate.result (rw c.write_steps-steps.ensures at c.operate.ensures.operates) in
     record {
-      writes = puts see c.args.self.now a b (λ t left. g.met.B.Board.store_is_left a t left) (λ t left. g.met.B.Board.store_is_left b t left) bytes c.requires.fits.0 c.requires.fits.1 c.requires.whole
+      writes = puts see c.args.self.now a b bytes c.requires.fits.0 c.requires.fits.1 c.requires.whole
           (inr (c.operate.ensures.device.admitted, are)) c.operate.result done c.operate.ensures.refused wrote.device;
     }

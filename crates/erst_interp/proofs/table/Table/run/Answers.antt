@@ -69,7 +69,7 @@ returns-in_default-clause-admitted g c =
     let a = see c.args.board.now in
     let b = see c.loop.board in
     acts_as list _ c.list-list.ensures c.args.input (Ok v.value) a b (run_ended list c.args.input a b (most_turns - c.loop.counter) v (slice_get_past list v.index c.in_default.ensures.lookup.3) c.loop.invariant.way)
-    c.args.action (omega (arith, c.ranges.action.fits)) (λ t left. g.met.B.Board.store_is_left c.args.board.now t left) (λ is. tt)
+    c.args.action (omega (arith, c.ranges.action.fits)) (λ is. tt)
     (λ is. reaches_end list v.index a.told b.told (c.loop.invariant.reached (admitted_straight c.args.action list is)) c.in_default.ensures.lookup.3 (admitted_uses c.args.action list is))
 
 pub returns-in-None-clause-runs : goal.returns-in-None-clause-runs
@@ -89,7 +89,7 @@ returns-in-None-clause-admitted g c =
     let a = see c.args.board.now in
     let b = see c.loop.board in
     acts_as list _ c.list-list.ensures c.args.input (Ok v.value) a b (run_ended list c.args.input a b (most_turns - c.loop.counter) v (slice_get_past list v.index c.in-None.ensures.lookup.3) c.loop.invariant.way)
-    c.args.action (omega (arith, c.ranges.action.fits)) (λ t left. g.met.B.Board.store_is_left c.args.board.now t left) (λ is. tt)
+    c.args.action (omega (arith, c.ranges.action.fits)) (λ is. tt)
     (λ is. reaches_end list v.index a.told b.told (c.loop.invariant.reached (admitted_straight c.args.action list is)) c.in-None.ensures.lookup.3 (admitted_uses c.args.action list is))
 
 pub returns-in-Some-get-clause-runs : goal.returns-in-Some-get-clause-runs
@@ -145,7 +145,7 @@ returns-in_err-variables-clause-admitted g c =
     rw (p.1, p.2) (acts_as list _ c.list-list.ensures c.args.input (Err why) a d
     (run_refused list c.args.input a b (most_turns - suc c.loop.counter) e v d next (left_as list (most_turns - c.loop.counter) (suc (most_turns - suc c.loop.counter)) c.args.input v a b left c.loop.invariant.way)
     why c.in_err-variables.ensures.turns)
-    c.args.action (omega (arith, c.ranges.action.fits)) (λ t left. g.met.B.Board.store_is_left c.args.board.now t left)
+    c.args.action (omega (arith, c.ranges.action.fits))
     (λ is. refused_alone v why (c.in_err-variables.ensures.straight (at_place list v.index e next (admitted_straight c.args.action list is))))
     (λ is. reaches_failed list v.index a.told b.told (c.loop.invariant.reached (admitted_straight c.args.action list is))
     (device_failed e why b.told d.told (refused_alone v why (c.in_err-variables.ensures.straight (at_place list v.index e next (admitted_straight c.args.action list is)))) c.in_err-variables.ensures.device)))

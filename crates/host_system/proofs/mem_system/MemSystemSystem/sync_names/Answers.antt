@@ -12,4 +12,4 @@ invariant_of-self c =
     (noted (as_stopped c.self.inside.first) 8 New 0 0 [] _ _ c.note.ensures) (c.settle.ensures c.self.inside.out.items) c.self.invariant
 
 pub returns-clause-told : goal.returns-clause-told
-returns-clause-told c = ap Some (noted (as_stopped c.self.inside.first) 8 New 0 0 [] _ _ c.note.ensures ∙ ap (changed_by synced_names) (c.self.view_is ∙ c.count.ensures))
+returns-clause-told c = ap Some (noted (as_stopped c.self.inside.first) 8 New 0 0 [] _ _ c.note.ensures ∙ ap (changed_by synced_names) (c.self.view_is ∙ c.begin.ensures))

@@ -1,13 +1,15 @@
-use Rattle.std.proofs.Common.{arith, rules}
+use Rattle.std.proofs.Common.{arith}
 use Rattle.std.proofs.lemmas.Grind.{common_steps}
-use Rattle.board_core.specs.declared.board.FileNo.TheVariants.{Zero, One}
+use Rattle.board_core.specs.declared.board.FileNo.TheVariants.{Zero}
+use Rattle.ras_host.proofs.ToldLemmas.{held_printed, in_step_printed, printed_keeps, settled_printed}
 use Rattle.ras_host.proofs.file_board.FileBoardBoard.print.Goals as goal
 
 pub invariant_of-self : goal.invariant_of-self
 invariant_of-self g c =
-    let zero = c.print.ensures.keeps Zero in
-    let one = c.print.ensures.keeps One in
-    search rules
+    let b = c.self.inside in
+    let r = c.print.ensures in
+    let keeps = printed_keeps c.args.bytes.now c.print.result _ _ r.told r.failed r.keeps in
+    (held_printed b.files _ _ keeps c.self.invariant.0, in_step_printed b.kept _ _ keeps c.self.invariant.1, settled_printed b.files b.kept _ _ keeps c.self.invariant.2)
 
 pub returns-clause-told : goal.returns-clause-told
 returns-clause-told g c = let zero = c.print.ensures.keeps Zero in grind (arith, common_steps)

@@ -1,10 +1,9 @@
 use Rattle.std.proofs.Common.{◌≡◌, refl}
 use Rattle.erst_store.specs.DeviceLaws.{IsDevice}
-use Rattle.ras_host.specs.JournalFiles.{is_run}
 use Rattle.ras_host.specs.Steps.Listed.{accesses_noted, disk_calls_noted}
 use Rattle.std.specs.Prelude.{length, take, drop}
 use Rattle.board_core.specs.declared.board.Access.TheVariants.{RangeRead}
-use Rattle.ras_host.proofs.ToldLemmas.{device_kept, held_same, kept_listed, of_device, on_ok, relates_listed, same_stops}
+use Rattle.ras_host.proofs.ToldLemmas.{device_kept, held_same, kept_listed, of_device, on_ok, relates_listed, same_stops, settled_same}
 use Rattle.ras_host.proofs.KeptLemmas.{on_any_err}
 use Rattle.ras_host.proofs.file_board.FileBoardBoard.range_read.Goals as goal
 
@@ -13,26 +12,26 @@ returns-clause-read g c =
     let b = c.self.inside in
     let r = c.range_read-answer in
     rw (← c.self.view_is) (on_ok _ _ r.result c.counted.result c.counted.ensures.ok c.counted.ensures.err r.ensures.read
-    (λ is. of_device (λ d. r.new.buf ≡ take (length c.args.buf.now) (drop c.args.place d.range)) (is_run b.files) _ b.kept (disk_calls_noted b.disk_calls.calls) (accesses_noted b.accesses.calls) c.self.invariant.1 is))
+    (λ is. of_device (λ d. r.new.buf ≡ take (length c.args.buf.now) (drop c.args.place d.range)) _ b.kept (disk_calls_noted b.disk_calls.calls) (accesses_noted b.accesses.calls) is))
 
 pub returns-clause-told : goal.returns-clause-told
 returns-clause-told g c =
     let b = c.self.inside in
     let r = c.range_read-answer in
     rw (← c.self.view_is) (on_ok _ _ r.result c.counted.result c.counted.ensures.ok c.counted.ensures.err r.ensures.read
-    (λ is. kept_listed (RangeRead c.args.place (length c.args.buf.now)) (is_run b.files) _ _ b.kept r.new.self (disk_calls_noted b.disk_calls.calls) (accesses_noted b.accesses.calls) (accesses_noted c.list_access.new.accesses.calls)
-    c.self.invariant.1 r.ensures.still r.ensures.told r.ensures.same c.list_access.ensures))
+    (λ is. kept_listed (RangeRead c.args.place (length c.args.buf.now)) _ _ b.kept r.new.self (disk_calls_noted b.disk_calls.calls) (accesses_noted b.accesses.calls) (accesses_noted c.list_access.new.accesses.calls)
+    r.ensures.told r.ensures.same c.list_access.ensures))
 
 pub returns-clause-failed : goal.returns-clause-failed
 returns-clause-failed g c =
     let b = c.self.inside in
     let r = c.range_read-answer in
     rw (← c.self.view_is) (on_any_err _ c.counted.result (relates_listed (RangeRead c.args.place (length c.args.buf.now)) _ _
-    (kept_listed (RangeRead c.args.place (length c.args.buf.now)) (is_run b.files) _ _ b.kept r.new.self (disk_calls_noted b.disk_calls.calls) (accesses_noted b.accesses.calls) (accesses_noted c.list_access.new.accesses.calls)
-    c.self.invariant.1 r.ensures.still r.ensures.told r.ensures.same c.list_access.ensures)))
+    (kept_listed (RangeRead c.args.place (length c.args.buf.now)) _ _ b.kept r.new.self (disk_calls_noted b.disk_calls.calls) (accesses_noted b.accesses.calls) (accesses_noted c.list_access.new.accesses.calls)
+    r.ensures.told r.ensures.same c.list_access.ensures)))
 
 pub returns-clause-stops : goal.returns-clause-stops
-returns-clause-stops g c = rw (← c.self.view_is) (same_stops (is_run c.self.inside.files) _ _ c.range_read-answer.ensures.told)
+returns-clause-stops g c = rw (← c.self.view_is) (same_stops _ _ c.range_read-answer.ensures.told)
 
 pub returns-clause-cause : goal.returns-clause-cause
 returns-clause-cause g c = rw (← c.self.view_is) (record { own = c.counted.ensures.cause; others = refl })
@@ -40,7 +39,10 @@ returns-clause-cause g c = rw (← c.self.view_is) (record { own = c.counted.ens
 pub returns-clause-device : goal.returns-clause-device
 returns-clause-device g c =
     let b = c.self.inside in
-    rw (← c.self.view_is) (of_device IsDevice (is_run b.files) _ b.kept (disk_calls_noted b.disk_calls.calls) (accesses_noted b.accesses.calls) c.self.invariant.1 (device_kept b.kept _ c.self.invariant.1))
+    rw (← c.self.view_is) (of_device IsDevice _ b.kept (disk_calls_noted b.disk_calls.calls) (accesses_noted b.accesses.calls) (device_kept b.kept _ c.self.invariant.1))
 
 pub invariant_of-self : goal.invariant_of-self
-invariant_of-self g c = (held_same c.self.inside.files _ _ c.range_read-answer.ensures.told c.self.invariant.0, c.range_read-answer.ensures.still)
+invariant_of-self g c =
+    let b = c.self.inside in
+    let r = c.range_read-answer in
+    (held_same b.files _ _ r.ensures.told c.self.invariant.0, r.ensures.still, settled_same b.files b.kept r.new.self _ _ r.ensures.told r.ensures.same c.self.invariant.2)

@@ -1,11 +1,10 @@
 use Rattle.std.proofs.Common.{refl}
 use Rattle.erst_store.specs.DeviceLaws.{IsDevice}
-use Rattle.ras_host.specs.JournalFiles.{is_run}
 use Rattle.ras_host.specs.Steps.Listed.{accesses_noted, disk_calls_noted}
 use Rattle.std.specs.Prelude.{length}
 use Rattle.board_core.specs.Told.{after_range_write}
 use Rattle.board_core.specs.declared.board.Access.TheVariants.{RangeWrite}
-use Rattle.ras_host.proofs.ToldLemmas.{device_kept, held_same, of_device, on_err, on_ok, relates_unacted, same_stops, turned_listed}
+use Rattle.ras_host.proofs.ToldLemmas.{device_kept, held_turned, may_turn_listed, of_device, on_err, on_ok, same_stops, settled_turned, turned_listed}
 use Rattle.ras_host.proofs.file_board.FileBoardBoard.range_write.Goals as goal
 
 pub returns-clause-told : goal.returns-clause-told
@@ -13,19 +12,19 @@ returns-clause-told g c =
     let b = c.self.inside in
     let r = c.range_write-answer in
     rw (← c.self.view_is) (on_ok _ _ r.result c.counted.result c.counted.ensures.ok c.counted.ensures.err r.ensures.turned.ok
-    (λ is. turned_listed (after_range_write c.args.place c.args.bytes.now) (RangeWrite c.args.place (length c.args.bytes.now)) (is_run b.files) _ _ b.kept r.new.self (disk_calls_noted b.disk_calls.calls) (accesses_noted b.accesses.calls) (accesses_noted c.list_access.new.accesses.calls)
-    c.self.invariant.1 r.ensures.turned.in_step is c.list_access.ensures))
+    (λ is. turned_listed (after_range_write c.args.place c.args.bytes.now) (RangeWrite c.args.place (length c.args.bytes.now)) _ _ b.kept r.new.self (disk_calls_noted b.disk_calls.calls) (accesses_noted b.accesses.calls) (accesses_noted c.list_access.new.accesses.calls)
+    is c.list_access.ensures))
 
 pub returns-clause-failed : goal.returns-clause-failed
 returns-clause-failed g c =
     let b = c.self.inside in
     let r = c.range_write-answer in
     rw (← c.self.view_is) (on_err _ _ r.result c.counted.result c.counted.ensures.ok c.counted.ensures.err r.ensures.turned.err
-    (λ is. relates_unacted (RangeWrite c.args.place (length c.args.bytes.now)) (after_range_write c.args.place c.args.bytes.now) _ _ (turned_listed (λ d. d) (RangeWrite c.args.place (length c.args.bytes.now)) (is_run b.files) _ _ b.kept r.new.self (disk_calls_noted b.disk_calls.calls) (accesses_noted b.accesses.calls) (accesses_noted c.list_access.new.accesses.calls)
-    c.self.invariant.1 r.ensures.turned.in_step is c.list_access.ensures)))
+    (λ is. may_turn_listed (after_range_write c.args.place c.args.bytes.now) (RangeWrite c.args.place (length c.args.bytes.now)) _ _ b.kept r.new.self (disk_calls_noted b.disk_calls.calls) (accesses_noted b.accesses.calls) (accesses_noted c.list_access.new.accesses.calls)
+    is c.list_access.ensures))
 
 pub returns-clause-stops : goal.returns-clause-stops
-returns-clause-stops g c = rw (← c.self.view_is) (same_stops (is_run c.self.inside.files) _ _ c.range_write-answer.ensures.told)
+returns-clause-stops g c = rw (← c.self.view_is) (same_stops _ _ c.range_write-answer.ensures.told)
 
 pub returns-clause-cause : goal.returns-clause-cause
 returns-clause-cause g c = rw (← c.self.view_is) (record { own = c.counted.ensures.cause; others = refl })
@@ -33,9 +32,11 @@ returns-clause-cause g c = rw (← c.self.view_is) (record { own = c.counted.ens
 pub returns-clause-device : goal.returns-clause-device
 returns-clause-device g c =
     let b = c.self.inside in
-    rw (← c.self.view_is) (of_device IsDevice (is_run b.files) _ b.kept (disk_calls_noted b.disk_calls.calls) (accesses_noted b.accesses.calls) c.self.invariant.1 (device_kept b.kept _ c.self.invariant.1))
+    rw (← c.self.view_is) (of_device IsDevice _ b.kept (disk_calls_noted b.disk_calls.calls) (accesses_noted b.accesses.calls) (device_kept b.kept _ c.self.invariant.1))
 
 pub invariant_of-self : goal.invariant_of-self
 invariant_of-self g c =
+    let b = c.self.inside in
     let r = c.range_write-answer in
-    (held_same c.self.inside.files _ _ r.ensures.told c.self.invariant.0, r.ensures.turned.in_step)
+    let turned = r.ensures.turned in
+    (held_turned b.files (after_range_write c.args.place c.args.bytes.now) b.kept r.new.self r.result _ _ turned c.self.invariant.0, turned.in_step, settled_turned b.files b.kept r.new.self _ _ turned.saved c.self.invariant.2)

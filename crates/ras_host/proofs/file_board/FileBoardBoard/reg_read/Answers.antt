@@ -1,10 +1,9 @@
 use Rattle.std.proofs.Common.{◌≡◌, refl}
 use Rattle.erst_store.specs.DeviceLaws.{IsDevice}
-use Rattle.ras_host.specs.JournalFiles.{is_run}
 use Rattle.ras_host.specs.Steps.Listed.{accesses_noted, disk_calls_noted}
 use Rattle.board_core.specs.Told.{register_in}
 use Rattle.board_core.specs.declared.board.Access.TheVariants.{Read}
-use Rattle.ras_host.proofs.ToldLemmas.{device_kept, held_same, if_ok, kept_listed, of_device, read_err, read_ok, same_stops}
+use Rattle.ras_host.proofs.ToldLemmas.{device_kept, held_same, if_ok, kept_listed, of_device, read_err, read_ok, same_stops, settled_same}
 use Rattle.ras_host.proofs.file_board.FileBoardBoard.reg_read.Goals as goal
 
 pub returns-clause-value : goal.returns-clause-value
@@ -12,26 +11,26 @@ returns-clause-value g c =
     let b = c.self.inside in
     let r = c.reg_read-answer in
     rw (← c.self.view_is) (if_ok _ _ r.result c.counted.result c.counted.ensures.ok c.counted.ensures.err r.ensures.value
-    (λ n is. of_device (λ d. n ≡ register_in c.args.reg d) (is_run b.files) _ b.kept (disk_calls_noted b.disk_calls.calls) (accesses_noted b.accesses.calls) c.self.invariant.1 is))
+    (λ n is. of_device (λ d. n ≡ register_in c.args.reg d) _ b.kept (disk_calls_noted b.disk_calls.calls) (accesses_noted b.accesses.calls) is))
 
 pub returns-clause-told : goal.returns-clause-told
 returns-clause-told g c =
     let b = c.self.inside in
     let r = c.reg_read-answer in
     rw (← c.self.view_is) (read_ok c.args.reg _ _ r.result c.counted.result c.unwrap_or.result c.counted.ensures.ok c.counted.ensures.err c.unwrap_or.ensures
-    (kept_listed (Read c.args.reg c.unwrap_or.result) (is_run b.files) _ _ b.kept r.new.self (disk_calls_noted b.disk_calls.calls) (accesses_noted b.accesses.calls) (accesses_noted c.list_access.new.accesses.calls)
-    c.self.invariant.1 r.ensures.in_step r.ensures.told r.ensures.same c.list_access.ensures))
+    (kept_listed (Read c.args.reg c.unwrap_or.result) _ _ b.kept r.new.self (disk_calls_noted b.disk_calls.calls) (accesses_noted b.accesses.calls) (accesses_noted c.list_access.new.accesses.calls)
+    r.ensures.told r.ensures.same c.list_access.ensures))
 
 pub returns-clause-failed : goal.returns-clause-failed
 returns-clause-failed g c =
     let b = c.self.inside in
     let r = c.reg_read-answer in
     rw (← c.self.view_is) (read_err c.args.reg _ _ r.result c.counted.result c.unwrap_or.result c.counted.ensures.ok c.counted.ensures.err c.unwrap_or.ensures
-    (kept_listed (Read c.args.reg c.unwrap_or.result) (is_run b.files) _ _ b.kept r.new.self (disk_calls_noted b.disk_calls.calls) (accesses_noted b.accesses.calls) (accesses_noted c.list_access.new.accesses.calls)
-    c.self.invariant.1 r.ensures.in_step r.ensures.told r.ensures.same c.list_access.ensures))
+    (kept_listed (Read c.args.reg c.unwrap_or.result) _ _ b.kept r.new.self (disk_calls_noted b.disk_calls.calls) (accesses_noted b.accesses.calls) (accesses_noted c.list_access.new.accesses.calls)
+    r.ensures.told r.ensures.same c.list_access.ensures))
 
 pub returns-clause-stops : goal.returns-clause-stops
-returns-clause-stops g c = rw (← c.self.view_is) (same_stops (is_run c.self.inside.files) _ _ c.reg_read-answer.ensures.told)
+returns-clause-stops g c = rw (← c.self.view_is) (same_stops _ _ c.reg_read-answer.ensures.told)
 
 pub returns-clause-cause : goal.returns-clause-cause
 returns-clause-cause g c = rw (← c.self.view_is) (record { own = c.counted.ensures.cause; others = refl })
@@ -39,7 +38,10 @@ returns-clause-cause g c = rw (← c.self.view_is) (record { own = c.counted.ens
 pub returns-clause-device : goal.returns-clause-device
 returns-clause-device g c =
     let b = c.self.inside in
-    rw (← c.self.view_is) (of_device IsDevice (is_run b.files) _ b.kept (disk_calls_noted b.disk_calls.calls) (accesses_noted b.accesses.calls) c.self.invariant.1 (device_kept b.kept _ c.self.invariant.1))
+    rw (← c.self.view_is) (of_device IsDevice _ b.kept (disk_calls_noted b.disk_calls.calls) (accesses_noted b.accesses.calls) (device_kept b.kept _ c.self.invariant.1))
 
 pub invariant_of-self : goal.invariant_of-self
-invariant_of-self g c = (held_same c.self.inside.files _ _ c.reg_read-answer.ensures.told c.self.invariant.0, c.reg_read-answer.ensures.in_step)
+invariant_of-self g c =
+    let b = c.self.inside in
+    let r = c.reg_read-answer in
+    (held_same b.files _ _ r.ensures.told c.self.invariant.0, r.ensures.in_step, settled_same b.files b.kept r.new.self _ _ r.ensures.told r.ensures.same c.self.invariant.2)

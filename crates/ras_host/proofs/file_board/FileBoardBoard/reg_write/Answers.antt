@@ -1,10 +1,9 @@
 use Rattle.std.proofs.Common.{refl}
 use Rattle.erst_store.specs.DeviceLaws.{IsDevice}
-use Rattle.ras_host.specs.JournalFiles.{is_run}
 use Rattle.ras_host.specs.Steps.Listed.{accesses_noted, disk_calls_noted}
 use Rattle.board_core.specs.Told.{after_reg_write}
 use Rattle.board_core.specs.declared.board.Access.TheVariants.{Write}
-use Rattle.ras_host.proofs.ToldLemmas.{device_kept, held_turned, of_device, on_err, on_ok, relates_unacted, store_stops, turned_listed}
+use Rattle.ras_host.proofs.ToldLemmas.{device_kept, does_saved, held_turned, may_turn_listed, of_device, on_err, on_ok, settled_turned, store_stops, store_stored, turned_listed}
 use Rattle.ras_host.proofs.file_board.FileBoardBoard.reg_write.Goals as goal
 
 pub returns-clause-told : goal.returns-clause-told
@@ -12,22 +11,30 @@ returns-clause-told g c =
     let b = c.self.inside in
     let r = c.reg_write-answer in
     rw (← c.self.view_is) (on_ok _ _ r.result c.counted.result c.counted.ensures.ok c.counted.ensures.err r.ensures.turned.ok
-    (λ is. turned_listed (after_reg_write c.args.reg c.args.value) (Write c.args.reg c.args.value) (is_run b.files) _ _ b.kept r.new.self (disk_calls_noted b.disk_calls.calls) (accesses_noted b.accesses.calls) (accesses_noted c.list_access.new.accesses.calls)
-    c.self.invariant.1 r.ensures.turned.in_step is c.list_access.ensures))
+    (λ is. turned_listed (after_reg_write c.args.reg c.args.value) (Write c.args.reg c.args.value) _ _ b.kept r.new.self (disk_calls_noted b.disk_calls.calls) (accesses_noted b.accesses.calls) (accesses_noted c.list_access.new.accesses.calls)
+    is c.list_access.ensures))
 
 pub returns-clause-failed : goal.returns-clause-failed
 returns-clause-failed g c =
     let b = c.self.inside in
     let r = c.reg_write-answer in
     rw (← c.self.view_is) (on_err _ _ r.result c.counted.result c.counted.ensures.ok c.counted.ensures.err r.ensures.turned.err
-    (λ is. relates_unacted (Write c.args.reg c.args.value) (after_reg_write c.args.reg c.args.value) _ _ (turned_listed (λ d. d) (Write c.args.reg c.args.value) (is_run b.files) _ _ b.kept r.new.self (disk_calls_noted b.disk_calls.calls) (accesses_noted b.accesses.calls) (accesses_noted c.list_access.new.accesses.calls)
-    c.self.invariant.1 r.ensures.turned.in_step is c.list_access.ensures)))
+    (λ is. may_turn_listed (after_reg_write c.args.reg c.args.value) (Write c.args.reg c.args.value) _ _ b.kept r.new.self (disk_calls_noted b.disk_calls.calls) (accesses_noted b.accesses.calls) (accesses_noted c.list_access.new.accesses.calls)
+    is c.list_access.ensures))
 
 pub returns-clause-stops : goal.returns-clause-stops
 returns-clause-stops g c =
     let b = c.self.inside in
     let r = c.reg_write-answer in
-    rw (← c.self.view_is) (store_stops (after_reg_write c.args.reg c.args.value) (is_run b.files) _ _ b.kept (disk_calls_noted b.disk_calls.calls) (accesses_noted b.accesses.calls) c.self.invariant.1 r.ensures.turned.stops)
+    rw (← c.self.view_is) (store_stops (after_reg_write c.args.reg c.args.value) _ _ b.kept (disk_calls_noted b.disk_calls.calls) (accesses_noted b.accesses.calls) r.ensures.turned.stops)
+
+pub returns-clause-stored : goal.returns-clause-stored
+returns-clause-stored g c =
+    let b = c.self.inside in
+    let r = c.reg_write-answer in
+    rw (← c.self.view_is) (on_ok _ _ r.result c.counted.result c.counted.ensures.ok c.counted.ensures.err r.ensures.does
+    (λ does. store_stored _ _ b.kept r.new.self (disk_calls_noted b.disk_calls.calls) (accesses_noted b.accesses.calls) (accesses_noted c.list_access.new.accesses.calls)
+    r.ensures.turned.saved (does_saved (after_reg_write c.args.reg c.args.value) b.kept r.new.self does)))
 
 pub returns-clause-cause : goal.returns-clause-cause
 returns-clause-cause g c = rw (← c.self.view_is) (record { own = c.counted.ensures.cause; others = refl })
@@ -35,9 +42,11 @@ returns-clause-cause g c = rw (← c.self.view_is) (record { own = c.counted.ens
 pub returns-clause-device : goal.returns-clause-device
 returns-clause-device g c =
     let b = c.self.inside in
-    rw (← c.self.view_is) (of_device IsDevice (is_run b.files) _ b.kept (disk_calls_noted b.disk_calls.calls) (accesses_noted b.accesses.calls) c.self.invariant.1 (device_kept b.kept _ c.self.invariant.1))
+    rw (← c.self.view_is) (of_device IsDevice _ b.kept (disk_calls_noted b.disk_calls.calls) (accesses_noted b.accesses.calls) (device_kept b.kept _ c.self.invariant.1))
 
 pub invariant_of-self : goal.invariant_of-self
 invariant_of-self g c =
+    let b = c.self.inside in
     let r = c.reg_write-answer in
-    (held_turned c.self.inside.files (after_reg_write c.args.reg c.args.value) c.self.inside.kept r.new.self r.result _ _ r.ensures.turned c.self.invariant.0, r.ensures.turned.in_step)
+    let turned = r.ensures.turned in
+    (held_turned b.files (after_reg_write c.args.reg c.args.value) b.kept r.new.self r.result _ _ turned c.self.invariant.0, turned.in_step, settled_turned b.files b.kept r.new.self _ _ turned.saved c.self.invariant.2)

@@ -1,9 +1,11 @@
 use Rattle.std.proofs.Common.{length, rules}
 use Rattle.ras_host.proofs.JournalLemmas.{moves_as, moves_untorn, wrote_held, write_opened, write_failed}
+use Rattle.ras_host.proofs.KeptLemmas.{on_any_err}
 use Rattle.ras_host.proofs.journal.JournalFiles.write_at.Goals as goal
 
 pub returns-in_err-open-clause-failed : goal.returns-in_err-open-clause-failed
-returns-in_err-open-clause-failed g c = search (rules, moves_untorn)
+returns-in_err-open-clause-failed g c =
+    on_any_err _ _ (moves_untorn c.args.file c.args.place (length c.args.bytes.now) _ _ _ _ c.in_err-open.ensures.moves)
 
 pub returns-in-Open-clause-wrote : goal.returns-in-Open-clause-wrote
 returns-in-Open-clause-wrote g c =

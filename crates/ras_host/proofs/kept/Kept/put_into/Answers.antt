@@ -1,12 +1,20 @@
+use Rattle.std.proofs.Common.{refl}
 use Rattle.board_core.specs.Told.{after_put}
-use Rattle.ras_host.proofs.KeptLemmas.{put_is, turned_or, turned_to}
+use Rattle.ras_host.proofs.KeptLemmas.{put_is, turned_or, turned_unwritten, turned_wrote}
 use Rattle.ras_host.proofs.kept.Kept.put_into.Goals as goal
+
+pub returns-in_default-clause-turned : goal.returns-in_default-clause-turned
+returns-in_default-clause-turned g c =
+    let made = c.in-Ok.ensures in
+    turned_unwritten (after_put c.args.id c.args.bytes.now) c.args.saved c.in-Ok.made.0 c.put_alone.new.device _ _ _ _
+    refl c.requires made.ok.1 (put_is c.args.id c.args.bytes.now c.args.saved.device c.put_alone.new.device made.ok.0 made.refused)
+    c.store.ensures.kept refl
 
 pub returns-clause-turned : goal.returns-clause-turned
 returns-clause-turned g c =
-    let d = c.args.saved.device in
-    let made = c.put_alone.new.device in
+    let made = c.in-Ok.ensures in
     let step = after_put c.args.id c.args.bytes.now in
     rw c.or.ensures (turned_or step _ c.save.new.self c.save.result _ _ _
-    (turned_to step c.args.saved c.in-Ok.made.0 made c.save.new.self c.save.result _ _ c.requires c.in-Ok.ensures.ok.1
-    (put_is c.args.id c.args.bytes.now d made c.in-Ok.ensures.ok.0 c.in-Ok.ensures.refused) c.save.ensures.turned))
+    (turned_wrote step c.args.saved _ c.deref.result.now c.in-Ok.made.0 c.save.new.self c.save.result _ _ c.file_laws.ensures.again c.requires
+    made.ok.1 (put_is c.args.id c.args.bytes.now c.args.saved.device c.put_alone.new.device made.ok.0 made.refused)
+    c.store.ensures.kept c.save.ensures.kept c.deref.ensures.value c.save.ensures.writes))

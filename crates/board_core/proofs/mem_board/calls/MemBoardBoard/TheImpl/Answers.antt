@@ -8,9 +8,9 @@ use Rattle.board_core.specs.Clock.{IsSynced, Leads}
 use Rattle.board_core.specs.MemBoard.{wrote, synced, acted, printed, wrote_register, wrote_range, put_record, device_in, device_step, held_of, told_of, clock_of}
 use Rattle.board_core.specs.Stop.{Same, InFile, InStore, InOut, Becomes, Begins, Appends}
 use Rattle.board_core.specs.Told.{Torn, file_of, with_call, after_write, after_print, after_reg_write, after_range_write, after_put, on_device, with_access}
-use Rattle.board_core.specs.Steps.ChangeLemmas.{passes_wrote, passes_synced, synced_now, passes_acted, passes_kept, passes_printed, leads_printed}
+use Rattle.board_core.specs.Steps.ChangeLemmas.{passes_wrote, passes_synced, synced_now, passes_acted, passes_kept, passes_printed, leads_printed, store_left}
 use Rattle.board_core.specs.Steps.MomentLemmas.{torn_nothing}
-use Rattle.board_core.proofs.MemBoardLemmas.{told_after, stops_after, holds_after, failed_after, wrote_told, told_put, passes_put, store_nothing, begins_nothing}
+use Rattle.board_core.proofs.MemBoardLemmas.{always, always_then, told_after, stops_after, holds_after, failed_after, wrote_told, told_put, passes_put, store_nothing, begins_nothing}
 use Rattle.board_core.proofs.mem_board.calls.MemBoardBoard.TheImpl.Goals as goal
 
 pub write_at-tells : goal.write_at-tells
@@ -27,6 +27,7 @@ sync-tells c = record {
   failed = search rules;
   stops = stops_after (Disk (Sync c.args.file)) _ c.args.self.now c.new.self.now _ c.ensures.does Same (λ left. refl) (passes_synced c.args.self.now.past c.args.file);
   synced = holds_after (Disk (Sync c.args.file)) (synced c.args.file) c.args.self.now c.new.self.now _ c.ensures.does (IsSynced c.args.file (file_of c.args.file (told_of c.args.self.now))) (synced_now c.args.self.now.past c.args.file);
+  stored = always _ (store_left c.new.self.now);
   cause = search rules;
 }
 
@@ -35,6 +36,7 @@ reg_write-tells c = record {
   told = told_after (Device (Write c.args.reg c.args.value)) (acted (wrote_register c.args.reg c.args.value)) c.args.self.now c.new.self.now _ c.ensures.does (with_access (Write c.args.reg c.args.value) (on_device (after_reg_write c.args.reg c.args.value) (told_of c.args.self.now))) refl;
   failed = failed_after (Device (Write c.args.reg c.args.value)) _ c.args.self.now c.new.self.now _ c.ensures.does _ (λ may. record { told = told_of c.args.self.now; acted = inl refl; listed = may });
   stops = stops_after (Device (Write c.args.reg c.args.value)) _ c.args.self.now c.new.self.now _ c.ensures.does (InStore (Becomes (device_step (wrote_register c.args.reg c.args.value) (device_in (held_of c.args.self.now.past))).store)) (store_nothing (device_step (wrote_register c.args.reg c.args.value) (device_in (held_of c.args.self.now.past))).store) (passes_acted c.args.self.now.past (wrote_register c.args.reg c.args.value));
+  stored = always_then _ _ (store_left c.new.self.now);
   cause = search rules;
   device = c.ensures.device;
 }
@@ -59,6 +61,7 @@ put-tells c =
       stops = stops_after Put _ c.args.self.now c.new.self.now _ c.ensures.does (InStore (Becomes store)) (store_nothing store)
           (passes_put c.result c.args.self.now.past (acted (put_record c.args.id c.args.bytes.now)) (InStore (Becomes store)) (store_nothing store) (passes_acted c.args.self.now.past (put_record c.args.id c.args.bytes.now)));
       still = search rules;
+      stored = always_then _ _ (store_left c.new.self.now);
       cause = search rules;
       device = c.ensures.device;
     }

@@ -1,10 +1,10 @@
-use Rattle.std.proofs.Common.{[], Some, ap, ◌∙◌}
+use Rattle.std.proofs.Common.{[], ap, ◌∙◌}
 use Rattle.host_system.specs.declared.system.FileName.TheVariants.{New}
 use Rattle.host_system.specs.Folder.{renamed}
 use Rattle.host_system.specs.FolderPast.{changed_by}
 use Rattle.host_system.specs.MemSystem.{as_stopped, past_noted}
 use Rattle.host_system.proofs.MemLemmas.{noted, held_after}
-use Rattle.host_system.proofs.mem_system.MemSystemSystem.rename.Goals as goal
+use Rattle.host_system.proofs.mem_system.MemSystem.rename_file.Goals as goal
 
 pub invariant_of-self : goal.invariant_of-self
 invariant_of-self c = record { held = c.in_default.ensures.err c.self.inside.out.items _ ∙ c.self.invariant.held; before = c.self.invariant.before }
@@ -14,5 +14,5 @@ invariant_of-self-2 c =
     held_after renamed (past_noted (as_stopped c.self.inside.first) c.self.inside.notes.calls) _ c.self.inside.files c.rename.new.self c.self.inside.out.items c.self.inside.out.items c.self.inside.kept
     (noted (as_stopped c.self.inside.first) 7 New 0 0 [] _ _ c.note.ensures) (c.in-Ok.ensures.ok c.self.inside.out.items) c.self.invariant
 
-pub returns-clause-told : goal.returns-clause-told
-returns-clause-told c = ap Some (noted (as_stopped c.self.inside.first) 7 New 0 0 [] _ _ c.note.ensures ∙ ap (changed_by renamed) (c.self.view_is ∙ c.begin.ensures))
+pub returns-clause-ok : goal.returns-clause-ok
+returns-clause-ok c = noted (as_stopped c.self.inside.first) 7 New 0 0 [] _ _ c.note.ensures ∙ ap (changed_by renamed) c.self.view_is

@@ -1,0 +1,34 @@
+-- What putting a new file in the place of the record store's comes to.
+use Rattle.std.specs.Prelude.{◌≡◌, ℕ, ◌⊎◌, List, Option, Some, Result, OnOk, OnErr}
+use Rattle.board_core.specs.Clock.{Passes}
+use Rattle.board_core.specs.Stop.{InStore, Becomes}
+use Rattle.board_core.specs.declared.board.FileNo.{FileNo}
+use Rattle.host_system.specs.BoardFile.{KeepsFile, SeesSame}
+use Rattle.host_system.specs.FolderPast.{FolderPast, IfTold}
+use Rattle.host_system.specs.View.{HasWholeStore, HasSettledStore, clock_over, seen_now, store_in, with_store}
+
+-- A board sees the store of these bytes, and else the same.
+abbrev pub SeesStore : List ℕ → FolderPast → FolderPast → Type 0
+SeesStore bytes old new = seen_now new ≡ with_store (store_in (Some bytes)) (seen_now old)
+
+-- It does, and nothing of the file is on its way.
+pub record HasReplaced (bytes : List ℕ) (old new : FolderPast) : Type 0 where
+  pub seen : SeesStore bytes old new
+  pub settled : HasSettledStore new
+
+-- A file that was whole stays so.
+abbrev pub KeepsWhole : FolderPast → FolderPast → Type 0
+KeepsWhole old new = HasWholeStore old → HasWholeStore new
+
+-- The store's file was replaced by one of these bytes, or that failed.
+pub record Replaces {T E : Type 0} (bytes : List ℕ) (result : Result T E) (old new : Option FolderPast) : Type 0 where
+  -- The file is whole on the disk if it was.
+  pub whole : IfTold KeepsWhole old new
+  -- The journal's files are as usable as they were.
+  pub files : (file : FileNo) → IfTold (KeepsFile file) old new
+  -- On `Ok` it is the new one, and so on the disk.
+  pub ok : OnOk result (IfTold (HasReplaced bytes) old new)
+  -- On `Err` it is the old one or the new one. Which one the disk has isn't known.
+  pub err : OnErr result (IfTold (λ x y. SeesSame x y ⊎ SeesStore bytes x y) old new)
+  -- A stop meanwhile or now leaves what one before might have left, or that with the new store.
+  pub stops : Passes (InStore (Becomes (store_in (Some bytes)))) (clock_over old) (clock_over new)
