@@ -1,13 +1,14 @@
 -- The files of a board over a system: when one may be used, and what a board sees of a call.
-use Rattle.std.specs.Prelude.{◌≡◌, ℕ, List, [], ◌++◌, true, IsSome}
+use Rattle.std.specs.Prelude.{◌≡◌, ℕ, List, [], ◌++◌, true, Option, IfSome, IsSome, Result, OnOk}
 use Rattle.board_core.specs.declared.board.FileNo.{FileNo}
 use Rattle.board_core.specs.declared.board.FileNo.TheVariants.{Zero, One}
-use Rattle.board_core.specs.Stop.{InFile, InOut, Begins, file_in, with_file_in}
+use Rattle.board_core.specs.Clock.{IsSynced, Passes}
+use Rattle.board_core.specs.Stop.{Same, InFile, InOut, Begins, file_in, with_file_in}
 use Rattle.board_core.specs.Told.{Torn, overlay}
 use Rattle.host_system.specs.declared.system.FileName.TheVariants.{Journal}
 use Rattle.host_system.specs.Folder.{Folder, NameEntry, FileUse, locked, lost, use_in, entry_named, bytes_now}
-use Rattle.host_system.specs.FolderPast.{FolderPast, folder_of}
-use Rattle.host_system.specs.View.{HasWholeStore, HasSettledStore, is_settled_file, is_settled, seen_now}
+use Rattle.host_system.specs.FolderPast.{FolderPast, IfTold, folder_of}
+use Rattle.host_system.specs.View.{HasWholeStore, HasSettledStore, is_settled_file, is_settled, clock_over, seen_now}
 
 -- A file is there, its name is on the disk, and it is locked.
 pub record IsUsableAs (entry : NameEntry) (how : FileUse) : Type 0 where
@@ -120,3 +121,12 @@ SeesPrinted piece old new = seen_now new ≡ record (seen_now old) { out = (seen
 
 abbrev pub SeesBegun : List ℕ → FolderPast → FolderPast → Type 0
 SeesBegun piece old new = InOut (Begins piece) (seen_now old) (seen_now new)
+
+-- A file was synced, or that failed. A board sees the same, and the other file and the store's are as
+-- they were. On `Ok` the file is durable, and may be used as before.
+pub record Syncs {T E : Type 0} (IsFor : FileNo → FolderPast → Type 0) (file : FileNo) (result : Result T E) (old new : Option FolderPast) : Type 0 where
+  pub told : IfTold SeesSame old new
+  pub keeps : IfTold (KeepsOthers file) old new
+  pub stops : Passes Same (clock_over old) (clock_over new)
+  pub synced : OnOk result (IfSome old (λ p. IsSynced file (file_in file (seen_now p)) (clock_over new)))
+  pub usable : OnOk result (IfSome new (IsFor file))

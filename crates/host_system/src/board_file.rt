@@ -1,10 +1,10 @@
 //! A board's two files, as files of the folder, and its output.
 ghost use Rattle.std.specs.Prelude.{◌≡◌, ◌≤◌, length, IfSome, IfOk, OnOk, OnErr};
-ghost use Rattle.board_core.specs.Clock.{Passes, Leads, IsSynced};
+ghost use Rattle.board_core.specs.Clock.{Passes, Leads};
 ghost use Rattle.board_core.specs.Stop.{Same, InFile, InOut, Begins, Appends, file_in};
 ghost use Rattle.board_core.specs.declared.board.FileNo.{FileNo};
 ghost use Rattle.board_core.specs.Told.{ReadsBytes, Torn};
-ghost use Rattle.host_system.specs.BoardFile.{IsUsable, IsOpenable, IsReadable, IsHeld, AreOpenable, AreOpened, AreNamed, KeepsStore, KeepsOthers, SeesSame, SeesWritten, SeesTorn, SeesPrinted, SeesBegun};
+ghost use Rattle.host_system.specs.BoardFile.{IsUsable, IsOpenable, IsReadable, IsHeld, AreOpenable, AreOpened, AreNamed, KeepsStore, KeepsOthers, SeesSame, SeesWritten, SeesTorn, SeesPrinted, SeesBegun, Syncs};
 ghost use Rattle.host_system.specs.FolderPast.{IfTold, HasFile, IsOpen};
 ghost use Rattle.host_system.specs.View.{clock_over, seen_now};
 ghost use Rattle.host_system.specs.declared.system.FileName.TheVariants.{Journal};
@@ -71,12 +71,7 @@ pub fn sync_names<S: System>(system: &mut S) -> Result<(), Failed>
 /// of it.
 pub fn sync_seen<S: System>(file: FileNo, system: &mut S) -> Result<(), Failed>
     requires { IfSome (S.told system.old) (IsReadable file) }
-    ensures told { IfTold SeesSame (S.told system.old) (S.told system.new) }
-    ensures keeps { IfTold (KeepsOthers file) (S.told system.old) (S.told system.new) }
-    ensures stops { Passes Same (clock_over (S.told system.old)) (clock_over (S.told system.new)) }
-    ensures synced { OnOk result (IfSome (S.told system.old)
-        (λ p. IsSynced file (file_in file (seen_now p)) (clock_over (S.told system.new)))) }
-    ensures readable { OnOk result (IfSome (S.told system.new) (IsReadable file)) }
+    ensures { Syncs IsReadable file result (S.told system.old) (S.told system.new) }
 {
     system.sync_read(file)
 }
@@ -108,12 +103,7 @@ pub fn write_file<S: System>(
 /// again.
 pub fn sync_file<S: System>(file: FileNo, system: &mut S) -> Result<(), Failed>
     requires { IfSome (S.told system.old) (IsUsable file) }
-    ensures told { IfTold SeesSame (S.told system.old) (S.told system.new) }
-    ensures keeps { IfTold (KeepsOthers file) (S.told system.old) (S.told system.new) }
-    ensures stops { Passes Same (clock_over (S.told system.old)) (clock_over (S.told system.new)) }
-    ensures synced { OnOk result (IfSome (S.told system.old)
-        (λ p. IsSynced file (file_in file (seen_now p)) (clock_over (S.told system.new)))) }
-    ensures usable { OnOk result (IfSome (S.told system.new) (IsUsable file)) }
+    ensures { Syncs IsUsable file result (S.told system.old) (S.told system.new) }
 {
     system.sync(FileName::Journal(file))
 }

@@ -7,7 +7,7 @@ ghost use Rattle.erst_store.specs.Device.{Device, act, with_put};
 ghost use Rattle.erst_store.specs.DeviceLaws.{IsDevice, MayChange};
 ghost use Rattle.erst_store.specs.Store.{AnswersRefusal, refusal_of};
 ghost use Rattle.host_system.specs.View.{HasWholeStore, seen_now};
-ghost use Rattle.ras_host.specs.Steps.KeptDevice.{Acts, Does, IfRefused, IsHere, IsInStep, IsSaved, IsThere, IsUsed, Keeps, KeepsOrLoses, Puts, Stays, Turned, after_answer, device_in};
+ghost use Rattle.ras_host.specs.Steps.KeptDevice.{Acts, Does, IfRefused, IsHere, IsInStep, IsSaved, IsThere, IsUsed, Keeps, KeepsOrLoses, Looks, Puts, Stays, Turned, after_answer, device_in};
 ghost use Rattle.ras_host.specs.Steps.Written.{Writes};
 
 use crate::saved::{RECORD_HEADING, Saved, write_store};
@@ -82,11 +82,7 @@ impl Kept {
         ensures value { IfOk result (λ n. IfSome (S.told system.old)
             (λ p. n ≡ register_in reg (device_in self.old p))) }
         ensures reads { IfOk result (λ n. (d : Device) → IsHere self.new d → n ≡ register_in reg d) }
-        ensures does { OnOk result (Does (λ d. d) self.old self.new) }
-        ensures answers { IsThere self.old → IsOk result }
-        ensures told { S.told system.new ≡ S.told system.old }
-        ensures same { IfSome (S.told system.old) (Keeps self.old self.new) }
-        ensures in_step { IfSome (S.told system.new) (IsInStep self.new) }
+        ensures looks { Looks self.old self.new result (S.told system.old) (S.told system.new) }
     {
         let saved = self.take(alloc, system)?;
         let number = register_of(reg, &saved.device);
@@ -214,11 +210,7 @@ impl Kept {
             (λ p. buf.new ≡ take (length buf.old) (drop place (device_in self.old p).range))) }
         ensures copies { OnOk result ((d : Device) → IsHere self.new d
             → buf.new ≡ take (length buf.old) (drop place d.range)) }
-        ensures does { OnOk result (Does (λ d. d) self.old self.new) }
-        ensures answers { IsThere self.old → IsOk result }
-        ensures told { S.told system.new ≡ S.told system.old }
-        ensures same { IfSome (S.told system.old) (Keeps self.old self.new) }
-        ensures still { IfSome (S.told system.new) (IsInStep self.new) }
+        ensures looks { Looks self.old self.new result (S.told system.old) (S.told system.new) }
     {
         let saved = self.take(alloc, system)?;
         saved.device.range_read(place, buf);

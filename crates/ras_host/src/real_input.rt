@@ -1,5 +1,5 @@
 //! The standard input of the process, of whose bytes no clause speaks.
-ghost use Rattle.std.specs.Prelude.{None};
+ghost use Rattle.std.specs.Prelude.{◌≡◌, None};
 
 use board_core::Failed;
 use host_system::Input;
@@ -13,7 +13,9 @@ pub struct RealInput {
 
 impl RealInput {
     /// The process's input, from where it stands.
-    pub fn new(rt: HostRuntime) -> RealInput {
+    pub fn new(rt: HostRuntime) -> RealInput
+        ensures { result.rt ≡ rt }
+    {
         RealInput { rt }
     }
 }

@@ -3,7 +3,7 @@
 //!
 //! The library's calls on a whole file, `read_exact_at` and `write_all_at` go on after a short read
 //! or write, and make a call again that a signal interrupted.
-ghost use Rattle.std.specs.Prelude.{None};
+ghost use Rattle.std.specs.Prelude.{◌≡◌, [], None, replicate};
 
 use crate::names::{check_names, look, number, open_linked, open_to_read, path};
 use board_core::{Failed, FileNo};
@@ -26,23 +26,27 @@ const UNOWNED_MODE: u32 = 0o600;
 pub struct RealSystem {
     rt: HostRuntime,
     // Each file that is open, at its name's number.
-    open: [Option<File>; 4],
+    files: [Option<File>; 4],
     // The folders that links of locked files lead into.
     linked: Vec<File>,
 }
 
 impl RealSystem {
     /// The process's folder and output, with no file open.
-    pub fn new(rt: HostRuntime) -> RealSystem {
+    pub fn new(rt: HostRuntime) -> RealSystem
+        ensures process { result.rt ≡ rt }
+        ensures shut { result.files ≡ replicate 4 None }
+        ensures unlinked { result.linked.items ≡ [] }
+    {
         RealSystem {
             rt,
-            open: [None, None, None, None],
+            files: [None, None, None, None],
             linked: Vec::new(rt.alloc()),
         }
     }
 
     fn opened(&self, name: FileName) -> Result<&File, Failed> {
-        self.open[number(name)].as_ref().ok_or(Failed)
+        self.files[number(name)].as_ref().ok_or(Failed)
     }
 
     // Brings the names in the folder to the disk, and those in the folders of linked files.
@@ -76,7 +80,7 @@ impl System for RealSystem {
 
     fn open(&mut self, name: FileName) -> Result<(), Failed> {
         let file = open_file(&self.rt, name, false).map_err(|_| Failed)?;
-        self.open[number(name)] = Some(file);
+        self.files[number(name)] = Some(file);
         Ok(())
     }
 
@@ -85,19 +89,19 @@ impl System for RealSystem {
             FileName::New => make_new(&self.rt),
             _ => open_file(&self.rt, name, true),
         };
-        self.open[number(name)] = Some(file.map_err(|_| Failed)?);
+        self.files[number(name)] = Some(file.map_err(|_| Failed)?);
         Ok(())
     }
 
     fn lock(&mut self, name: FileName) -> Result<(), Failed> {
         self.opened(name)?.try_lock().map_err(|_| Failed)?;
-        check_names(&self.rt, &self.open).map_err(|_| Failed)?;
+        check_names(&self.rt, &self.files).map_err(|_| Failed)?;
         open_linked(&self.rt, name, &mut self.linked).map_err(|_| Failed)
     }
 
     fn read(&mut self, name: FileName, most: u64) -> Result<Option<Vec<u8>>, Failed> {
         if name != FileName::Store {
-            check_names(&self.rt, &self.open).map_err(|_| Failed)?;
+            check_names(&self.rt, &self.files).map_err(|_| Failed)?;
         }
         let Some(file) = open_to_read(&self.rt, name).map_err(|_| Failed)? else {
             return Ok(None);
@@ -116,7 +120,7 @@ impl System for RealSystem {
     // has no name any more would be lost.
     fn write_at(&mut self, name: FileName, place: u64, bytes: &[u8]) -> Result<(), Failed> {
         if place == 0 && name != FileName::New {
-            check_names(&self.rt, &self.open).map_err(|_| Failed)?;
+            check_names(&self.rt, &self.files).map_err(|_| Failed)?;
         }
         let file = self.opened(name)?;
         file.write_all_at(bytes, place).map_err(|_| Failed)
@@ -150,7 +154,7 @@ impl System for RealSystem {
     }
 
     fn rename(&mut self) -> Result<(), Failed> {
-        self.open[number(FileName::New)] = None;
+        self.files[number(FileName::New)] = None;
         rename(&self.rt, path(FileName::New), path(FileName::Store)).map_err(|_| Failed)
     }
 
@@ -158,7 +162,7 @@ impl System for RealSystem {
     // brought the names there first. So a report goes on where it may search the folder and not open
     // it, or where the folder can't be synced, as it does with a file.
     fn sync_names(&mut self) -> Result<(), Failed> {
-        let is_report = self.open.iter().all(|file| file.is_none());
+        let is_report = self.files.iter().all(|file| file.is_none());
         match self.sync_folders().map_err(|error| error.kind()) {
             Err(ErrorKind::PermissionDenied) if is_report => Ok(()),
             Err(kind) if is_report && is_without_sync(kind) => Ok(()),

@@ -134,67 +134,45 @@ fn is_whole(
     Ok(exit == Exit::Done && names_in(alloc, &now(&system)?)?.as_slice() == names)
 }
 
-// Stops a run before each of its calls, and answers how many those were, if the account was whole
-// after each.
+// What a stop leaves of a run that this befell; none if it made no such call.
+fn left_of(
+    system: &MemSystem,
+    exit: Exit,
+    trouble: Trouble,
+    pick: &StopPick,
+) -> Result<Option<LeftFolder>, Fail> {
+    match trouble {
+        Trouble::Stop(_) => Ok(system.left_before(pick)?),
+        Trouble::Failure(..) if exit == Exit::Done => Ok(None),
+        _ => Ok(Some(system.left(pick)?)),
+    }
+}
+
+// Has each call of a run stop it, or fail with this done, and answers how many those were, if the
+// account was whole over all that a stop leaves then.
 fn calls_that_lose_nothing(
     alloc: Global,
     script: &[&[u8]],
     start: &LeftFolder,
-) -> Result<Option<u64>, Fail> {
-    let (_, undisturbed) = run_over(alloc, script, start, Trouble::Nothing)?;
-    let names = names_in(alloc, &now(&undisturbed)?)?;
-    for stop in 1..MOST_CALLS {
-        let (_, system) = run_over(alloc, script, start, Trouble::Stop(stop))?;
-        for is_old in OLD_NAMES {
-            for rest in WRITES {
-                let Some(left) = system.left_before(&pick_of(is_old, rest))? else {
-                    return Ok(Some(stop - 1));
-                };
-                if !is_whole(alloc, script, &left, &names)? {
-                    return Ok(None);
-                }
-            }
-        }
-    }
-    Ok(None)
-}
-
-// Whether runs are whole over all that a stop now may leave, by those choices.
-fn are_whole(
-    alloc: Global,
-    script: &[&[u8]],
-    system: &MemSystem,
-    names: &[u8],
-) -> Result<bool, Fail> {
-    for is_old in OLD_NAMES {
-        for rest in WRITES {
-            let left = system.left(&pick_of(is_old, rest))?;
-            if !is_whole(alloc, script, &left, names)? {
-                return Ok(false);
-            }
-        }
-    }
-    Ok(true)
-}
-
-// Makes each call of a run fail, done or not, which ends the run, and then stops the machine.
-// Answers how many those were, if the account was whole after each.
-fn failures_that_lose_nothing(
-    alloc: Global,
-    script: &[&[u8]],
-    start: &LeftFolder,
+    effect: Option<Effect>,
 ) -> Result<Option<u64>, Fail> {
     let (_, undisturbed) = run_over(alloc, script, start, Trouble::Nothing)?;
     let names = names_in(alloc, &now(&undisturbed)?)?;
     for call in 1..MOST_CALLS {
-        for effect in [Effect::Nothing, Effect::All] {
-            let trouble = Trouble::Failure(call, effect);
-            let (exit, system) = run_over(alloc, script, start, trouble)?;
-            if exit == Exit::Done {
-                return Ok(Some(call - 1));
-            }
-            if !are_whole(alloc, script, &system, &names)? {
-                return Ok(None);
+        let trouble = match effect {
+            Some(effect) => Trouble::Failure(call, effect),
+            None => Trouble::Stop(call),
+        };
+        let (exit, system) = run_over(alloc, script, start, trouble)?;
+        for is_old in OLD_NAMES {
+            for rest in WRITES {
+                let pick = pick_of(is_old, rest);
+                let Some(left) = left_of(&system, exit, trouble, &pick)? else {
+                    return Ok(Some(call - 1));
+                };
+                if !is_whole(alloc, script, &left, &names)? {
+                    return Ok(None);
+                }
             }
         }
     }
@@ -208,9 +186,8 @@ fn nothing_is_lost_over_a_switch(rt: HostRuntime) -> Result<(), Fail> {
     let mut start = LeftFolder::empty(alloc);
     start.zero = Some(full_chain(alloc)?);
     let script: &[&[u8]] = &[MODULE, EVERYDAY, ANOTHER];
-    assert!(rt;
-        matches!(calls_that_lose_nothing(alloc, script, &start)?, Some(calls) if calls > 20)
-    );
+    let calls = calls_that_lose_nothing(alloc, script, &start, None)?;
+    assert!(rt; matches!(calls, Some(calls) if calls > 20));
     Ok(())
 }
 
@@ -219,19 +196,9 @@ fn nothing_is_lost_over_polls(rt: HostRuntime) -> Result<(), Fail> {
     let alloc = rt.alloc();
     let script: &[&[u8]] = &[ERST, ENTRIES, PUT_5, RECORD, PANIC, POLL, EVERYDAY];
     let start = LeftFolder::empty(alloc);
-    assert!(rt;
-        matches!(calls_that_lose_nothing(alloc, script, &start)?, Some(calls) if calls > 40)
-    );
-    Ok(())
-}
-
-#[test]
-fn nothing_is_lost_over_failures(rt: HostRuntime) -> Result<(), Fail> {
-    let alloc = rt.alloc();
-    let script: &[&[u8]] = &[ERST, ENTRIES, PUT_5, RECORD, PANIC, POLL, EVERYDAY];
-    let start = LeftFolder::empty(alloc);
-    assert!(rt;
-        matches!(failures_that_lose_nothing(alloc, script, &start)?, Some(calls) if calls > 40)
-    );
+    for effect in [None, Some(Effect::Nothing), Some(Effect::All)] {
+        let calls = calls_that_lose_nothing(alloc, script, &start, effect)?;
+        assert!(rt; matches!(calls, Some(calls) if calls > 40));
+    }
     Ok(())
 }

@@ -1,5 +1,5 @@
 -- The device that a board keeps, over the record store that the folder's store file holds.
-use Rattle.std.specs.Prelude.{◌≡◌, ℕ, ◌⊎◌, Bool, ◌&&◌, nat_eq, if◌then◌else◌, List, [], Option, None, Some, IfSome, Result, Ok, Err, OnOk, OnErr}
+use Rattle.std.specs.Prelude.{◌≡◌, ℕ, ◌⊎◌, Bool, ◌&&◌, nat_eq, if◌then◌else◌, List, [], Option, None, Some, IfSome, Result, Ok, Err, IsOk, OnOk, OnErr}
 use Rattle.std.specs.Cmp.Lexicographic.{pointwise}
 use Rattle.board_core.specs.Clock.{Passes}
 use Rattle.board_core.specs.Stop.{Becomes, InStore}
@@ -146,3 +146,12 @@ pub record Puts (id : ℕ) (bytes : List ℕ) (result : Result (Unit {0}) BoardP
   pub used : IsUsed old before
   pub answers : AnswersPut result (refusal_of id bytes before.store)
   pub after : IsHere new (after_answer id bytes result before)
+
+-- A call that only reads the device, which is kept then, or that failed, as it doesn't over one that
+-- was. The folder and the device stay as they are.
+pub record Looks {T E : Type 0} (old new : Kept) (result : Result T E) (before after : Option FolderPast) : Type 0 where
+  pub does : OnOk result (Does (λ d. d) old new)
+  pub answers : IsThere old → IsOk result
+  pub told : after ≡ before
+  pub same : IfSome before (Keeps old new)
+  pub in_step : IfSome after (IsInStep new)

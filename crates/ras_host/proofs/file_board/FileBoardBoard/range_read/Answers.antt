@@ -20,7 +20,7 @@ returns-clause-told g c =
     let r = c.range_read-answer in
     rw (← c.self.view_is) (on_ok _ _ r.result c.counted.result c.counted.ensures.ok c.counted.ensures.err r.ensures.read
     (λ is. kept_listed (RangeRead c.args.place (length c.args.buf.now)) _ _ b.kept r.new.self (disk_calls_noted b.disk_calls.calls) (accesses_noted b.accesses.calls) (accesses_noted c.list_access.new.accesses.calls)
-    r.ensures.told r.ensures.same c.list_access.ensures))
+    r.ensures.looks.told r.ensures.looks.same c.list_access.ensures))
 
 pub returns-clause-failed : goal.returns-clause-failed
 returns-clause-failed g c =
@@ -28,10 +28,10 @@ returns-clause-failed g c =
     let r = c.range_read-answer in
     rw (← c.self.view_is) (on_any_err _ c.counted.result (relates_listed (RangeRead c.args.place (length c.args.buf.now)) _ _
     (kept_listed (RangeRead c.args.place (length c.args.buf.now)) _ _ b.kept r.new.self (disk_calls_noted b.disk_calls.calls) (accesses_noted b.accesses.calls) (accesses_noted c.list_access.new.accesses.calls)
-    r.ensures.told r.ensures.same c.list_access.ensures)))
+    r.ensures.looks.told r.ensures.looks.same c.list_access.ensures)))
 
 pub returns-clause-stops : goal.returns-clause-stops
-returns-clause-stops g c = rw (← c.self.view_is) (same_stops _ _ c.range_read-answer.ensures.told)
+returns-clause-stops g c = rw (← c.self.view_is) (same_stops _ _ c.range_read-answer.ensures.looks.told)
 
 pub returns-clause-cause : goal.returns-clause-cause
 returns-clause-cause g c = rw (← c.self.view_is) (record { own = c.counted.ensures.cause; others = refl })
@@ -45,4 +45,4 @@ pub invariant_of-self : goal.invariant_of-self
 invariant_of-self g c =
     let b = c.self.inside in
     let r = c.range_read-answer in
-    (held_same b.files _ _ r.ensures.told c.self.invariant.0, r.ensures.still, settled_same b.files b.kept r.new.self _ _ r.ensures.told r.ensures.same c.self.invariant.2)
+    (held_same b.files _ _ r.ensures.looks.told c.self.invariant.0, r.ensures.looks.in_step, settled_same b.files b.kept r.new.self _ _ r.ensures.looks.told r.ensures.looks.same c.self.invariant.2)

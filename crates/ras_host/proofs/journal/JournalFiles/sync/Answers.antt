@@ -25,4 +25,4 @@ pub returns-in-Seen-clause-held : goal.returns-in-Seen-clause-held
 returns-in-Seen-clause-held g c =
     let s = c.sync_seen-answer.ensures in
     seen_held c.args.file c.sync_seen-answer.result c.is_ok-in-Seen.result c.in-Seen.field-0 c.in-Seen.sound _ _ _ _
-    c.in-Seen.is c.in_ok-open.ensures.held s.told s.keeps s.readable c.is_ok-in-Seen.ensures.value c.set-in-Seen.ensures
+    c.in-Seen.is c.in_ok-open.ensures.held s.told s.keeps s.usable c.is_ok-in-Seen.ensures.value c.set-in-Seen.ensures
