@@ -20,4 +20,4 @@ pub use made::{Made, Piece};
 pub use preparing::{News, PrepareRefused, Prepared, count, prepare};
 pub use printed::printed_lines_are_quiet;
 pub use settings::Settings;
-pub use whole_lines::lines_follow_one_another;
+pub use whole_lines::{lines_follow_one_another, quiet_lines_follow_one_another};
