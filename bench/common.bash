@@ -55,7 +55,7 @@ lines() {
     local block record table
     block=$(sed -n '/^ghes/{s/.* //p;q}' "$bench/../demo/pcie.script")
     record=$(od -An -v -tx1 -N353 "$bench/../demo/firmware.records" | tr -d ' \n')
-    table=$(grep '^erst' "$bench/../demo/store.script")
+    table=$(grep '^erst' "$bench/../service/store.script")
     awk -v kind="$1" -v count="$2" -v boot="${3-2}" -v block="$block" -v record="$record" -v table="$table" \
         -f "$bench/lines.awk"
 }

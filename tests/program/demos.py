@@ -1,9 +1,9 @@
-"""Checks of what the scripts in demo/ make of the program's lines; tests/program/examples runs them.
+"""Checks of what the filters in service/ make of the program's lines; tests/program/examples runs them.
 
-demo/json is tried on every line that tests/program/rows.txt and the cases say is printed, what
+service/json is tried on every line that tests/program/rows.txt and the cases say is printed, what
 monitor/write-metrics writes of `report metrics` by a parser that refuses what the rules of Prometheus' text
 format (version 0.0.4) don't allow,
-demo/ghes-lines on the forms in which a kernel's log is printed, and demo/put-lines on records that are
+service/ghes-lines on the forms in which a kernel's log is printed, and service/put-lines on records that are
 whole or cut.
 """
 import datetime
@@ -18,7 +18,7 @@ import time
 from rattle import TOP
 from table import rows
 
-DEMO, MONITOR, TESTS = TOP / "demo", TOP / "monitor", TOP / "tests" / "program"
+DEMO, SERVICE, MONITOR, TESTS = TOP / "demo", TOP / "service", TOP / "monitor", TOP / "tests" / "program"
 
 # The kinds of lines that rasd prints, each by its beginning.
 KINDS = (
@@ -48,8 +48,8 @@ MORE = (
 
 
 def output_of(name, data, *words):
-    """What a script of demo/ prints of an input, and its status."""
-    ran = subprocess.run([DEMO / name, *words], input=data, capture_output=True)
+    """What a script of service/ prints of an input, and its status."""
+    ran = subprocess.run([SERVICE / name, *words], input=data, capture_output=True)
     return ran.stdout + ran.stderr, ran.returncode
 
 
@@ -60,14 +60,14 @@ def holds(what, is_so):
     return is_so
 
 
-# ---- demo/json
+# ---- service/json
 
 # The parts of a name by its kind, and members that are strings or null.
 PARTS = {"bank": "boot cpu bank tsc", "record": "record", "block": "boot source number", "bert": "boot"}
 STRINGS = ("label", "page", "record", "mask", "apic", "tsc", "number", "id")
 
 
-# What these words print isn't for demo/json.
+# What these words print isn't for service/json.
 OTHERS = (b"lines", b"--help", b"--version", b"metrics")
 
 
@@ -297,12 +297,12 @@ def checks_of_labels(program, folder, samples):
         yield holds(f"metrics: by the rows {lines}: {ran.stderr}", is_right)
 
 
-# ---- demo/ghes-lines
+# ---- service/ghes-lines
 
 
 def said_by(name, text, *words):
-    """What a script of demo/ prints of a text, and what it says."""
-    ran = subprocess.run([DEMO / name, *words], input=text.encode(), capture_output=True)
+    """What a script of service/ prints of a text, and what it says."""
+    ran = subprocess.run([SERVICE / name, *words], input=text.encode(), capture_output=True)
     return ran.stdout.decode(), ran.stderr.decode()
 
 
@@ -316,7 +316,7 @@ def makes(name, what, text, wanted, why, *words):
 def checks_of_words(name, right, *wrong):
     """Words that are none of a script's end it, and are told."""
     for words in wrong:
-        ran = subprocess.run([DEMO / name, *words], input=b"", capture_output=True)
+        ran = subprocess.run([SERVICE / name, *words], input=b"", capture_output=True)
         yield holds(f"{name}: {words}", (ran.stdout, ran.returncode) == (b"", 1) and ran.stderr.startswith(b"usage: "))
     yield holds(f"{name}: {right}", output_of(name, b"", *right) == (b"", 0))
 
@@ -324,7 +324,7 @@ def checks_of_words(name, right, *wrong):
 def checks_of_waiting(name, text, *words):
     """What a script makes of an error is printed at once, though its input stays open."""
     pipes = {"stdin": subprocess.PIPE, "stdout": subprocess.PIPE}
-    with subprocess.Popen(["timeout", "20", DEMO / name, *words], **pipes) as process:
+    with subprocess.Popen(["timeout", "20", SERVICE / name, *words], **pipes) as process:
         process.stdin.write(text.encode())
         process.stdin.flush()
         lines = [process.stdout.readline() for _ in said_by(name, text, *words)[0].splitlines()]
@@ -389,7 +389,7 @@ def checks_of_many_sources(program):
     yield holds(f"ghes-lines: many sources: {ran.stdout[-99:]}", is_short and is_taken)
 
 
-# ---- demo/put-lines
+# ---- service/put-lines
 
 
 def record_of(identifier, size):
@@ -415,7 +415,7 @@ def checks_of_put_lines():
     tried += [(data[:first] + b"X" + data[first + 1 :], line, 1), (data[:20] + bytes(4) + data[24:], b"", 1)]
     tried += [(b"".join(odd.values()), taken, 1), (data[:first] + odd[8, 20_000][:-1], line, 1)]
     for records, wanted, status in tried:
-        ran = subprocess.run([DEMO / "put-lines"], input=records, capture_output=True)
+        ran = subprocess.run([SERVICE / "put-lines"], input=records, capture_output=True)
         is_right = (ran.stdout, ran.returncode) == (wanted, status)
         is_told = ran.stderr.startswith(b"put-lines: ") == (status == 1)
         yield holds(f"put-lines: {len(records)} bytes: {ran.stdout[:80]}", is_right and is_told)
