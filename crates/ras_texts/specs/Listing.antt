@@ -2,6 +2,7 @@
 use Rattle.std.specs.Prelude.{ℕ, Bool, List, [], ◌++◌, codes, decimal, if◌then◌else◌}
 use Rattle.std.specs.List.{flat_map, zip}
 use Rattle.std.specs.Option.{option_map_or}
+use Rattle.ras_base.specs.Text.{line_with}
 use Rattle.mca_status.specs.declared.classes.ItemClass.{ItemClass}
 use Rattle.mca_status.specs.Classes.{classes}
 use Rattle.dimm_topology.specs.Labels.{Bytes}
@@ -13,7 +14,7 @@ use Rattle.ras_account.specs.Modules.{Module}
 use Rattle.ras_texts.specs.declared.listing.Listing.{Listing}
 use Rattle.ras_texts.specs.declared.listing.Listing.TheVariants.{Counts, Pages, Names, Modules, Metrics}
 use Rattle.ras_texts.specs.Metrics.{metrics_text}
-use Rattle.ras_texts.specs.Text.{address_text, class_text, label_text, line_with, name_text, state_text}
+use Rattle.ras_texts.specs.Text.{address_text, class_text, label_text, name_text, state_text}
 
 -- the weight of a class, and the weights of all classes in the order of their numbers
 abbrev pub class_count : ItemClass × ℕ → List ℕ

@@ -3,6 +3,7 @@
 use Rattle.std.specs.Prelude.{◌≡◌, ℕ, ◌==◌, ◌||◌, Bool, IsTrue, nat_eq, List, [], ◌∷◌, ◌++◌, codes, count_by, decimal, length, map, if◌then◌else◌}
 use Rattle.std.specs.List.{flat_map, join_with_byte, zip}
 use Rattle.std.specs.Option.{option_map_or}
+use Rattle.ras_base.specs.Text.{line_with}
 use Rattle.mca_status.specs.declared.classes.ItemClass.{ItemClass}
 use Rattle.mca_status.specs.Classes.{classes}
 use Rattle.dimm_topology.specs.Labels.{Bytes}
@@ -18,7 +19,7 @@ use Rattle.ras_account.specs.Modules.{Module}
 use Rattle.ras_texts.specs.declared.metrics.Metric.{Metric}
 use Rattle.ras_texts.specs.declared.metrics.Metric.TheVariants.{ErrorsTotal, Pages, ModuleReplace, ModuleBucket, ModuleBucketLimit, Names, NamesLimit, EntriesTotal, BootFloor, BuildInfo}
 use Rattle.ras_texts.specs.declared.version.TheConstants.{VERSION}
-use Rattle.ras_texts.specs.Text.{class_text, label_text, line_with, state_text}
+use Rattle.ras_texts.specs.Text.{class_text, label_text, state_text}
 
 -- a sample: its metric's name, its labels with their values, and its number
 pub record Sample : Type 0 where

@@ -20,7 +20,7 @@ pub use laws::metrics_laws;
 pub use listing::{Listing, push_listing};
 pub use log::{push_known, push_repeat};
 pub use order::{ORDER_LENGTH, push_orders, standing_lines};
-pub use pieces::{class_word, push_name, push_number};
+pub use pieces::{class_word, push_name};
 pub use report::{push_detail, push_entry, push_report};
 pub use unreadable::push_unreadable;
 pub use version::VERSION;

@@ -9,13 +9,11 @@ ghost use Rattle.ras_texts.specs.Listing.{counts_line, listed_name, listing_line
 ghost use Rattle.ras_texts.specs.Listing.{module_row_line, page_row_line, replace_text};
 
 use crate::metrics::push_metrics;
-use crate::pieces::{
-    CLASSES, class_word, push_label, push_name, push_number, push_page, state_word,
-};
+use crate::pieces::{CLASSES, class_word, push_label, push_name, push_page, state_word};
 use mca_status::ItemClass;
 use page_policy::{Bucket, PageState};
 use ras_account::{Account, ModuleRow};
-use ras_base::NoMemory;
+use ras_base::{NoMemory, push_number};
 use ras_facts::Name;
 
 /// What of the account is listed.

@@ -2,6 +2,7 @@
 
 ghost use Rattle.std.specs.Prelude.{◌≡◌, ◌++◌, [], ◌∷◌, codes, count_by, decimal, nat_eq, if◌then◌else◌, OnOk};
 ghost use Rattle.std.specs.List.{flat_map, zip};
+ghost use Rattle.ras_base.specs.Text.{line_with};
 ghost use Rattle.page_policy.specs.Rows.{height};
 ghost use Rattle.ras_account.specs.Rows.{row_of};
 ghost use Rattle.ras_texts.specs.Metrics.{bucket_samples, class_pair, error_sample, error_samples};
@@ -9,15 +10,15 @@ ghost use Rattle.ras_texts.specs.Metrics.{escape, family_text, head_text, help_o
 ghost use Rattle.ras_texts.specs.Metrics.{label_pair};
 ghost use Rattle.ras_texts.specs.Metrics.{metrics_text, name_of, page_sample, pair_text};
 ghost use Rattle.ras_texts.specs.Metrics.{replace_samples, sample_of, sample_text, samples_of};
-ghost use Rattle.ras_texts.specs.Text.{label_text, line_with};
+ghost use Rattle.ras_texts.specs.Text.{label_text};
 
 use crate::VERSION;
-use crate::pieces::{CLASSES, class_word, label_word, push_number, state_word};
+use crate::pieces::{CLASSES, class_word, label_word, state_word};
 use dimm_topology::Label;
 use mca_status::ItemClass;
 use page_policy::PageState;
 use ras_account::{Account, MOST_NAMES, ModuleRow};
-use ras_base::NoMemory;
+use ras_base::{NoMemory, push_number};
 
 /// What is measured of an account: each metric has samples of its own.
 #[derive(Clone, Copy, Debug, PartialEq, Eq)]
