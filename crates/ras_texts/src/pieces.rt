@@ -12,7 +12,7 @@ use ras_base::{NoMemory, push_number};
 use ras_facts::Name;
 
 /// The classes in the order of their numbers.
-pub(crate) const CLASSES: [ItemClass; CLASS_COUNT] = [
+pub const CLASSES: [ItemClass; CLASS_COUNT] = [
     ItemClass::Ce,
     ItemClass::Ucna,
     ItemClass::Srao,
@@ -88,7 +88,7 @@ pub fn class_word(class: ItemClass) -> &'static [u8]
 }
 
 /// The word of a page's state.
-pub(crate) fn state_word(state: PageState) -> &'static [u8]
+pub fn state_word(state: PageState) -> &'static [u8]
     ensures { result.now ≡ state_text state }
 {
     match state {
