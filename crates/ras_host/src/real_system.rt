@@ -82,26 +82,6 @@ fn sync_bytes(file: &File) -> io::Result<()> {
     file.sync_data()
 }
 
-// Has the next read of a file come from the disk. A sync that failed in another process may have left
-// bytes that memory has and the disk doesn't, and the next sync would call them good. Bytes that are
-// still to be written can't be forgotten, so the sync comes first.
-fn read_anew(file: &File) -> io::Result<()> {
-    sync_bytes(file)?;
-    let advised = libc::posix_fadvise(file.as_raw_fd(), 0, 0, libc::POSIX_FADV_DONTNEED);
-    if advised != 0 {
-        return Err(io::Error::from_raw_os_error(advised));
-    }
-    Ok(())
-}
-
-// The same of a file that is only read. A file system that can be read alone has nothing to write.
-fn read_anew_if_synced(file: &File) -> io::Result<()> {
-    match read_anew(file) {
-        Err(error) if is_without_sync(error.kind()) => Ok(()),
-        answer => answer,
-    }
-}
-
 impl System for RealSystem {
     ghost told = { λ _. None };
 
@@ -129,10 +109,8 @@ impl System for RealSystem {
     }
 
     fn lock(&mut self, name: FileName) -> Result<(), Failed> {
-        let file = self.opened(name)?;
-        file.try_lock().map_err(|_| Failed)?;
+        self.opened(name)?.try_lock().map_err(|_| Failed)?;
         check_names(&self.rt, &self.files).map_err(|_| Failed)?;
-        read_anew(file).map_err(|_| Failed)?;
         open_linked(&self.rt, name, &mut self.linked).map_err(|_| Failed)
     }
 
@@ -143,9 +121,6 @@ impl System for RealSystem {
         let Some(file) = open_to_read(&self.rt, name).map_err(|_| Failed)? else {
             return Ok(None);
         };
-        if name == FileName::Store {
-            read_anew_if_synced(&file).map_err(|_| Failed)?;
-        }
         let mut bytes = Vec::new(self.rt.alloc());
         file.take(most).read_to_end(&mut bytes).map_err(|_| Failed)?;
         Ok(Some(bytes))
@@ -186,7 +161,10 @@ impl System for RealSystem {
         let Some(opened) = opened else {
             return Ok(());
         };
-        read_anew_if_synced(&opened).map_err(|_| Failed)
+        match sync_bytes(&opened).map_err(|error| error.kind()) {
+            Err(kind) if is_without_sync(kind) => Ok(()),
+            answer => answer.map_err(|_| Failed),
+        }
     }
 
     // A file system without a journal may lose the rename of a new store half: then it stands under its
