@@ -78,10 +78,9 @@ def process_of(entry):
 class Service:
     """The unit's command in a folder of its own, with a stub of journalctl."""
 
-    def __init__(self, room):
-        self.room, self.folder = pathlib.Path(room), pathlib.Path(room) / "folder"
+    def __init__(self, room, folder):
+        self.room, self.folder = pathlib.Path(room), pathlib.Path(folder)
         (self.room / "bin").mkdir(parents=True)
-        self.folder.mkdir()
         stub = self.room / "bin" / "journalctl"
         stub.write_text(JOURNALCTL.format(room=self.room))
         stub.chmod(0o755)
@@ -138,12 +137,21 @@ class Service:
         """What the command printed, or its errors."""
         return (self.room / name).read_text()
 
-    def awaits(self, text, name="out"):
+    def awaits(self, text, name="out", seconds=PATIENCE):
         """Whether this is printed in time."""
-        end = time.monotonic() + PATIENCE
+        end = time.monotonic() + seconds
         while text not in self.text(name) and time.monotonic() < end:
             time.sleep(0.01)
         return text in self.text(name)
+
+    def awaits_names(self, count):
+        """Whether the account has so many names in time, while the command goes on."""
+        end = time.monotonic() + PATIENCE
+        while not (is_whole := self.report("names").endswith(f" names={count}\n")) and time.monotonic() < end:
+            if self.process.poll() is not None:
+                break
+            time.sleep(0.05)
+        return is_whole
 
     def add(self, text):
         """Lets the log go on."""
@@ -166,7 +174,10 @@ class Service:
 
 
 @contextlib.contextmanager
-def service():
-    """A service that isn't begun yet."""
+def service(in_memory=False):
+    """A service that isn't begun yet. Its journal is on the disk, or in memory for what has thousands of errors."""
+    memory = pathlib.Path("/dev/shm")
+    where = memory if in_memory and os.access(memory, os.W_OK) else None
     with tempfile.TemporaryDirectory(prefix="rasd-service-") as room:
-        yield Service(room)
+        with tempfile.TemporaryDirectory(prefix="rasd-journal-", dir=where) as folder:
+            yield Service(room, folder)
