@@ -6,6 +6,8 @@ import collections
 import re
 import time
 
+from guest import PAUSE
+
 # A kernel under TCG, on a host with other work, takes its time.
 SOON = 120
 LATER = 420
@@ -31,7 +33,7 @@ class Machine:
 
     def account(self):
         """The errors that the account has, by boot and bank, and the report that says so."""
-        report = self.text("rasd report names")
+        report = self.text("cd /var/lib/rasd && /usr/libexec/rasd/rasd report names")
         return collections.Counter((int(boot), int(bank)) for boot, bank, _ in NAME.findall(report)), report
 
     def agrees(self, what, seconds=SOON):
@@ -42,7 +44,7 @@ class Machine:
             took = time.monotonic() - begun
             if counted == self.wanted or took > seconds:
                 break
-            time.sleep(1)
+            time.sleep(PAUSE)
         if counted == self.wanted:
             return f"{what} ({took:.0f} s)", True
         lost, more = self.wanted - counted, counted - self.wanted
@@ -72,7 +74,7 @@ class Machine:
         while time.monotonic() < end and (state := self.state()) != "failed":
             if state == "active" and self.boot_id_of_number() == self.guest.boot:
                 return True
-            time.sleep(2)
+            time.sleep(PAUSE)
         return False
 
     def boot_id_of_number(self):

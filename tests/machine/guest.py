@@ -12,6 +12,8 @@ import time
 HERE = pathlib.Path(__file__).resolve().parent
 # A boot takes a minute on a free machine, and many on a loaded one: TCG has no help of the processor.
 PATIENCE = 1200
+# What waits looks now and then, since a look costs the guest as much as what it waits for.
+PAUSE = 3
 RECORDS = 65536
 PROMPT = b"(qemu) "
 
@@ -144,7 +146,7 @@ class Guest:
         while time.monotonic() < begun + seconds:
             if text in self.text(command):
                 return time.monotonic() - begun
-            time.sleep(1)
+            time.sleep(PAUSE)
         return None
 
     def monitor(self, command):
