@@ -3,7 +3,6 @@ import base64
 import contextlib
 import os
 import pathlib
-import shlex
 import socket
 import subprocess
 import sys
@@ -135,10 +134,6 @@ class Guest:
     def text(self, command, seconds=300):
         """What a command printed, whatever its status."""
         return self.run(command, seconds)[1].strip()
-
-    def write(self, path, text):
-        """Writes a file of the guest."""
-        self.run(f"printf %s {shlex.quote(text)} > {shlex.quote(path)}")
 
     def awaits(self, command, text, seconds=120):
         """How many seconds it took until a command printed this, or nothing if it didn't."""
