@@ -17,6 +17,9 @@ CORRECTED = 0x8C00004000010090
 RECOVERED = 0xBD000000000000C0
 FATAL = 0xBE00000000800400
 CHECKS = "/sys/devices/system/machinecheck/machinecheck0"
+# The process that makes lines of the log or the trace.
+FILTER = "grep -lz '^lines$' $(sed 's#.*#/proc/&/cmdline#' /sys/fs/cgroup/system.slice/rasd.service/cgroup.procs) | "
+FILTER += "xargs grep -lz '^/usr/libexec/rasd/rasd$' | cut -d / -f 3 | while read -r it; do [[ $(</proc/$it/comm) != rasd ]] || echo $it; done"
 NAME = re.compile(r"^bank=(\d+)/\d+/(\d+)/(\d+)$", re.M)
 
 
@@ -187,14 +190,13 @@ def offline(it):
     asked = it.text(pages)
     it.text("systemctl restart rasd; sleep 20; systemctl restart rasd-offline; sleep 20")
     yield "no page is asked for again after restarts", it.text(pages) == asked and it.is_active("rasd-offline")
+    # Else it would take the same pages out in each boot to come.
+    it.text("systemctl disable --now rasd-offline")
 
 
 def kills(it):
     """a process that is killed costs nothing"""
-    for what, find in (
-        ("rasd", "systemctl show -p MainPID --value rasd"),
-        ("a filter", "grep -l 'lines.klog' $(sed 's#.*#/proc/&/cmdline#' /sys/fs/cgroup/system.slice/rasd.service/cgroup.procs) | cut -d / -f 3"),
-    ):
+    for what, find in (("rasd", "systemctl show -p MainPID --value rasd"), ("a filter", FILTER)):
         restarts = int(it.text("systemctl show -p NRestarts --value rasd") or 0)
         status, text = it.run(f"kill -9 $({find})")
         it.correct(7, address=0x24567040)
@@ -271,7 +273,7 @@ def purge(it):
     """a purge leaves the account, and nothing that is enabled"""
     status, text = it.run("apt-get remove -y rasd", LATER)
     yield f"remove{text[-200:] if status else ''}", status == 0
-    yield "the units end", it.text("systemctl list-units --state=active --plain --no-legend 'rasd*'") == ""
+    yield "the units end", it.text("systemctl list-units --state=active,failed --plain --no-legend 'rasd*'") == ""
     status, text = it.run("apt-get purge -y rasd", LATER)
     yield f"purge{text[-200:] if status else ''}", status == 0
     left = it.text("find /etc/systemd /etc/rasd /etc/default/rasd /etc/tmpfiles.d -name '*rasd*' ! -name '*rasdaemon*' 2>/dev/null")
