@@ -1,6 +1,9 @@
-# The commands that make lines for rasd of the kernel's log and trace. service/feed and service/earlier-lines read this file;
-# `here` is the folder of the scripts.
-# shellcheck shell=bash disable=SC2034
+#!/usr/bin/env bash
+# The commands that make lines for rasd of the kernel's log and trace.
+#
+# usage: source filters.bash, as service/feed and service/earlier-lines do, with the folder of the scripts in `here`
+# shellcheck disable=SC2034
+here=${here:-$(dirname -- "$(readlink -f -- "${BASH_SOURCE[0]}")")}
 program=${RASD:-/usr/libexec/rasd/rasd}
 traces=${RASD_TRACE:-/var/lib/rasd-trace}
 # A filter takes 64 MB at most, so a longer log or trace is given to several, one behind the other.

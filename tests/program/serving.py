@@ -21,7 +21,8 @@ EARLIER = "01234567-89ab-cdef-0123-456789abcdef"
 SOON = 10.0
 PATIENCE = 60.0
 
-# The log of this boot goes on until it is ended; its process and its words are noted. Those of other boots stand in files.
+# The log of this boot goes on until it is ended; its process and its words are noted. Those of other boots stand in
+# files, and come in two parts if they are to be slow.
 JOURNALCTL = """#!/bin/sh
 case " $* " in
     *" --list-boots "*) cat {room}/boots ;;
@@ -30,7 +31,9 @@ case " $* " in
         echo $$ > {room}/process
         exec tail -n +1 -f {room}/log ;;
     *" export "*) printf '__REALTIME_TIMESTAMP=1400000005000000\\n__MONOTONIC_TIMESTAMP=5000000\\n' ;;
-    *) exec cat {room}/log.$3 ;;
+    *)
+        [ ! -e {room}/slow ] || {{ head -c 300000 {room}/log.$3; sleep 1; exec tail -c +300001 {room}/log.$3; }}
+        exec cat {room}/log.$3 ;;
 esac
 """
 ERROR = (
@@ -152,6 +155,13 @@ class Service:
                 break
             time.sleep(0.05)
         return is_whole
+
+    def has_before(self, text):
+        """Lets the account be one of a boot 7 before this one, whose log has this text."""
+        subprocess.run([PROGRAM, "run"], stdin=subprocess.DEVNULL, capture_output=True, cwd=self.folder)
+        (self.folder / "boot-number").write_text(f"7 {EARLIER}\n")
+        (self.room / "boots").write_text("".join(f" {id.replace('-', '')} Mon\n" for id in (EARLIER, BOOT)))
+        (self.room / f"log.{EARLIER.replace('-', '')}").write_text(text)
 
     def add(self, text):
         """Lets the log go on."""
