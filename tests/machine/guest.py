@@ -68,7 +68,8 @@ class Guest:
         }
         drives = [["-drive", f"if=none,id={it},{disks[it]}", "-device", f"virtio-blk-pci,drive={it},serial={it}"] for it in disks]
         return [
-            *("qemu-system-x86_64", "-accel", "tcg", "-cpu", "Skylake-Server", "-smp", "1", "-m", "1024"),
+            # The guest's time goes by its instructions: by the host's, a loaded host would leave it no time but for its clock's ticks.
+            *("qemu-system-x86_64", "-accel", "tcg,thread=single", "-icount", "shift=3,sleep=on", "-cpu", "Skylake-Server", "-smp", "1", "-m", "1024"),
             *("-display", "none", "-nodefaults", "-no-reboot"),
             *("-kernel", f"/boot/vmlinuz-{self.kernel}", "-initrd", str(self.images / "initrd")),
             *("-append", "console=ttyS0 edd=off mitigations=off root=/dev/vda rw panic=5 systemd.show_status=0"),
