@@ -24,8 +24,8 @@ class Ended(Exception):
 class Guest:
     """One guest, with a folder of its own: its disk, its record store, its console, its sockets."""
 
-    def __init__(self, images, folder, kernel):
-        self.images, self.folder, self.kernel = pathlib.Path(images), pathlib.Path(folder), kernel
+    def __init__(self, images, folder):
+        self.images, self.folder = pathlib.Path(images), pathlib.Path(folder)
         self.folder.mkdir(parents=True, exist_ok=True)
         self.process = self.server = self.stream = self.lines = self.boot = None
         self.count = 0
@@ -71,7 +71,7 @@ class Guest:
             # The guest's time goes by its instructions: by the host's, a loaded host would leave it no time but for its clock's ticks.
             *("qemu-system-x86_64", "-accel", "tcg,thread=single", "-icount", "shift=3,sleep=on", "-cpu", "Skylake-Server", "-smp", "1", "-m", "1024"),
             *("-display", "none", "-nodefaults", "-no-reboot"),
-            *("-kernel", f"/boot/vmlinuz-{self.kernel}", "-initrd", str(self.images / "initrd")),
+            *("-kernel", str(self.images / "kernel"), "-initrd", str(self.images / "initrd")),
             *("-append", "console=ttyS0 edd=off mitigations=off root=/dev/vda rw panic=5 systemd.show_status=0"),
             *("-chardev", f"file,id=console,path={self.path('console')},append=on", "-serial", "chardev:console"),
             *("-monitor", f"unix:{self.path('monitor')},server=on,wait=off"),
