@@ -120,7 +120,7 @@ def install(it):
     yield f"apt installs the package{': ' + text[-300:] if status else ''}", status == 0
     owner = it.text("stat -c '%U %G %a' /var/lib/rasd")
     yield f"the account's folder is the user's: {owner}", owner == "rasd rasd 750"
-    units = it.text("dpkg -L rasd | sed -n 's#.*/systemd/system/\\(rasd.*\\.\\(service\\|timer\\)\\)$#\\1#p'").split()
+    units = it.text("dpkg -L rasd | sed -n 's#.*/systemd/system/\\(rasd[^@]*\\.\\(service\\|timer\\)\\)$#\\1#p'").split()
     states = {unit: it.text(f"systemctl is-enabled {unit}; systemctl is-active {unit}").split() for unit in units}
     is_quiet = all(state[0] != "enabled" and state[1] == "inactive" for state in states.values())
     yield f"a first installation enables and starts nothing{'' if is_quiet else f': {states}'}", bool(units) and is_quiet

@@ -36,7 +36,7 @@ class Guest:
 
     def fresh(self, files):
         """Makes the disks anew: the guest's, over the image; that of the account; and one with these files, as a tar."""
-        for name in ("records", "console"):
+        for name in ("records", "console", "journal"):
             pathlib.Path(self.path(name)).unlink(missing_ok=True)
         with open(self.path("records"), "wb") as records:
             records.truncate(RECORDS)
@@ -135,6 +135,11 @@ class Guest:
     def text(self, command, seconds=300):
         """What a command printed, whatever its status."""
         return self.run(command, seconds)[1].strip()
+
+    def keep_journal(self, what):
+        """Keeps the end of the guest's journal, for who looks into what failed."""
+        with open(self.path("journal"), "a") as journal:
+            print(f"==== {what}", self.text("journalctl -b -o short-monotonic -n 150 --no-pager"), sep="\n", file=journal)
 
     def awaits(self, command, text, seconds=120):
         """How many seconds it took until a command printed this, or nothing if it didn't."""
