@@ -119,7 +119,7 @@ class Guest:
             raise Ended("the guest has ended")
         return line
 
-    def run(self, command, seconds=300):
+    def run(self, command, seconds=PATIENCE):
         """The status of a command of the guest's shell, and what it printed."""
         self.count += 1
         try:
@@ -132,9 +132,13 @@ class Guest:
         text = base64.b64decode(words[2]).decode(errors="replace") if len(words) > 2 else ""
         return int(words[1]), text
 
-    def text(self, command, seconds=300):
+    def text(self, command):
         """What a command printed, whatever its status."""
-        return self.run(command, seconds)[1].strip()
+        return self.run(command)[1].strip()
+
+    def now(self):
+        """The guest's seconds since its boot, by which all limits go: a loaded host has more of them."""
+        return float(self.text("cut -d ' ' -f 1 /proc/uptime"))
 
     def keep_journal(self, what):
         """Keeps the end of the guest's journal, for who looks into what failed."""
@@ -142,13 +146,13 @@ class Guest:
             print(f"==== {what}", self.text("journalctl -b -o short-monotonic -n 150 --no-pager"), sep="\n", file=journal)
 
     def awaits(self, command, text, seconds=120):
-        """How many seconds it took until a command printed this, or nothing if it didn't."""
-        begun = time.monotonic()
-        while time.monotonic() < begun + seconds:
-            if text in self.text(command):
-                return time.monotonic() - begun
+        """Within how many of the guest's seconds a command printed this, or nothing if it didn't."""
+        begun = self.now()
+        while text not in self.text(command):
+            if self.now() > begun + seconds:
+                return None
             time.sleep(PAUSE)
-        return None
+        return self.now() - begun
 
     def monitor(self, command):
         """What QEMU's monitor answers."""
@@ -187,7 +191,7 @@ class Guest:
     def reboot(self):
         """Has the guest shut down, and boots it again."""
         with contextlib.suppress(Ended):
-            self.run("systemctl --no-block reboot", 60)
+            self.run("systemctl --no-block reboot")
         if not self.ends():
             raise Ended("the guest doesn't shut down")
         self.start()
