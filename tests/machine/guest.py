@@ -24,8 +24,8 @@ class Ended(Exception):
 class Guest:
     """One guest, with a folder of its own: its disk, its record store, its console, its sockets."""
 
-    def __init__(self, images, folder, kernel):
-        self.images, self.folder, self.kernel = pathlib.Path(images), pathlib.Path(folder), kernel
+    def __init__(self, images, folder):
+        self.images, self.folder = pathlib.Path(images), pathlib.Path(folder)
         self.folder.mkdir(parents=True, exist_ok=True)
         self.process = self.server = self.stream = self.lines = self.boot = None
         self.count = 0
@@ -36,7 +36,7 @@ class Guest:
 
     def fresh(self, files):
         """Makes the disks anew: the guest's, over the image; that of the account; and one with these files, as a tar."""
-        for name in ("records", "console"):
+        for name in ("records", "console", "journal"):
             pathlib.Path(self.path(name)).unlink(missing_ok=True)
         with open(self.path("records"), "wb") as records:
             records.truncate(RECORDS)
@@ -68,9 +68,10 @@ class Guest:
         }
         drives = [["-drive", f"if=none,id={it},{disks[it]}", "-device", f"virtio-blk-pci,drive={it},serial={it}"] for it in disks]
         return [
-            *("qemu-system-x86_64", "-accel", "tcg", "-cpu", "Skylake-Server", "-smp", "1", "-m", "1024"),
+            # The guest's time goes by its instructions: by the host's, a loaded host would leave it no time but for its clock's ticks.
+            *("qemu-system-x86_64", "-accel", "tcg,thread=single", "-icount", "shift=3,sleep=on", "-cpu", "Skylake-Server", "-smp", "1", "-m", "1024"),
             *("-display", "none", "-nodefaults", "-no-reboot"),
-            *("-kernel", f"/boot/vmlinuz-{self.kernel}", "-initrd", str(self.images / "initrd")),
+            *("-kernel", str(self.images / "kernel"), "-initrd", str(self.images / "initrd")),
             *("-append", "console=ttyS0 edd=off mitigations=off root=/dev/vda rw panic=5 systemd.show_status=0"),
             *("-chardev", f"file,id=console,path={self.path('console')},append=on", "-serial", "chardev:console"),
             *("-monitor", f"unix:{self.path('monitor')},server=on,wait=off"),
@@ -118,7 +119,7 @@ class Guest:
             raise Ended("the guest has ended")
         return line
 
-    def run(self, command, seconds=300):
+    def run(self, command, seconds=PATIENCE):
         """The status of a command of the guest's shell, and what it printed."""
         self.count += 1
         try:
@@ -131,18 +132,27 @@ class Guest:
         text = base64.b64decode(words[2]).decode(errors="replace") if len(words) > 2 else ""
         return int(words[1]), text
 
-    def text(self, command, seconds=300):
+    def text(self, command):
         """What a command printed, whatever its status."""
-        return self.run(command, seconds)[1].strip()
+        return self.run(command)[1].strip()
+
+    def now(self):
+        """The guest's seconds since its boot, by which all limits go: a loaded host has more of them."""
+        return float(self.text("cut -d ' ' -f 1 /proc/uptime"))
+
+    def keep_journal(self, what):
+        """Keeps the end of the guest's journal, for who looks into what failed."""
+        with open(self.path("journal"), "a") as journal:
+            print(f"==== {what}", self.text("journalctl -b -o short-monotonic -n 150 --no-pager"), sep="\n", file=journal)
 
     def awaits(self, command, text, seconds=120):
-        """How many seconds it took until a command printed this, or nothing if it didn't."""
-        begun = time.monotonic()
-        while time.monotonic() < begun + seconds:
-            if text in self.text(command):
-                return time.monotonic() - begun
+        """Within how many of the guest's seconds a command printed this, or nothing if it didn't."""
+        begun = self.now()
+        while text not in self.text(command):
+            if self.now() > begun + seconds:
+                return None
             time.sleep(PAUSE)
-        return None
+        return self.now() - begun
 
     def monitor(self, command):
         """What QEMU's monitor answers."""
@@ -181,7 +191,7 @@ class Guest:
     def reboot(self):
         """Has the guest shut down, and boots it again."""
         with contextlib.suppress(Ended):
-            self.run("systemctl --no-block reboot", 60)
+            self.run("systemctl --no-block reboot")
         if not self.ends():
             raise Ended("the guest doesn't shut down")
         self.start()
