@@ -34,6 +34,8 @@ pub struct RealSystem {
     rt: HostRuntime,
     // Each file that is open, at its name's number.
     files: [Option<File>; 4],
+    // How long each of them is at least.
+    lengths: [u64; 4],
     // The folders that links of locked files lead into.
     linked: Vec<File>,
 }
@@ -48,12 +50,20 @@ impl RealSystem {
         RealSystem {
             rt,
             files: [None, None, None, None],
+            lengths: [0, 0, 0, 0],
             linked: Vec::new(rt.alloc()),
         }
     }
 
     fn opened(&self, name: FileName) -> Result<&File, Failed> {
         self.files[number(name)].as_ref().ok_or(Failed)
+    }
+
+    // Takes a file as the one that is open at a name.
+    fn take(&mut self, name: FileName, file: File) -> io::Result<()> {
+        self.lengths[number(name)] = file.metadata()?.len();
+        self.files[number(name)] = Some(file);
+        Ok(())
     }
 
     // Brings the names in the folder to the disk, and those in the folders of linked files.
@@ -74,9 +84,9 @@ fn is_without_sync(kind: ErrorKind) -> bool {
     )
 }
 
-// Brings a file's bytes to the disk.
-fn sync_bytes(file: &File) -> io::Result<()> {
-    if file.metadata()?.len() <= INLINE_LENGTH {
+// Brings a file's bytes to the disk, by its length.
+fn sync_bytes(file: &File, length: u64) -> io::Result<()> {
+    if length <= INLINE_LENGTH {
         return file.sync_all();
     }
     file.sync_data()
@@ -95,8 +105,7 @@ impl System for RealSystem {
 
     fn open(&mut self, name: FileName) -> Result<(), Failed> {
         let file = open_file(&self.rt, name, OpenOptions::new()).map_err(|_| Failed)?;
-        self.files[number(name)] = Some(file);
-        Ok(())
+        self.take(name, file).map_err(|_| Failed)
     }
 
     fn make(&mut self, name: FileName) -> Result<(), Failed> {
@@ -104,8 +113,8 @@ impl System for RealSystem {
             FileName::New => make_new(&self.rt),
             _ => make_file(&self.rt, name),
         };
-        self.files[number(name)] = Some(file.map_err(|_| Failed)?);
-        Ok(())
+        self.take(name, file.map_err(|_| Failed)?)
+            .map_err(|_| Failed)
     }
 
     fn lock(&mut self, name: FileName) -> Result<(), Failed> {
@@ -131,17 +140,22 @@ impl System for RealSystem {
         file.read_exact_at(buf, place).map_err(|_| Failed)
     }
 
-    // What went to a journal file that has no name any more would be lost. Before such a file is begun
-    // anew, the names themselves are looked at again.
+    // What went to a journal file that has no name any more would be lost. One byte alone is a gate,
+    // behind the link that was just written. Before a file is begun anew, the names themselves are
+    // looked at again.
     fn write_at(&mut self, name: FileName, place: u64, bytes: &[u8]) -> Result<(), Failed> {
         if place == 0 && name != FileName::New {
             check_names(&self.rt, &self.files).map_err(|_| Failed)?;
         }
         let file = self.opened(name)?;
-        if file.metadata().map_err(|_| Failed)?.nlink() == 0 {
+        if bytes.len() > 1 && file.metadata().map_err(|_| Failed)?.nlink() == 0 {
             return Err(Failed);
         }
-        file.write_all_at(bytes, place).map_err(|_| Failed)
+        file.write_all_at(bytes, place).map_err(|_| Failed)?;
+        let end = place.saturating_add(bytes.len() as u64);
+        let length = &mut self.lengths[number(name)];
+        *length = end.max(*length);
+        Ok(())
     }
 
     fn sync(&mut self, name: FileName) -> Result<(), Failed> {
@@ -149,7 +163,7 @@ impl System for RealSystem {
         // The owner and the mode of a new store's file are to be on the disk too.
         let answer = match name {
             FileName::New => file.sync_all(),
-            _ => sync_bytes(file),
+            _ => sync_bytes(file, self.lengths[number(name)]),
         };
         answer.map_err(|_| Failed)
     }
@@ -161,7 +175,8 @@ impl System for RealSystem {
         let Some(opened) = opened else {
             return Ok(());
         };
-        match sync_bytes(&opened).map_err(|error| error.kind()) {
+        let length = opened.metadata().map_err(|_| Failed)?.len();
+        match sync_bytes(&opened, length).map_err(|error| error.kind()) {
             Err(kind) if is_without_sync(kind) => Ok(()),
             answer => answer.map_err(|_| Failed),
         }
