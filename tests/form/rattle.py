@@ -22,6 +22,7 @@ CODE_HEAD = re.compile(
 )
 IMPL_HEAD = re.compile(r"impl(?:<.*?>)? (?:(?P<trait>[\w:<>, ]+?) for )?(?P<type>\w+)")
 CLAUSE = re.compile(r" +(?P<kind>requires|ensures)\b *(?P<name>\w+)?")
+FIELD_SET = re.compile(r"([{;]\s*)[^\s(){}\[\];,&]+ (?==)")
 SPEC_WORD = re.compile(r"[^\s(){}\[\];,&]+")
 CODE_WORD = re.compile(r"[^\s(){}\[\];,&<>?!:]+")
 
@@ -235,7 +236,9 @@ def meanings(item):
     """The items of the repository that the names in an item mean."""
     scope, crate = scope_of(item.file), item.file.split("/")[1]
     pattern = SPEC_WORD if item.file.endswith(".antt") else CODE_WORD
-    words = [word.strip(".").split(".") for word in pattern.findall("\n".join(item.lines))]
+    # In `record { synced = bytes }` the field's name is no other thing of that name.
+    text = FIELD_SET.sub(r"\1", "\n".join(item.lines)) if item.file.endswith(".antt") else "\n".join(item.lines)
+    words = [word.strip(".").split(".") for word in pattern.findall(text)]
     for first, *rest in words + [[">>="]] * (["do"] in words):
         found = scope.get(first)
         if isinstance(found, str):

@@ -6,9 +6,8 @@ ghost use Rattle.ras_script.specs.LineLaws.{hexadecimal};
 ghost use Rattle.bank_lines.specs.Texts.{asking_line, found_text, partial_comment, unread_line, vendor_line};
 
 use crate::Finding;
-use ras_base::NoMemory;
+use ras_base::{NoMemory, push_number};
 use ras_facts::BankReport;
-use ras_texts::push_number;
 
 // Room for the digits of a number in any radix: the definition of digits takes as many steps.
 const MOST_DIGITS: usize = 64;

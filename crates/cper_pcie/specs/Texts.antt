@@ -5,8 +5,9 @@ use Rattle.std.specs.List.{filter_map, flat_map, join_with_byte}
 use Rattle.std.specs.Map.{lookup}
 use Rattle.std.specs.Result.{result_ok}
 use Rattle.hex.specs.Hex.{encode_lower}
+use Rattle.ras_base.specs.Text.{line_with}
 use Rattle.ras_facts.specs.Reported.{severity_class}
-use Rattle.ras_texts.specs.Text.{class_text, line_with, name_text}
+use Rattle.ras_texts.specs.Text.{class_text, name_text}
 use Rattle.cper_pcie.specs.Bits.{bits_of, correctable_names, uncorrectable_names}
 use Rattle.cper_pcie.specs.Reports.{Taken}
 use Rattle.cper_pcie.specs.Section.{pcie_of}

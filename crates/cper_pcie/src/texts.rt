@@ -8,9 +8,9 @@ ghost use Rattle.cper_pcie.specs.Steps.TextSteps.{end_text, line_of_section, bit
 
 use crate::bits::{correctable_name, uncorrectable_name};
 use crate::section::{PcieDevice, PcieRefused, PcieSection};
-use ras_base::{NoMemory, is_set};
+use ras_base::{NoMemory, is_set, push_number};
 use ras_facts::{Name, severity_class};
-use ras_texts::{class_word, push_name, push_number};
+use ras_texts::{class_word, push_name};
 
 // Which of the two statuses of a section.
 #[derive(Clone, Copy, Debug, PartialEq, Eq)]

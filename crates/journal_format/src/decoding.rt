@@ -199,12 +199,37 @@ fn filled(
         → Holds version front.floor bytes.now a → ¬ AreTaken a }
 {
     let mut account = Rebuilt::new(alloc, front.limit, front.module_limit, front.entries);
-    let rest = names_at(&mut account, bytes)?;
-    let rest = modules_at(alloc, version, &mut account, rest)?;
-    let rest = pages_at(&mut account, rest)?;
-    let floor = floor_in(version, front.floor, rest)?;
+    match fill(alloc, version, front.floor, &mut account, bytes) {
+        Ok(()) => Ok(account),
+        Err(refused) => Err(refused),
+    }
+}
+
+// Reads the names, modules, pages and floor from the bytes after a checkpoint's front into an
+// account that has none of them yet. It borrows the account, so that its caller drops the account
+// at one place, whatever is refused here.
+fn fill(
+    alloc: Global,
+    version: Version,
+    floor: u64,
+    account: &mut Rebuilt,
+    bytes: &[u8],
+) -> Result<(), EntryRefused>
+    requires names { account.old.names ≡ [] }
+    requires modules { account.old.modules ≡ [] }
+    requires pages { account.old.pages ≡ [] }
+    requires floor { account.old.floor ≡ 0 }
+    ensures holds { OnOk result (Holds version floor bytes.now account.new) }
+    ensures state { OnOk result (account.new ≡ with_rows_of account.old account.new) }
+    ensures bad { result ≡ Err EntryRefused.Bad → (a : State)
+        → Holds version floor bytes.now a → ¬ AreTaken a }
+{
+    let rest = names_at(account, bytes)?;
+    let rest = modules_at(alloc, version, account, rest)?;
+    let rest = pages_at(account, rest)?;
+    let floor = floor_in(version, floor, rest)?;
     if account.set_floor(floor) {
-        Ok(account)
+        Ok(())
     } else {
         Err(EntryRefused::Bad)
     }

@@ -4,4 +4,5 @@ pub mod Prefix
 pub mod Bits
 pub mod Chaining
 pub mod LittleEndian
+pub mod Text
 pub mod Steps

@@ -1,5 +1,5 @@
 //! What several crates share: want of memory, bits and little-endian numbers, the sum of a table,
-//! and words that their contracts cite.
+//! numbers in printed text, and words that their contracts cite.
 #![tactic(auto)]
 
 ghost use Rattle.std.specs.Prelude.{◌≡◌};
@@ -8,11 +8,13 @@ mod acpi_table;
 mod bit_fields;
 mod exact;
 pub mod little_endian;
+mod text;
 
 pub use acpi_table::has_sum;
 pub use bit_fields::{bits, is_set};
 pub use exact::ExactEq;
 use std::alloc::{AllocError, AllocFailed};
+pub use text::push_number;
 
 /// Memory ran out. It is the one answer that no contract ties to a cause.
 #[derive(Clone, Copy, Debug, PartialEq, Eq)]

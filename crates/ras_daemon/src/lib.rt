@@ -13,7 +13,7 @@ mod word;
 
 pub use daemon::{promise_laws, rasd};
 pub use laws::{feeding_laws, outside_laws, run_laws};
+pub use listing_texts::Listing;
 pub use load::loading_laws;
 pub use ras_exit::{Exit, Reason};
-pub use ras_texts::Listing;
 pub use word::{RasWord, Task, task_of};

@@ -1,12 +1,19 @@
 //! A run: the journal is opened, and the script is taken over it.
 
-ghost use Rattle.std.specs.Prelude.{◌≡◌, Some};
+ghost use Rattle.std.specs.Prelude.{◌≡◌, ℕ, List, [], Some};
 ghost use Rattle.board_core.specs.Doing.{looks};
+ghost use Rattle.board_core.specs.Told.{Told};
+ghost use Rattle.ras_account.specs.Accounts.{IsAccount};
+ghost use Rattle.line_filters.specs.Numbered.{no_lines};
+ghost use Rattle.ras_run.specs.LineActs.{HoldsAfter};
+ghost use Rattle.ras_run.specs.Places.{Start};
+ghost use Rattle.ras_run.specs.Taking.{IsReady, IsRunAfter};
 ghost use Rattle.ras_daemon.specs.Ahead.{TakesBy};
 ghost use Rattle.ras_daemon.specs.Commands.{IsRunExit};
-ghost use Rattle.ras_daemon.specs.Steps.Doing.{Comes};
+ghost use Rattle.ras_daemon.specs.Steps.Doing.{Comes, ComesScript};
 ghost use Rattle.ras_daemon.specs.Headline.{OverRun};
 ghost use Rattle.ras_daemon.specs.Promises.{Caused, OverRefused, Refuses};
+ghost use Rattle.ras_daemon.specs.Steps.Running.{IsStart};
 
 use crate::Task;
 use crate::ending::end_run;
@@ -17,6 +24,7 @@ use ras_account::Account;
 use ras_base::NoMemory;
 use ras_events::Settings;
 use ras_exit::Exit;
+use ras_ledger::Ledger;
 use ras_run::{Run, open, print_standing};
 use std::alloc::Global;
 
@@ -38,20 +46,68 @@ pub fn run<S: Source, B: Board>(alloc: Global, source: &mut S, board: &mut B) ->
         Ok(lines) => lines,
         Err(NoMemory) => return Exit::NoMemory,
     };
-    let ledger = match open(alloc, board) {
-        Ok(ledger) => ledger,
+    match open(alloc, board) {
+        Ok(ledger) => take_script(alloc, &mut lines, ledger, source, board),
         // No account was made: the last line of a refusal tells nothing of it.
-        Err(exit) => return end_run(alloc, exit, &Account::new(alloc), board),
-    };
-    if let Err(exit) = print_standing(alloc, &ledger.account, board) {
-        return exit;
+        Err(exit) => end_run(alloc, exit, &Account::new(alloc), board),
     }
+}
+
+// Takes a script over a journal that was just opened. It owns the run and has one exit, and
+// `take_from` borrows it and has the others: each exit of an owner has to drop what it owns, and
+// costs many seconds of proof.
+fn take_script<S: Source, B: Board>(
+    alloc: Global,
+    lines: &mut NumberedLines,
+    ledger: Ledger,
+    source: &mut S,
+    board: &mut B,
+) -> Exit
+    requires fresh { lines.old ≡ no_lines }
+    requires ledger { IsReady ledger (B.told board.old) (B.clock board.old)
+        × IsAccount ledger.account.state }
+
+    ensures comes { (start : Start) (script : List ℕ) (t : Told) → IsStart start ledger t
+        → S.left source.old ≡ Some script → B.told board.old ≡ Some t
+        → ComesScript (looks B.told B.clock B.faults) (source.new ≡ source.old) start script t
+        result (S.left source.new) board.old board.new }
+    ensures takes { TakesBy result (S.left source.old) (S.left source.new) }
+    ensures causes { Caused result (S.faults source.old) (S.faults source.new)
+        (B.faults board.old) (B.faults board.new) }
+    ensures exits { IsRunExit result }
+{
     let mut run = Run {
         settings: Settings::new(alloc),
         ledger,
         text: Vec::new(alloc),
     };
-    let exit = match take_lines(alloc, &mut lines, &mut run, source, board) {
+    take_from(alloc, lines, &mut run, source, board)
+}
+
+// Prints the orders that stand in the account, and takes the lines of the script; then the run ends.
+fn take_from<S: Source, B: Board>(
+    alloc: Global,
+    lines: &mut NumberedLines,
+    run: &mut Run,
+    source: &mut S,
+    board: &mut B,
+) -> Exit
+    requires fresh { lines.old ≡ no_lines }
+    requires ready { IsReady run.old.ledger (B.told board.old) (B.clock board.old) }
+
+    ensures comes { (start : Start) (script : List ℕ) (t : Told) → IsRunAfter start [] run.old
+        → S.left source.old ≡ Some script → B.told board.old ≡ Some t → HoldsAfter start [] t
+        → ComesScript (looks B.told B.clock B.faults) (source.new ≡ source.old) start script t
+        result (S.left source.new) board.old board.new }
+    ensures takes { TakesBy result (S.left source.old) (S.left source.new) }
+    ensures causes { Caused result (S.faults source.old) (S.faults source.new)
+        (B.faults board.old) (B.faults board.new) }
+    ensures exits { IsRunExit result }
+{
+    if let Err(exit) = print_standing(alloc, &run.ledger.account, board) {
+        return exit;
+    }
+    let exit = match take_lines(alloc, lines, run, source, board) {
         Ok(()) => Exit::Done,
         Err(exit) => exit,
     };

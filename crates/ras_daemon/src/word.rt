@@ -4,10 +4,10 @@ ghost use Rattle.std.specs.Prelude.{◌≡◌, IfOk, IfSome};
 ghost use Rattle.ras_daemon.specs.Task.{IsTask, klog_lines_of, klog_of, listing_of, load_of, task_of};
 ghost use Rattle.ras_daemon.specs.Task.{trace_lines_of};
 
+use listing_texts::Listing;
 use ras_base::NoMemory;
 use ras_load::MOST_LINES;
 use ras_script::{decimal, hexadecimal};
-use ras_texts::Listing;
 use std::alloc::Global;
 use std::marker::Model;
 

@@ -2,9 +2,10 @@
 use Rattle.std.proofs.Common.{◌≡◌, ℕ, ◌+◌, ◌<◌, ◌≤◌, ◌==◌, Bool, true, false, cond, List, [], ◌∷◌, ◌++◌, length, drop, get_or, codes, decimal, filter, flat_map, refl, sym, ap, ◌∙◌, arith, append_assoc, append-nil, length-append}
 use Rattle.std.specs.List.{AllByRecursion, slice_split, onto_first}
 use Rattle.std.proofs.lemmas.List.Elements.{filter-append}
+use Rattle.ras_base.specs.Text.{line_with}
 use Rattle.ras_script.specs.Lines.{without_last}
 use Rattle.ras_script.specs.SplittingLaws.{Lacks}
-use Rattle.ras_texts.specs.Text.{line_with, done_line}
+use Rattle.ras_texts.specs.Text.{done_line}
 use Rattle.ras_events.specs.DoneLines.{ended_lines, is_done_line, done_lines, done_count}
 use Rattle.ras_events.specs.QuietLines.{AreLines, AreQuietLines, IsQuietLine}
 use Rattle.ras_script.proofs.LineAndWordLemmas.{some_part, split_between, split_lacking}

@@ -3,8 +3,9 @@ use Rattle.std.proofs.Common.{◌≡◌, ℕ, true, false, List, [], ◌∷◌, 
 use Rattle.std.specs.List.{AllByRecursion}
 use Rattle.std.proofs.lemmas.List.Concat.{flat_map-append}
 use Rattle.std.proofs.lemmas.List.Elements.{All-head, All-tail}
+use Rattle.ras_base.specs.Text.{line_with}
 use Rattle.ras_script.specs.SplittingLaws.{Lacks}
-use Rattle.ras_texts.specs.Text.{line_with, done_line}
+use Rattle.ras_texts.specs.Text.{done_line}
 use Rattle.ras_events.specs.DoneLines.{is_done_line}
 use Rattle.ras_events.specs.QuietLines.{AreLines, AreQuietLines, IsQuietLine}
 use Rattle.ras_events.proofs.ByteLemmas.{is_unbroken, lacks_from}

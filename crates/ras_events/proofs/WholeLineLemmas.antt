@@ -1,6 +1,7 @@
 -- The printed lines of entries, of orders and of the end of a run are quiet.
 use Rattle.std.proofs.Common.{◌≡◌, ℕ, zero, suc, Bool, true, false, if◌then◌else◌, List, [], ◌∷◌, ◌++◌, codes, decimal, length, All, IsTrue, flat_map, refl}
 use Rattle.std.proofs.lemmas.List.Elements.{All-head, All-tail}
+use Rattle.ras_base.specs.Text.{line_with}
 use Rattle.dimm_topology.specs.Labels.{Bytes, is_label_or_none}
 use Rattle.page_policy.specs.declared.buckets.Limit.{Limit}
 use Rattle.page_policy.specs.declared.rows.Order.{Order}
@@ -18,7 +19,7 @@ use Rattle.ras_account.specs.Accounts.{IsAccount, IsModuleRow}
 use Rattle.ras_account.specs.History.{is_retired}
 use Rattle.ras_account.specs.Modules.{Module}
 use Rattle.ras_texts.specs.Orders.{state_line, module_line, module_label, order_line, order_lines, page_line, replaced_line, standing_lines}
-use Rattle.ras_texts.specs.Text.{item_head, item_line, limit_line, limit_text, module_limit_line, retire_line, repeat_line, end_line, line_with, name_text, label_text, page_text, address_text}
+use Rattle.ras_texts.specs.Text.{item_head, item_line, limit_line, limit_text, module_limit_line, retire_line, repeat_line, end_line, name_text, label_text, page_text, address_text}
 use Rattle.ras_script.specs.SplittingLaws.{Lacks}
 use Rattle.ras_events.specs.QuietLines.{AreQuietLines}
 use Rattle.ras_events.proofs.ByteLemmas.{is_unbroken, unbroken_from, unbroken-append, decimal_unbroken}

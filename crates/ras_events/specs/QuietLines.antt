@@ -1,8 +1,8 @@
 -- Texts of whole lines, and those among them that say of no event that it is done.
 use Rattle.std.specs.Prelude.{◌≡◌, ℕ, List, IsFalse, flat_map}
 use Rattle.std.specs.List.{AllByRecursion}
+use Rattle.ras_base.specs.Text.{line_with}
 use Rattle.ras_script.specs.SplittingLaws.{Lacks}
-use Rattle.ras_texts.specs.Text.{line_with}
 use Rattle.ras_events.specs.DoneLines.{is_done_line}
 
 -- a text is lines, each with one line feed, at its end

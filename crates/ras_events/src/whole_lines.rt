@@ -1,8 +1,9 @@
 //! Texts of whole lines that follow one another.
 
 ghost use Rattle.std.specs.Prelude.{◌++◌, ℕ, List, [], codes, decimal, IsFalse};
+ghost use Rattle.ras_base.specs.Text.{line_with};
 ghost use Rattle.ras_script.specs.SplittingLaws.{Lacks};
-ghost use Rattle.ras_texts.specs.Text.{done_line, line_with};
+ghost use Rattle.ras_texts.specs.Text.{done_line};
 ghost use Rattle.ras_events.specs.DoneLines.{is_done_line};
 ghost use Rattle.ras_events.specs.QuietLines.{AreLines, AreQuietLines};
 

@@ -1,6 +1,6 @@
 -- The line that a refused run ends with.
 use Rattle.std.specs.Prelude.{ℕ, List, [], ◌++◌, codes, decimal}
-use Rattle.ras_texts.specs.Text.{line_with}
+use Rattle.ras_base.specs.Text.{line_with}
 use Rattle.ras_exit.specs.Reasons.{reason_text}
 use Rattle.ras_exit.specs.declared.exit.Exit.{Exit}
 use Rattle.ras_exit.specs.declared.exit.Exit.TheVariants.{Done, Usage, BadLine, SourceFault, DiskFault, RegisterFault, PrintFault, Damaged, Full, ErstRefused, ErstBusy, ErstStatus, NoMemory, TooLong}

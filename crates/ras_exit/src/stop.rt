@@ -5,8 +5,7 @@ ghost use Rattle.ras_exit.specs.Reasons.{reason_text};
 ghost use Rattle.ras_exit.specs.StopLine.{stop_line};
 
 use crate::{Exit, Reason};
-use ras_base::NoMemory;
-use ras_texts::push_number;
+use ras_base::{NoMemory, push_number};
 use std::alloc::Global;
 
 /// The line that a refused run ends with. An exit that is no refusal has none.

@@ -8,6 +8,9 @@ use std::io;
 use std::io::ErrorKind;
 use std::os::unix::fs::MetadataExt;
 
+// The standard output, if there is one.
+const OUTPUT: &str = "/proc/self/fd/1";
+
 const NAMES: [&str; 4] = ["rasd.0", "rasd.1", "rasd.store", "rasd.new"];
 
 pub(crate) fn number(name: FileName) -> usize
@@ -23,6 +26,11 @@ pub(crate) fn number(name: FileName) -> usize
 
 pub(crate) fn path(name: FileName) -> &'static str {
     NAMES[number(name)]
+}
+
+/// Whether something has this name.
+pub(crate) fn is_there(rt: &HostRuntime, name: &str) -> io::Result<bool> {
+    Ok(if_there(symlink_metadata(rt, name))?.is_some())
 }
 
 /// What the system tells of a file, or none if it is missing. Only a journal file may be behind a
@@ -64,20 +72,32 @@ pub(crate) fn open_to_read(rt: &HostRuntime, name: FileName) -> io::Result<Optio
 }
 
 /// Fails if the name of an open journal file no longer stands for it, as when that was removed or
-/// another one was moved there, or if two names stand for one file: what is written would be lost.
+/// another one was moved there, or if two names stand for one file, of which the standard output is
+/// one: what is written would be lost.
 pub(crate) fn check_names(rt: &HostRuntime, open: &[Option<File>; 4]) -> io::Result<()> {
-    let zero = check_name(rt, NAMES[0], &open[0])?;
-    let one = check_name(rt, NAMES[1], &open[1])?;
-    let store = if_there(symlink_metadata(rt, path(FileName::Store)))?;
-    if is_same(&zero, &one) || is_same(&zero, &store) || is_same(&one, &store) {
-        return Err(refused());
+    let found = [
+        check_name(rt, FileName::Journal(FileNo::Zero), &open[0])?,
+        check_name(rt, FileName::Journal(FileNo::One), &open[1])?,
+        if_there(symlink_metadata(rt, path(FileName::Store)))?,
+        if_there(symlink_metadata(rt, path(FileName::New)))?,
+        if_there(metadata(rt, OUTPUT))?,
+    ];
+    for (place, one) in found.iter().enumerate() {
+        if found[place + 1..].iter().any(|other| is_same(one, other)) {
+            return Err(refused());
+        }
     }
     Ok(())
 }
 
-// What the system tells of a file, which has to be the one that is open, or none if it is missing.
-fn check_name(rt: &HostRuntime, path: &str, open: &Option<File>) -> io::Result<Option<Metadata>> {
-    let found = if_there(metadata(rt, path))?;
+// What the system tells of a journal file, which has to be the one that is open, or none if it is
+// missing.
+fn check_name(
+    rt: &HostRuntime,
+    name: FileName,
+    open: &Option<File>,
+) -> io::Result<Option<Metadata>> {
+    let found = look(rt, name)?;
     if let Some(open) = open {
         let open = open.metadata()?;
         if !open.is_file() || !is_same(&found, &Some(open)) {

@@ -5,7 +5,7 @@
 //! or write, and make a call again that a signal interrupted.
 ghost use Rattle.std.specs.Prelude.{◌≡◌, [], None, replicate};
 
-use crate::names::{check_names, look, number, open_linked, open_to_read, path};
+use crate::names::{check_names, is_there, look, number, open_linked, open_to_read, path};
 use board_core::{Failed, FileNo};
 use host_system::{FileName, System};
 use std::fs::{File, OpenOptions, remove_file, rename};
@@ -21,12 +21,21 @@ const NEW_MODE: u32 = 0o640;
 // The mode of a new store's file that isn't yet given the old one's owner and mode.
 const UNOWNED_MODE: u32 = 0o600;
 
+// The greatest length of a file whose bytes may lie in its inode. Linux's ext4 has such files if it
+// was made with `inline_data`, and its fdatasync brings none of these bytes to the disk.
+const INLINE_LENGTH: u64 = 4096;
+
+// Where a new store goes that has no store to take the place of.
+const LEFT: &str = "rasd.left";
+
 /// The working folder and standard output of the process, which tell nothing.
 #[derive(Drop)]
 pub struct RealSystem {
     rt: HostRuntime,
     // Each file that is open, at its name's number.
     files: [Option<File>; 4],
+    // How long each of them is at least.
+    lengths: [u64; 4],
     // The folders that links of locked files lead into.
     linked: Vec<File>,
 }
@@ -41,12 +50,20 @@ impl RealSystem {
         RealSystem {
             rt,
             files: [None, None, None, None],
+            lengths: [0, 0, 0, 0],
             linked: Vec::new(rt.alloc()),
         }
     }
 
     fn opened(&self, name: FileName) -> Result<&File, Failed> {
         self.files[number(name)].as_ref().ok_or(Failed)
+    }
+
+    // Takes a file as the one that is open at a name.
+    fn take(&mut self, name: FileName, file: File) -> io::Result<()> {
+        self.lengths[number(name)] = file.metadata()?.len();
+        self.files[number(name)] = Some(file);
+        Ok(())
     }
 
     // Brings the names in the folder to the disk, and those in the folders of linked files.
@@ -67,6 +84,14 @@ fn is_without_sync(kind: ErrorKind) -> bool {
     )
 }
 
+// Brings a file's bytes to the disk, by its length.
+fn sync_bytes(file: &File, length: u64) -> io::Result<()> {
+    if length <= INLINE_LENGTH {
+        return file.sync_all();
+    }
+    file.sync_data()
+}
+
 impl System for RealSystem {
     ghost told = { λ _. None };
 
@@ -79,18 +104,17 @@ impl System for RealSystem {
     }
 
     fn open(&mut self, name: FileName) -> Result<(), Failed> {
-        let file = open_file(&self.rt, name, false).map_err(|_| Failed)?;
-        self.files[number(name)] = Some(file);
-        Ok(())
+        let file = open_file(&self.rt, name, OpenOptions::new()).map_err(|_| Failed)?;
+        self.take(name, file).map_err(|_| Failed)
     }
 
     fn make(&mut self, name: FileName) -> Result<(), Failed> {
         let file = match name {
             FileName::New => make_new(&self.rt),
-            _ => open_file(&self.rt, name, true),
+            _ => make_file(&self.rt, name),
         };
-        self.files[number(name)] = Some(file.map_err(|_| Failed)?);
-        Ok(())
+        self.take(name, file.map_err(|_| Failed)?)
+            .map_err(|_| Failed)
     }
 
     fn lock(&mut self, name: FileName) -> Result<(), Failed> {
@@ -116,14 +140,22 @@ impl System for RealSystem {
         file.read_exact_at(buf, place).map_err(|_| Failed)
     }
 
-    // Before a journal file is begun anew, the names are looked at again: what went to a file that
-    // has no name any more would be lost.
+    // What went to a journal file that has no name any more would be lost. One byte alone is a gate,
+    // behind the link that was just written. Before a file is begun anew, the names themselves are
+    // looked at again.
     fn write_at(&mut self, name: FileName, place: u64, bytes: &[u8]) -> Result<(), Failed> {
         if place == 0 && name != FileName::New {
             check_names(&self.rt, &self.files).map_err(|_| Failed)?;
         }
         let file = self.opened(name)?;
-        file.write_all_at(bytes, place).map_err(|_| Failed)
+        if bytes.len() > 1 && file.metadata().map_err(|_| Failed)?.nlink() == 0 {
+            return Err(Failed);
+        }
+        file.write_all_at(bytes, place).map_err(|_| Failed)?;
+        let end = place.saturating_add(bytes.len() as u64);
+        let length = &mut self.lengths[number(name)];
+        *length = end.max(*length);
+        Ok(())
     }
 
     fn sync(&mut self, name: FileName) -> Result<(), Failed> {
@@ -131,7 +163,7 @@ impl System for RealSystem {
         // The owner and the mode of a new store's file are to be on the disk too.
         let answer = match name {
             FileName::New => file.sync_all(),
-            _ => file.sync_data(),
+            _ => sync_bytes(file, self.lengths[number(name)]),
         };
         answer.map_err(|_| Failed)
     }
@@ -143,14 +175,24 @@ impl System for RealSystem {
         let Some(opened) = opened else {
             return Ok(());
         };
-        match opened.sync_data().map_err(|error| error.kind()) {
+        let length = opened.metadata().map_err(|_| Failed)?.len();
+        match sync_bytes(&opened, length).map_err(|error| error.kind()) {
             Err(kind) if is_without_sync(kind) => Ok(()),
             answer => answer.map_err(|_| Failed),
         }
     }
 
+    // A file system without a journal may lose the rename of a new store half: then it stands under its
+    // first name, and no store is there. So it isn't removed then, but kept under another name.
     fn remove(&mut self, name: FileName) -> Result<(), Failed> {
-        remove_file(&self.rt, path(name)).map_err(|_| Failed)
+        let is_alone = !is_there(&self.rt, path(FileName::Store)).map_err(|_| Failed)?;
+        if name != FileName::New || !is_alone {
+            return remove_file(&self.rt, path(name)).map_err(|_| Failed);
+        }
+        if is_there(&self.rt, LEFT).map_err(|_| Failed)? {
+            return Err(Failed);
+        }
+        rename(&self.rt, path(name), LEFT).map_err(|_| Failed)
     }
 
     fn rename(&mut self) -> Result<(), Failed> {
@@ -175,11 +217,22 @@ impl System for RealSystem {
     }
 }
 
-// Opens a file to read and write it. Two runs may both make it: they meet at its lock.
-fn open_file(rt: &HostRuntime, name: FileName, may_make: bool) -> io::Result<File> {
+// Makes a file and opens it. Two runs may both want to make it: they meet at its lock. No file is made
+// through a link that leads nowhere: the disk that it leads to may not be there.
+fn make_file(rt: &HostRuntime, name: FileName) -> io::Result<File> {
     let mut options = OpenOptions::new();
-    options.read(true).write(true).create(may_make);
-    options.mode(NEW_MODE);
+    options.create_new(true).mode(NEW_MODE);
+    match open_file(rt, name, options) {
+        Err(error) if error.kind() == ErrorKind::AlreadyExists => {
+            open_file(rt, name, OpenOptions::new())
+        }
+        answer => answer,
+    }
+}
+
+// Opens a file to read and write it.
+fn open_file(rt: &HostRuntime, name: FileName, mut options: OpenOptions) -> io::Result<File> {
+    options.read(true).write(true);
     let file = options.open(rt, path(name))?;
     // The system gives a file the lowest free number, so that of a standard stream that is closed.
     // A copy has a greater one.

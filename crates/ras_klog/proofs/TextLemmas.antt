@@ -1,6 +1,6 @@
 -- A line of two pieces.
 use Rattle.std.proofs.Common.{◌≡◌, ℕ, List, [], ◌∷◌, ◌++◌, refl, ap, ◌∙◌, append_assoc}
-use Rattle.ras_texts.specs.Text.{line_with}
+use Rattle.ras_base.specs.Text.{line_with}
 
 -- a line that two pieces and a line feed make
 pub line_of_two : (old a b c d first second third : List ℕ)

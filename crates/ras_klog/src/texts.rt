@@ -5,10 +5,10 @@ ghost use Rattle.ras_klog.specs.Texts.{bank_text, klog_counts_line, out_text, pa
 
 use crate::KlogOut;
 use dimm_topology::Topology;
-use ras_base::NoMemory;
+use ras_base::{NoMemory, push_number};
 use ras_facts::BankReport;
 use ras_reports::report_of_bank;
-use ras_texts::{push_number, push_report};
+use ras_texts::push_report;
 use std::alloc::Global;
 
 // Adds the text of what is to be told.

@@ -8,9 +8,9 @@ use Rattle.ras_journal.specs.Recovered.{Refusal, damaged, recovered, too_long}
 use Rattle.ras_recover.specs.DiskCalls.{IsBeginning, Makes}
 use Rattle.ras_recover.specs.OpeningCalls.{IsRecovery}
 use Rattle.ras_recover.specs.Recovering.{file_number}
-use Rattle.ras_texts.specs.declared.listing.Listing.{Listing}
-use Rattle.ras_texts.specs.declared.listing.Listing.TheVariants.{Metrics}
-use Rattle.ras_texts.specs.Listing.{listing_lines}
+use Rattle.listing_texts.specs.declared.listing.Listing.{Listing}
+use Rattle.listing_texts.specs.declared.listing.Listing.TheVariants.{Metrics}
+use Rattle.listing_texts.specs.Listing.{listing_lines}
 use Rattle.ras_texts.specs.Text.{end_line}
 use Rattle.ras_exit.specs.declared.exit.Exit.{Exit}
 use Rattle.ras_exit.specs.declared.exit.Exit.TheVariants.{Damaged, DiskFault, Done, NoMemory, PrintFault, TooLong}

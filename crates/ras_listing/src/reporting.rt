@@ -13,11 +13,12 @@ ghost use Rattle.ras_listing.specs.Steps.Answering.{IsCutBy, IsReportAnswer, IsS
 ghost use Rattle.ras_listing.specs.Reporting.{IsReportExit, ReportMoment, Reports, report_output};
 
 use board_core::Board;
+use listing_texts::{Listing, push_listing};
 use ras_account::Account;
 use ras_base::NoMemory;
 use ras_exit::{Exit, print, stop_line};
 use ras_recover::{OpenRefused, Recovered, recover};
-use ras_texts::{Listing, end_line, push_listing};
+use ras_texts::end_line;
 use std::alloc::Global;
 
 /// Prints a listing of the account that the journal's files hold, and its end line, if it has one,

@@ -2,6 +2,7 @@
 use Rattle.std.proofs.Common.{◌≡◌, ℕ, ◌+◌, ◌-◌, ◌%◌, ◌==◌, suc, cond, Bool, true, false, List, [], ◌∷◌, ◌++◌, map, codes, refl, sym, ap, ◌∙◌, arith, append-nil, append_assoc}
 use Rattle.std.specs.Fmt.{digits}
 use Rattle.std.proofs.lemmas.List.Concat.{flat_map-append}
+use Rattle.ras_base.specs.Text.{line_with}
 use Rattle.ras_load.specs.LoadScript.{bank_line, bank_lines, bank_number, generated, load_bank, load_script, machine_lines, next_number}
 use Rattle.ras_script.specs.LineLaws.{line_text}
 use Rattle.ras_script.specs.SplittingLaws.{script_of}
@@ -9,7 +10,6 @@ use Rattle.ras_script.specs.declared.line.Line.{Line}
 use Rattle.ras_script.specs.declared.line.Line.TheVariants.{Report}
 use Rattle.ras_script.specs.declared.line.ErrorReport.TheVariants.{Bank}
 use Rattle.ras_facts.specs.declared.bank.BankReport.{BankReport}
-use Rattle.ras_texts.specs.Text.{line_with}
 
 -- lines as the text of a script, and those of two lists
 abbrev text_of : List Line → List ℕ

@@ -2,6 +2,7 @@
 -- and how many of its pages are to be given up softly and hard.
 use Rattle.std.specs.Prelude.{ℕ, Bool, ◌==◌, List, ◌++◌, codes, decimal, length, slice_index}
 use Rattle.std.specs.List.{count_by, sum_by}
+use Rattle.ras_base.specs.Text.{line_with}
 use Rattle.dimm_topology.specs.Labels.{Bytes}
 use Rattle.mca_status.specs.Classes.{class_number}
 use Rattle.mca_status.specs.declared.classes.ItemClass.{ItemClass}
@@ -12,7 +13,6 @@ use Rattle.page_policy.specs.declared.rows.PageState.TheVariants.{Soft, Hard}
 use Rattle.page_policy.specs.Rows.{height}
 use Rattle.ras_account.specs.Account.{State}
 use Rattle.ras_account.specs.Modules.{Module}
-use Rattle.ras_texts.specs.Text.{line_with}
 
 -- the weight that a module holds of a class, and that which all modules hold of it
 abbrev pub weight_of_class : ItemClass → Bytes × Module → ℕ

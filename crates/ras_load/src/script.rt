@@ -1,11 +1,11 @@
 //! The script that is made up from a number.
 
 ghost use Rattle.std.specs.Prelude.{◌≡◌, ◌++◌, ◌≤◌, map, IfOk, OnOk, string_bytes};
+ghost use Rattle.ras_base.specs.Text.{line_with};
 ghost use Rattle.ras_load.specs.LoadScript.{bank_lines, load_bank, load_script, next_number};
 ghost use Rattle.ras_load.specs.declared.script.TheConstants.{MOST_LINES};
 ghost use Rattle.ras_script.specs.LineLaws.{line_text};
 ghost use Rattle.ras_script.specs.SplittingLaws.{script_of};
-ghost use Rattle.ras_texts.specs.Text.{line_with};
 ghost use Rattle.ras_script.specs.declared.line.Line.TheVariants.{Report};
 ghost use Rattle.ras_script.specs.declared.line.ErrorReport.TheVariants.{Bank};
 

@@ -9,8 +9,7 @@ ghost use Rattle.ras_load.specs.Summary.{class_total, load_line, pages_in};
 use mca_status::ItemClass;
 use page_policy::{PageState, Pages};
 use ras_account::Account;
-use ras_base::NoMemory;
-use ras_texts::push_number;
+use ras_base::{NoMemory, push_number};
 use std::alloc::Global;
 
 /// The line that sums up the account of `n` lines: how many names it holds, the weights of its

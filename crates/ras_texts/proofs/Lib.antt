@@ -1,6 +1,2 @@
 pub mod TextLemmas
 pub mod LabelLemmas
-pub mod CountLemmas
-pub mod MetricsLemmas
-pub mod ReaderLemmas
-pub mod SampleLemmas

@@ -4,7 +4,4 @@ pub mod Text
 pub mod Reports
 pub mod Orders
 pub mod OrderRoom
-pub mod Listing
 pub mod Unreadable
-pub mod Metrics
-pub mod MetricsReader

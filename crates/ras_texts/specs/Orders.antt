@@ -2,6 +2,7 @@
 use Rattle.std.specs.Prelude.{ℕ, List, [], ◌++◌, codes, if◌then◌else◌, slice_get}
 use Rattle.std.specs.List.{flat_map}
 use Rattle.std.specs.Option.{option_map_or}
+use Rattle.ras_base.specs.Text.{line_with}
 use Rattle.dimm_topology.specs.Labels.{Bytes}
 use Rattle.page_policy.specs.declared.rows.Order.{Order}
 use Rattle.page_policy.specs.declared.rows.Order as Ordered
@@ -10,7 +11,7 @@ use Rattle.page_policy.specs.declared.rows.PageState.{PageState}
 use Rattle.page_policy.specs.declared.rows.PageState.TheVariants.{Kept, Soft, Hard}
 use Rattle.ras_account.specs.Account.{State}
 use Rattle.ras_account.specs.Modules.{Module}
-use Rattle.ras_texts.specs.Text.{address_text, label_text, line_with}
+use Rattle.ras_texts.specs.Text.{address_text, label_text}
 
 -- the line of a page in a state: none, if it is kept in use
 abbrev pub state_line : ℕ → PageState → List ℕ

@@ -1,6 +1,7 @@
 -- The lines of fresh reports, one for each item with what is told of it.
 use Rattle.std.specs.Prelude.{ℕ, ◌==◌, List, ◌++◌, codes, count_by, decimal, length, if◌then◌else◌}
 use Rattle.std.specs.List.{flat_map, zip}
+use Rattle.ras_base.specs.Text.{line_with}
 use Rattle.ras_facts.specs.declared.fact.Fact.{Fact}
 use Rattle.ras_facts.specs.declared.items.Item.{Item}
 use Rattle.ras_facts.specs.declared.entry.Entry.{Entry}
@@ -11,7 +12,7 @@ use Rattle.ras_account.specs.Account.{State}
 use Rattle.ras_account.specs.History.{is_retired}
 use Rattle.ras_texts.specs.Detail.{bank_detail}
 use Rattle.ras_texts.specs.Sections.{memory_text, processor_text, x64_text, other_text}
-use Rattle.ras_texts.specs.Text.{item_line, limit_line, line_with, module_limit_line, name_text, retire_line}
+use Rattle.ras_texts.specs.Text.{item_line, limit_line, module_limit_line, name_text, retire_line}
 
 -- what is told of an item beside the item
 abbrev pub detail_text : Detail → List ℕ

@@ -1,7 +1,8 @@
 -- The lines that are printed of entries, of events and of runs, each with its line feed.
-use Rattle.std.specs.Prelude.{ℕ, ◌==◌, List, [], ◌∷◌, ◌++◌, codes, decimal, drop, length, Option, None, Some, if◌then◌else◌}
+use Rattle.std.specs.Prelude.{ℕ, ◌==◌, List, [], ◌++◌, codes, decimal, drop, length, Option, None, Some, if◌then◌else◌}
 use Rattle.std.specs.Int.{to_be_bytes, w64}
 use Rattle.hex.specs.Hex.{encode_lower}
+use Rattle.ras_base.specs.Text.{line_with}
 use Rattle.mca_status.specs.declared.classes.ItemClass.{ItemClass}
 use Rattle.mca_status.specs.declared.classes.ItemClass.TheVariants.{Ce, Ucna, Srao, Srar, Uc, Odd, Corrected, Recoverable, Fatal, Informational}
 use Rattle.page_policy.specs.declared.buckets.Limit.{Limit}
@@ -15,10 +16,6 @@ use Rattle.ras_facts.specs.declared.entry.Entry.{Entry}
 use Rattle.ras_facts.specs.declared.entry.Entry.TheVariants.{Fact as FactEntry, Limit as PageLimit, Retire, ModuleLimit}
 use Rattle.ras_account.specs.Account.{State}
 use Rattle.ras_account.specs.History.{is_retired}
-
--- a text as a line: a line feed ends it
-abbrev pub line_with : List ℕ → List ℕ
-line_with text = text ++ 10 ∷ []
 
 abbrev pub name_text : Name → List ℕ
 name_text (Bank boot cpu bank tsc) =

@@ -2,10 +2,10 @@
 use Rattle.std.specs.Prelude.{ℕ, List, ◌++◌, codes}
 use Rattle.std.specs.Int.{to_be_bytes, w64}
 use Rattle.hex.specs.Hex.{encode_lower}
+use Rattle.ras_base.specs.Text.{line_with}
 use Rattle.cper_records.specs.declared.refusals.RecordRefused.TheVariants.{Short, Signature, Length, DescriptorOut, SectionOut, Section}
 use Rattle.cper_records.specs.declared.refusals.Unreadable.{Unreadable}
 use Rattle.cper_records.specs.declared.refusals.Unreadable.TheVariants.{NoRecord, OtherId}
-use Rattle.ras_texts.specs.Text.{line_with}
 
 -- why it can't be read
 abbrev pub unreadable_word : Unreadable → List ℕ

@@ -3,9 +3,8 @@
 ghost use Rattle.std.specs.Prelude.{◌≡◌, ◌++◌, IfOk, OnOk};
 ghost use Rattle.ras_texts.specs.Text.{done_line, end_line};
 
-use crate::pieces::push_number;
 use ras_account::Account;
-use ras_base::NoMemory;
+use ras_base::{NoMemory, push_number};
 use std::alloc::Global;
 
 // The most bytes of a done line, for which room is taken at once.

@@ -4,10 +4,7 @@
 
 mod detail;
 mod ends;
-mod laws;
-mod listing;
 mod log;
-mod metrics;
 mod order;
 mod pieces;
 mod report;
@@ -16,11 +13,9 @@ mod unreadable;
 mod version;
 
 pub use ends::{done_line, end_line, push_done};
-pub use laws::metrics_laws;
-pub use listing::{Listing, push_listing};
 pub use log::{push_known, push_repeat};
 pub use order::{ORDER_LENGTH, push_orders, standing_lines};
-pub use pieces::{class_word, push_name, push_number};
+pub use pieces::{CLASSES, class_word, label_word, push_label, push_name, push_page, state_word};
 pub use report::{push_detail, push_entry, push_report};
 pub use unreadable::push_unreadable;
 pub use version::VERSION;

@@ -1,13 +1,14 @@
 //! The lines of entries that aren't reports, and the line of an entry that isn't fresh.
 
 ghost use Rattle.std.specs.Prelude.{◌≡◌, ◌++◌, count_by, OnOk};
+ghost use Rattle.ras_base.specs.Text.{line_with};
 ghost use Rattle.ras_account.specs.History.{is_retired};
-ghost use Rattle.ras_texts.specs.Text.{known_line, limit_text, line_with, repeat_line, retire_line};
+ghost use Rattle.ras_texts.specs.Text.{known_line, limit_text, repeat_line, retire_line};
 
-use crate::pieces::{push_name, push_number};
+use crate::pieces::push_name;
 use page_policy::Limit;
 use ras_account::Account;
-use ras_base::NoMemory;
+use ras_base::{NoMemory, push_number};
 use ras_facts::{Entry, Name};
 
 // The most bytes of the line of a repeat: of a bank's name with the greatest numbers. Room for them

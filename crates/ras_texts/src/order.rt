@@ -2,10 +2,11 @@
 
 ghost use Rattle.std.specs.Prelude.{◌≡◌, ◌++◌, ◌+◌, ◌≤◌, IfOk, OnOk, length, vec_capacity, vec_len};
 ghost use Rattle.std.specs.List.{flat_map};
+ghost use Rattle.ras_base.specs.Text.{line_with};
 ghost use Rattle.ras_texts.specs.OrderRoom.{HasOrderRoom, StaysWithin};
 ghost use Rattle.ras_texts.specs.Orders.{module_label, module_line, order_line, order_lines, page_line};
 ghost use Rattle.ras_texts.specs.Orders.{replaced_line, standing_lines, state_line};
-ghost use Rattle.ras_texts.specs.Text.{address_text, label_text, line_with};
+ghost use Rattle.ras_texts.specs.Text.{address_text, label_text};
 
 use crate::pieces::page_digits;
 use dimm_topology::Label;

@@ -1,19 +1,18 @@
-//! The pieces of which lines are made: numbers, names, classes, pages and labels.
+//! The pieces of which lines are made: names, classes, pages and labels.
 
-ghost use Rattle.std.specs.Prelude.{◌≡◌, ◌++◌, decimal, drop, OnOk};
+ghost use Rattle.std.specs.Prelude.{◌≡◌, ◌++◌, drop, OnOk};
 ghost use Rattle.std.specs.Int.{to_be_bytes, w64};
 ghost use Rattle.hex.specs.Hex.{encode_lower};
 ghost use Rattle.ras_texts.specs.Text.{class_text, label_text, name_text, page_text, state_text};
 
 use dimm_topology::Label;
-use itoa::Buffer;
 use mca_status::{CLASS_COUNT, ItemClass};
 use page_policy::PageState;
-use ras_base::NoMemory;
+use ras_base::{NoMemory, push_number};
 use ras_facts::Name;
 
 /// The classes in the order of their numbers.
-pub(crate) const CLASSES: [ItemClass; CLASS_COUNT] = [
+pub const CLASSES: [ItemClass; CLASS_COUNT] = [
     ItemClass::Ce,
     ItemClass::Ucna,
     ItemClass::Srao,
@@ -25,25 +24,6 @@ pub(crate) const CLASSES: [ItemClass; CLASS_COUNT] = [
     ItemClass::Fatal,
     ItemClass::Informational,
 ];
-
-/// Adds a number in decimal.
-///
-/// # Errors
-///
-/// `NoMemory` comes only if memory runs out.
-#[tactic(auto, using(std::proofs::lemmas::Fmt::decimal_digit))]
-pub fn push_number(text: &mut Vec<u8>, number: u64) -> Result<(), NoMemory>
-    ensures { OnOk result (text.new.items ≡ text.old.items ++ decimal number) }
-{
-    // Most numbers of a name are one digit.
-    if number < 10 {
-        text.push(b'0' + number as u8)?;
-        return Ok(());
-    }
-    let mut buffer = Buffer::new();
-    text.extend_from_slice(buffer.format(number).as_bytes())?;
-    Ok(())
-}
 
 /// Adds the name of a report.
 pub fn push_name(text: &mut Vec<u8>, name: &Name) -> Result<(), NoMemory>
@@ -108,7 +88,7 @@ pub fn class_word(class: ItemClass) -> &'static [u8]
 }
 
 /// The word of a page's state.
-pub(crate) fn state_word(state: PageState) -> &'static [u8]
+pub fn state_word(state: PageState) -> &'static [u8]
     ensures { result.now ≡ state_text state }
 {
     match state {

@@ -7,10 +7,10 @@ ghost use Rattle.ras_texts.specs.Text.{item_head};
 
 use crate::detail::push_bank;
 use crate::log::{push_limit, push_retire};
-use crate::pieces::{class_word, push_label, push_name, push_number, push_page};
+use crate::pieces::{class_word, push_label, push_name, push_page};
 use crate::section::{push_memory, push_other, push_processor, push_x64};
 use ras_account::Account;
-use ras_base::NoMemory;
+use ras_base::{NoMemory, push_number};
 use ras_facts::{Entry, Fact, Item};
 use ras_reports::Detail;
 

@@ -4,9 +4,9 @@ ghost use Rattle.std.specs.Prelude.{◌≡◌, ◌++◌, codes, decimal, MatchOp
 ghost use Rattle.ras_texts.specs.Sections.{digits_text, memory_text, other_text, processor_text};
 ghost use Rattle.ras_texts.specs.Sections.{told_text, type_text, x64_text};
 
-use crate::pieces::{hexadecimal_digits, push_number};
+use crate::pieces::hexadecimal_digits;
 use cper_sections::{MemSection, ProcSection, X64Section};
-use ras_base::NoMemory;
+use ras_base::{NoMemory, push_number};
 use uuid::Uuid;
 
 /// Adds what a memory section tells: the type of the error, where it is, and the address's mask.

@@ -1,7 +1,8 @@
 -- The two kinds of status, and lines by their parts.
 use Rattle.std.specs.Prelude.{ℕ, Bool, List, ◌∷◌, ◌++◌, codes, decimal, Result, if◌then◌else◌}
+use Rattle.ras_base.specs.Text.{line_with}
 use Rattle.ras_facts.specs.declared.name.Name.{Name}
-use Rattle.ras_texts.specs.Text.{line_with, name_text}
+use Rattle.ras_texts.specs.Text.{name_text}
 use Rattle.cper_pcie.specs.Bits.{correctable_names, uncorrectable_names}
 use Rattle.cper_pcie.specs.Texts.{section_text}
 use Rattle.cper_pcie.specs.declared.section.PcieRefused.{PcieRefused}

@@ -4,9 +4,9 @@ use Rattle.ras_account.specs.Account.{State}
 use Rattle.ras_journal.specs.Recovered.{Refusal}
 use Rattle.ras_recover.specs.declared.refused.OpenRefused.{OpenRefused}
 use Rattle.ras_recover.specs.declared.refused.OpenRefused.TheVariants as opening
-use Rattle.ras_texts.specs.declared.listing.Listing.{Listing}
-use Rattle.ras_texts.specs.declared.listing.Listing.TheVariants.{Metrics}
-use Rattle.ras_texts.specs.Listing.{listing_lines}
+use Rattle.listing_texts.specs.declared.listing.Listing.{Listing}
+use Rattle.listing_texts.specs.declared.listing.Listing.TheVariants.{Metrics}
+use Rattle.listing_texts.specs.Listing.{listing_lines}
 use Rattle.ras_texts.specs.Text.{end_line}
 use Rattle.ras_exit.specs.declared.exit.Exit.{Exit}
 use Rattle.ras_exit.specs.declared.exit.Exit.TheVariants.{Damaged, DiskFault, NoMemory, TooLong}

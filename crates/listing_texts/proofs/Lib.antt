@@ -1,0 +1,4 @@
+pub mod CountLemmas
+pub mod MetricsLemmas
+pub mod ReaderLemmas
+pub mod SampleLemmas

@@ -1,8 +1,0 @@
--- The lines so far are those of the rows so far.
-use Rattle.std.proofs.Common.{◌≡◌, ◌++◌, take}
-use Rattle.std.specs.List.{flat_map}
-use Rattle.ras_texts.specs.Listing.{listed_name}
-use Rattle.ras_texts.proofs.listing.push_names.Given as goal
-
-abbrev pub invariant-loop-i : goal.invariant-loop-i
-invariant-loop-i l = l.text.items ≡ l.fn.text.items ++ flat_map listed_name (take l.i l.account.state.names)

@@ -1,9 +1,0 @@
-use Rattle.std.proofs.Common.{◌≡◌, OnOk, List, ℕ, subst}
-use Rattle.ras_account.specs.Rows.{row_of}
-use Rattle.ras_texts.proofs.MetricsLemmas.{one_bucket}
-use Rattle.ras_texts.proofs.metrics.push_bucket.Goals as goal
-
-pub returns-in-Some : goal.returns-in-Some
-returns-in-Some c =
-    subst (λ (t : List ℕ). OnOk c.push_labeled.result (c.push_labeled.new.text.items ≡ t))
-    (one_bucket c.args.text.now.items (row_of c.args.row.now) c.in-Some.bucket c.label_word.result.now c.from.result c.in-Some.is c.label_word.ensures c.from.ensures) c.push_labeled.ensures

@@ -1,8 +1,0 @@
--- The lines so far are those of the rows so far.
-use Rattle.std.proofs.Common.{◌≡◌, ◌++◌, take}
-use Rattle.ras_texts.proofs.MetricsLemmas.{bucket_lines}
-use Rattle.std.specs.List.{flat_map}
-use Rattle.ras_texts.proofs.metrics.push_buckets.Given as goal
-
-abbrev pub invariant-loop-i : goal.invariant-loop-i
-invariant-loop-i l = l.text.items ≡ l.fn.text.items ++ flat_map bucket_lines (take l.i l.account.state.modules)

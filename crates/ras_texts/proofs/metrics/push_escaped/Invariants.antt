@@ -1,8 +1,0 @@
--- The text so far is that of the bytes so far.
-use Rattle.std.proofs.Common.{◌≡◌, ◌++◌, take}
-use Rattle.std.specs.List.{flat_map}
-use Rattle.ras_texts.specs.Metrics.{escape}
-use Rattle.ras_texts.proofs.metrics.push_escaped.Given as goal
-
-abbrev pub invariant-loop-i : goal.invariant-loop-i
-invariant-loop-i l = l.text.items ≡ l.fn.text.items ++ flat_map escape (take l.i l.value)

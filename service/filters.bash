@@ -1,0 +1,31 @@
+#!/usr/bin/env bash
+# The commands that make lines for rasd of the kernel's log and trace.
+#
+# usage: source filters.bash, as service/feed and service/earlier-lines do, with the folder of the scripts in `here`
+# shellcheck disable=SC2034
+here=${here:-$(dirname -- "$(readlink -f -- "${BASH_SOURCE[0]}")")}
+program=${RASD:-/usr/libexec/rasd/rasd}
+traces=${RASD_TRACE:-/var/lib/rasd-trace}
+# A filter takes 64 MB at most, so a longer log or trace is given to several, one behind the other.
+piece=${RASD_PIECE:-50000000}
+# A command that ends with the shell that began it, so that nothing goes on half.
+tied=(setpriv --pdeathsig KILL)
+# Each line for rasd is passed on whole, or not at all.
+whole=("$here/whole-lines" --most 4096)
+
+# Of each memory error that the firmware reports the kernel makes up a machine check of bank 255, which no processor has;
+# service/ghes-lines gives that error. Comments, of what a filter left out, do nothing in a run, so they are told.
+copy='^bank [0-9]+ [0-9]+ [0-9]+ 255 '
+pass_on=("${whole[@]}" --tell "^#|$copy" "feed: left out" --without "$copy")
+
+# Sets make_lines to the command that makes lines of this boot's log. A piece ends before a report.
+log_filter() {
+    make_lines=("${whole[@]}" --only 'mce: \[Hardware Error\]: ' --piece "$piece" --at 'CPU [0-9]+: Machine Check'
+        -- "${tied[@]}" "$program" lines klog "$1" "$2")
+}
+
+# The same of this boot's trace. An error that somebody injected has no MCG_CAP, so the machine's own counts.
+trace_filter() {
+    make_lines=("${whole[@]}" --tell '^CPU:[0-9]+ \[LOST' "feed: the trace has a gap" --only 'mce_record: '
+        --replace 'MCGc/s: 0/' "MCGc/s: $2/" --piece "$piece" -- "${tied[@]}" "$program" lines trace "$1")
+}

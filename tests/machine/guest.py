@@ -1,0 +1,214 @@
+"""A guest of QEMU: it boots, runs commands as root, takes machine checks, and is cut."""
+import base64
+import contextlib
+import os
+import pathlib
+import socket
+import subprocess
+import sys
+import time
+
+HERE = pathlib.Path(__file__).resolve().parent
+# A boot takes a minute on a free machine, and many on a loaded one: TCG has no help of the processor.
+PATIENCE = 1200
+# What waits looks now and then, since a look costs the guest as much as what it waits for.
+PAUSE = 3
+RECORDS = 65536
+PROMPT = b"(qemu) "
+
+
+class Ended(Exception):
+    """The guest has ended, or doesn't answer."""
+
+
+class Guest:
+    """One guest, with a folder of its own: its disk, its record store, its console, its sockets."""
+
+    def __init__(self, images, folder):
+        self.images, self.folder = pathlib.Path(images), pathlib.Path(folder)
+        self.folder.mkdir(parents=True, exist_ok=True)
+        self.process = self.server = self.stream = self.lines = self.boot = None
+        self.count = 0
+
+    def path(self, name):
+        """A file of the guest's folder."""
+        return str(self.folder / name)
+
+    def fresh(self, files):
+        """Makes the disks anew: the guest's, over the image; that of the account; and one with these files, as a tar."""
+        for name in ("records", "console", "journal"):
+            pathlib.Path(self.path(name)).unlink(missing_ok=True)
+        with open(self.path("records"), "wb") as records:
+            records.truncate(RECORDS)
+        how = ["-q", "-f", "qcow2", "-F", "raw", "-b", str(self.images / "base.ext4"), self.path("root")]
+        subprocess.run(["qemu-img", "create", *how], check=True)
+        pathlib.Path(self.path("account")).unlink(missing_ok=True)
+        subprocess.run(["truncate", "-s", "64M", self.path("account")], check=True)
+        subprocess.run(["mke2fs", "-q", "-t", "ext4", "-L", "account", self.path("account")], check=True)
+        names = [word for file in files for word in ("-C", os.path.dirname(file), os.path.basename(file))]
+        subprocess.run(["tar", "-cf", self.path("files"), *names], check=True)
+
+    def serve_account(self):
+        """Serves the account's disk, which loses at a cut what had no flush."""
+        if self.server:
+            return
+        sockets = [self.path(name) for name in ("disk", "control")]
+        for name in sockets:
+            pathlib.Path(name).unlink(missing_ok=True)
+        self.server = subprocess.Popen([sys.executable, HERE / "disk.py", self.path("account"), *sockets])
+        while not all(map(os.path.exists, sockets)):
+            time.sleep(0.05)
+
+    def words(self):
+        """QEMU's words."""
+        disks = {
+            "root": f"file={self.path('root')},format=qcow2,cache=writeback",
+            "files": f"file={self.path('files')},format=raw,readonly=on",
+            "account": f"file=nbd+unix:///?socket={self.path('disk')},format=raw,cache=none",
+        }
+        drives = [["-drive", f"if=none,id={it},{disks[it]}", "-device", f"virtio-blk-pci,drive={it},serial={it}"] for it in disks]
+        return [
+            # The guest's time goes by its instructions: by the host's, a loaded host would leave it no time but for its clock's ticks.
+            *("qemu-system-x86_64", "-accel", "tcg,thread=single", "-icount", "shift=3,sleep=on", "-cpu", "Skylake-Server", "-smp", "1", "-m", "1024"),
+            *("-display", "none", "-nodefaults", "-no-reboot"),
+            *("-kernel", str(self.images / "kernel"), "-initrd", str(self.images / "initrd")),
+            *("-append", "console=ttyS0 edd=off mitigations=off root=/dev/vda rw panic=5 systemd.show_status=0"),
+            *("-chardev", f"file,id=console,path={self.path('console')},append=on", "-serial", "chardev:console"),
+            *("-monitor", f"unix:{self.path('monitor')},server=on,wait=off"),
+            *[word for drive in drives for word in drive],
+            *("-device", "virtio-serial-pci", "-device", "virtserialport,chardev=agent,name=agent"),
+            *("-chardev", f"socket,id=agent,path={self.path('agent')},server=on,wait=off"),
+            *("-object", f"memory-backend-file,id=records,mem-path={self.path('records')},size={RECORDS},share=on"),
+            *("-device", "acpi-erst,memdev=records"),
+        ]
+
+    def start(self):
+        """Boots it, and waits for its agent."""
+        self.serve_account()
+        for name in ("agent", "monitor"):
+            pathlib.Path(self.path(name)).unlink(missing_ok=True)
+        with open(self.path("errors"), "a") as errors:
+            how = {"stdin": subprocess.DEVNULL, "stdout": errors, "stderr": errors}
+            self.process = subprocess.Popen(self.words(), **how)
+        end = time.monotonic() + PATIENCE
+        while not self.connects():
+            if self.process.poll() is not None or time.monotonic() > end:
+                raise Ended(pathlib.Path(self.path("errors")).read_text()[-500:])
+            time.sleep(0.2)
+        while not (line := self.answer(PATIENCE)).startswith("READY"):
+            pass
+        self.boot = line.split()[1]
+
+    def connects(self):
+        """Whether QEMU has the agent's socket by now."""
+        self.stream = socket.socket(socket.AF_UNIX)
+        with contextlib.suppress(OSError):
+            self.stream.connect(self.path("agent"))
+            self.lines = self.stream.makefile("rwb")
+            return True
+        return False
+
+    def answer(self, seconds):
+        """A line of the agent."""
+        self.stream.settimeout(seconds)
+        try:
+            line = self.lines.readline().decode(errors="replace")
+        except OSError as error:
+            raise Ended(str(error)) from error
+        if not line:
+            raise Ended("the guest has ended")
+        return line
+
+    def run(self, command, seconds=PATIENCE):
+        """The status of a command of the guest's shell, and what it printed."""
+        self.count += 1
+        try:
+            self.lines.write(b"%d %s\n" % (self.count, base64.b64encode(command.encode())))
+            self.lines.flush()
+        except OSError as error:
+            raise Ended(str(error)) from error
+        while (words := self.answer(seconds).split())[0] != str(self.count):
+            pass
+        text = base64.b64decode(words[2]).decode(errors="replace") if len(words) > 2 else ""
+        return int(words[1]), text
+
+    def text(self, command):
+        """What a command printed, whatever its status."""
+        return self.run(command)[1].strip()
+
+    def now(self):
+        """The guest's seconds since its boot, by which all limits go: a loaded host has more of them."""
+        return float(self.text("cut -d ' ' -f 1 /proc/uptime"))
+
+    def keep_journal(self, what):
+        """Keeps the end of the guest's journal, for who looks into what failed."""
+        with open(self.path("journal"), "a") as journal:
+            print(f"==== {what}", self.text("journalctl -b -o short-monotonic -n 150 --no-pager"), sep="\n", file=journal)
+
+    def awaits(self, command, text, seconds=120):
+        """Within how many of the guest's seconds a command printed this, or nothing if it didn't."""
+        begun = self.now()
+        while text not in self.text(command):
+            if self.now() > begun + seconds:
+                return None
+            time.sleep(PAUSE)
+        return self.now() - begun
+
+    def monitor(self, command):
+        """What QEMU's monitor answers."""
+        with socket.socket(socket.AF_UNIX) as stream:
+            stream.connect(self.path("monitor"))
+            stream.settimeout(60)
+            self.until_prompt(stream)
+            stream.sendall(command.encode() + b"\n")
+            return self.until_prompt(stream)
+
+    @staticmethod
+    def until_prompt(stream):
+        """What the monitor prints before its next prompt."""
+        data = b""
+        while not data.endswith(PROMPT):
+            piece = stream.recv(4096)
+            if not piece:
+                break
+            data += piece
+        return data.removesuffix(PROMPT).decode(errors="replace")
+
+    def inject(self, bank, status, global_status, address, misc, everywhere=False):
+        """Has CPU 0 see a machine check: as an exception, or, with 0 for MCG_STATUS, at the kernel's next poll."""
+        numbers = f"{status:#x} {global_status:#x} {address:#x} {misc:#x}"
+        return self.monitor(f"mce {'-b ' if everywhere else ''}0 {bank} {numbers}")
+
+    def ends(self, seconds=PATIENCE):
+        """Whether QEMU ends within these seconds, as it does if the guest reboots."""
+        try:
+            self.process.wait(seconds)
+        except subprocess.TimeoutExpired:
+            return False
+        self.stream.close()
+        return True
+
+    def reboot(self):
+        """Has the guest shut down, and boots it again."""
+        with contextlib.suppress(Ended):
+            self.run("systemctl --no-block reboot")
+        if not self.ends():
+            raise Ended("the guest doesn't shut down")
+        self.start()
+
+    def cut(self, seed):
+        """Takes its power away; says how many sectors of the account's disk had no flush, and how many lost a write."""
+        self.process.kill()
+        self.ends()
+        with socket.socket(socket.AF_UNIX) as stream:
+            stream.connect(self.path("control"))
+            with stream.makefile("rw") as lines:
+                print("cut", seed, file=lines, flush=True)
+                return lines.readline().strip()
+
+    def close(self):
+        """Ends it, and its disk."""
+        for process in (self.process, self.server):
+            if process and process.poll() is None:
+                process.kill()
+                process.wait()

@@ -1,0 +1,193 @@
+"""The unit's command of service/rasd.service in a folder of its own, over a stub of journalctl; tests/program/service and
+tests/program/feed run it.
+"""
+import contextlib
+import os
+import pathlib
+import re
+import shlex
+import signal
+import subprocess
+import sys
+import tempfile
+import time
+
+from rattle import TOP
+
+SERVICE = TOP / "service"
+PROGRAM = pathlib.Path(sys.argv[1]).resolve()
+BOOT = pathlib.Path("/proc/sys/kernel/random/boot_id").read_text().strip()
+EARLIER = "01234567-89ab-cdef-0123-456789abcdef"
+SOON = 10.0
+PATIENCE = 60.0
+
+# The log of this boot goes on until it is ended; its process and its words are noted. Those of other boots stand in
+# files, and come in two parts if they are to be slow.
+JOURNALCTL = """#!/bin/sh
+case " $* " in
+    *" --list-boots "*) cat {room}/boots ;;
+    *" -f "*)
+        echo "$*" > {room}/words
+        echo $$ > {room}/process
+        exec tail -n +1 -f {room}/log ;;
+    *" export "*) printf '__REALTIME_TIMESTAMP=1400000005000000\\n__MONOTONIC_TIMESTAMP=5000000\\n' ;;
+    *)
+        [ ! -e {room}/slow ] || {{ head -c 300000 {room}/log.$3; sleep 1; exec tail -c +300001 {room}/log.$3; }}
+        exec cat {room}/log.$3 ;;
+esac
+"""
+ERROR = (
+    "[{0:5}.000001] node7 kernel: mce: [Hardware Error]: CPU 0: Machine Check: 0 Bank 7: 8c00004000010090\n"
+    "[{0:5}.000002] node7 kernel: mce: [Hardware Error]: TSC {1:x} ADDR 12345040 MISC 86 \n"
+    "[{0:5}.000003] node7 kernel: mce: [Hardware Error]: PROCESSOR {2}:306e4 TIME 1400000000 SOCKET 0 APIC 0 microcode 1\n"
+)
+TRACED = (
+    "  kworker/0:1-7  [000] .....  100.000001: mce_record: CPU: 0, MCGc/s: 1000c14/0, MC7: 8c00004000010090, IPID: {0}, "
+    "ADDR/MISC/SYND: 0000000012345040/0000000000000086/{0}, RIP: 00:<{0}>, TSC: 3e8, PROCESSOR: 0:306e4, "
+    "TIME: 1400000000, SOCKET: 0, APIC: 0\n"
+).format("0" * 16)
+SETTINGS = ("MCG_CAP", "SOURCE", "BOOTS_KEPT")
+ROWS = "cpu 0 0\nmodule DIMM_A1 0 7 0\nmodule-limit 4 86400"
+# The feed's line before the first error is a poll, behind rows, a bank that holds none, and a table with its comment.
+HEAD = 8
+
+
+def holds(what, is_so):
+    """Whether that is so; else it is told."""
+    if not is_so:
+        print(f"failed: {what}")
+    return bool(is_so)
+
+
+def settings(name, unit="rasd.service"):
+    """What a unit says of a setting, line by line."""
+    return re.findall(rf"^{name}=(.*)$", (SERVICE / unit).read_text(), re.M)
+
+
+def with_our_paths(text, program=PROGRAM, scripts=SERVICE):
+    """A unit's text with this program and these scripts."""
+    return text.replace("/usr/libexec/rasd/rasd", str(program)).replace("/usr/lib/rasd/", f"{scripts}/")
+
+
+def process_of(entry):
+    """The number of a process, and of its session, which is 0 if it has ended."""
+    try:
+        state, _, _, session = (entry / "stat").read_text().rpartition(")")[2].split()[:4]
+        return int(entry.name), 0 if state == "Z" else int(session)
+    except OSError:
+        return int(entry.name), 0
+
+
+class Service:
+    """The unit's command in a folder of its own, with a stub of journalctl."""
+
+    def __init__(self, room, folder):
+        self.room, self.folder = pathlib.Path(room), pathlib.Path(folder)
+        (self.room / "bin").mkdir(parents=True)
+        stub = self.room / "bin" / "journalctl"
+        stub.write_text(JOURNALCTL.format(room=self.room))
+        stub.chmod(0o755)
+        (self.room / "log").touch()
+        (self.room / "rows").write_text(ROWS)
+        self.environment = {
+            **{key: value for key, value in os.environ.items() if key not in SETTINGS},
+            "PATH": f"{self.room}/bin:{os.environ['PATH']}",
+            "MCG_CAP": "1000c14",
+            "RASD": str(PROGRAM),
+            "RASD_ROWS": f"{self.room}/rows",
+            "RASD_PIPE": f"{self.room}/lines",
+            "RASD_TRACE": str(self.room),
+            "RASD_PSTORE": f"{self.room}/pstore",
+        }
+        self.process = None
+
+    def start(self, *where, loud=False):
+        """Begins the command, as the service manager does; if it is loud, the output has the lines that are left out."""
+        before, command = (with_our_paths(settings(it)[0], *where) for it in ("ExecStartPre", "ExecStart"))
+        words = shlex.split(command)
+        if loud:
+            words[-1] = re.sub(r" > >\(.*\)$", "", words[-1])
+        how = {"cwd": self.folder, "env": self.environment, "stdin": subprocess.DEVNULL}
+        with open(self.room / "out", "wb") as out, open(self.room / "errors", "wb") as errors:
+            subprocess.run(shlex.split(before.lstrip("-")), stdout=out, stderr=errors, **how)
+            self.process = subprocess.Popen(words, stdout=out, stderr=errors, start_new_session=True, **how)
+
+    def processes(self):
+        """The command's processes that are left: all of its session."""
+        return [it[0] for it in map(process_of, pathlib.Path("/proc").glob("[0-9]*")) if it[1] == self.process.pid]
+
+    def stop(self, number=signal.SIGKILL):
+        """Ends what is left of the command, and what that has begun meanwhile."""
+        end = time.monotonic() + PATIENCE
+        while left := self.processes():
+            for process in left:
+                with contextlib.suppress(OSError):
+                    os.kill(process, number if time.monotonic() < end else signal.SIGKILL)
+            self.process.poll()
+            time.sleep(0.01)
+        self.process.wait()
+
+    def ends(self, seconds=PATIENCE):
+        """The status with which the command ends within these seconds, or none; what was begun is ended."""
+        try:
+            return self.process.wait(seconds)
+        except subprocess.TimeoutExpired:
+            return None
+        finally:
+            self.stop(signal.SIGTERM)
+
+    def text(self, name="out"):
+        """What the command printed, or its errors."""
+        return (self.room / name).read_text()
+
+    def awaits(self, text, name="out", seconds=PATIENCE):
+        """Whether this is printed in time."""
+        end = time.monotonic() + seconds
+        while text not in self.text(name) and time.monotonic() < end:
+            time.sleep(0.01)
+        return text in self.text(name)
+
+    def awaits_names(self, count):
+        """Whether the account has so many names in time, while the command goes on."""
+        end = time.monotonic() + PATIENCE
+        while not (is_whole := self.report("names").endswith(f" names={count}\n")) and time.monotonic() < end:
+            if self.process.poll() is not None:
+                break
+            time.sleep(0.05)
+        return is_whole
+
+    def has_before(self, text):
+        """Lets the account be one of a boot 7 before this one, whose log has this text."""
+        subprocess.run([PROGRAM, "run"], stdin=subprocess.DEVNULL, capture_output=True, cwd=self.folder)
+        (self.folder / "boot-number").write_text(f"7 {EARLIER}\n")
+        (self.room / "boots").write_text("".join(f" {id.replace('-', '')} Mon\n" for id in (EARLIER, BOOT)))
+        (self.room / f"log.{EARLIER.replace('-', '')}").write_text(text)
+
+    def add(self, text):
+        """Lets the log go on."""
+        with open(self.room / "log", "a") as log:
+            log.write(text)
+
+    def end_log(self):
+        """Ends journalctl."""
+        os.kill(int(self.text("process")), signal.SIGTERM)
+
+    def tell(self, *words):
+        """The status of service/tell, and what it says."""
+        how = {"env": self.environment, "capture_output": True, "text": True, "timeout": PATIENCE}
+        ran = subprocess.run([SERVICE / "tell", *words], stdin=subprocess.DEVNULL, **how)
+        return ran.returncode, ran.stdout + ran.stderr
+
+    def report(self, what):
+        """What a report prints."""
+        return subprocess.run([PROGRAM, "report", what], cwd=self.folder, capture_output=True, text=True).stdout
+
+
+@contextlib.contextmanager
+def service(in_memory=False):
+    """A service that isn't begun yet. Its journal is on the disk, or in memory for what has thousands of errors."""
+    memory = pathlib.Path("/dev/shm")
+    where = memory if in_memory and os.access(memory, os.W_OK) else None
+    with tempfile.TemporaryDirectory(prefix="rasd-service-") as room:
+        with tempfile.TemporaryDirectory(prefix="rasd-journal-", dir=where) as folder:
+            yield Service(room, folder)
