@@ -8,8 +8,8 @@ program=${RASD:-/usr/libexec/rasd/rasd}
 traces=${RASD_TRACE:-/var/lib/rasd-trace}
 # A filter takes 64 MB at most, so a longer log or trace is given to several, one behind the other.
 piece=${RASD_PIECE:-50000000}
-# A command that ends with the shell that began it, so that nothing goes on half.
-tied=(setpriv --pdeathsig KILL)
+# A command that ends with the process that begins it, whose number it gets as TIED_TO.
+tied=("$here/tied")
 # Each line for rasd is passed on whole, or not at all.
 whole=("$here/whole-lines" --most 4096)
 
