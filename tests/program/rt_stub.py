@@ -72,7 +72,6 @@ def nothing(*_words):
 rtlib = types.SimpleNamespace(
     Crate=Crate, files_of=files_of, guarded=nothing, lock=nothing, stop_on_links=nothing, stop_on_text=nothing
 )
-share_work = nothing
 
 
 def processors():
