@@ -1,4 +1,5 @@
 pub mod NumberLemmas
+pub mod PairLemmas
 pub mod ByteLemmas
 pub mod SplittingLemmas
 pub mod HeldWordsLemmas
