@@ -3,6 +3,7 @@ pub mod PairLemmas
 pub mod ByteLemmas
 pub mod SplittingLemmas
 pub mod HeldWordsLemmas
+pub mod BlockLemmas
 pub mod SpaceLemmas
 pub mod HeldLineLemmas
 pub mod LineAndWordLemmas

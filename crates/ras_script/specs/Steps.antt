@@ -1,4 +1,4 @@
 -- What only proofs use: no public clause comes to it.
 pub mod ReaderSteps
 pub mod Window
-pub mod Spaces
+pub mod Places
