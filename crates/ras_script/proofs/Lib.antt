@@ -11,6 +11,7 @@ pub mod FieldLemmas
 pub mod LineRangeLemmas
 pub mod WrittenNumberLemmas
 pub mod LineTextLemmas
+pub mod FeedLemmas
 pub mod WindowLemmas
 pub mod LinesLemmas
 pub mod ReaderLemmas
