@@ -1,6 +1,6 @@
 //! The places of a byte in a text, found by blocks of bytes.
 
-ghost use Rattle.std.specs.Prelude.{◌≡◌, ◌≢◌, ℕ, ◌+◌, ◌<◌, ◌≤◌, ◌==◌, length, IfSome};
+ghost use Rattle.std.specs.Prelude.{◌≡◌, ◌≢◌, ℕ, ◌+◌, ◌-◌, ◌<◌, ◌≤◌, ◌==◌, length, IfSome};
 ghost use Rattle.std.specs.Int.{bit_at};
 ghost use Rattle.std.specs.List.{position};
 ghost use Rattle.ras_script.specs.Steps.Places.{ArePlaces, StandsNowhere};
@@ -39,12 +39,31 @@ fn position_in_rest(byte: u8, text: &[u8], from: usize) -> Option<usize>
     ensures place { result ≡ position (λ b. b == byte) text.now }
     ensures within { IfSome result (λ place. place < length text.now) }
 {
+    if text.len() >= BLOCK_BYTES {
+        return position_in_last(byte, text);
+    }
     for place in from..text.len() {
         if text[place] == byte {
             return Some(place);
         }
     }
     None
+}
+
+// The first place of a byte in a text which has none before its last block.
+#[inline(always)]
+fn position_in_last(byte: u8, text: &[u8]) -> Option<usize>
+    requires room { BLOCK_BYTES ≤ length text.now }
+    requires none { StandsNowhere byte text.now 0 (length text.now - BLOCK_BYTES) }
+    ensures place { result ≡ position (λ b. b == byte) text.now }
+    ensures within { IfSome result (λ place. place < length text.now) }
+{
+    let last = text.len() - BLOCK_BYTES;
+    let places = places_at(byte, text, last);
+    if places == 0 {
+        return None;
+    }
+    Some(last + lowest(places))
 }
 
 /// The places of a byte in the block from `at` on: a bit for each.
