@@ -15,3 +15,4 @@ mod KernelLemmas
 mod KernelLawLemmas
 mod KernelMarkLemmas
 mod LogLineLemmas
+mod EventLemmas

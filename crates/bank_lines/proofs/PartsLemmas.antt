@@ -1,9 +1,11 @@
 -- Parts by the places of their separators.
-use Rattle.std.proofs.Common.{◌≡◌, ℕ, ◌+◌, ◌-◌, ◌<◌, ◌≤◌, ◌==◌, false, cond, nat_lt, List, [], ◌∷◌, length, take, drop, sym, ap, ◌∙◌, arith, Some, None, length-drop}
+use Rattle.std.proofs.Common.{◌≡◌, ℕ, ◌+◌, ◌-◌, ◌<◌, ◌≤◌, ◌==◌, Bool, true, false, cond, nat_lt, List, [], ◌∷◌, length, take, drop, refl, sym, ap, ◌∙◌, arith, Option, Some, None, length-drop}
 use Rattle.std.proofs.Math.Seq.{take-length}
 use Rattle.std.proofs.lemmas.Bool.Decides.{nat_tests}
-use Rattle.std.proofs.lemmas.List.Splits.{slice_split_first, slice_split_none}
+use Rattle.std.proofs.lemmas.List.Splits.{length-slice_split, slice_split_first, slice_split_none}
 use Rattle.std.proofs.lemmas.List.Sums.{fails_before_first}
+use Rattle.std.specs.Prelude.{is_some, not}
+use Rattle.std.specs.Option.{option_map_or}
 use Rattle.std.specs.List.{All, position, position_or_len, slice_split}
 use Rattle.bank_lines.specs.Parts.{cut_at}
 
@@ -31,3 +33,16 @@ parts_whole byte text h =
     let late : length text ≤ position_or_len (λ b. b == byte) text = no_place _ _ h in
     let none : All (λ b. (b == byte) ≡ false) text = λ k d inside. fails_before_first (λ b. b == byte) text k d (omega arith) in
     slice_split_none (λ b. b == byte) text none
+
+-- a text has a part
+pub cut_some : (byte : ℕ) (text : List ℕ) → ¬ (cut_at byte text ≡ [])
+cut_some byte text is = omega (arith, length-slice_split (λ b. b == byte) text, ap length is)
+
+-- whether a rest is none, and so has no part
+pub taken_by : {A : Type 0} (byte : ℕ) (now : A → List ℕ) (rest : Option A) (none : Bool) → is_some rest ≡ not none
+    → (none ≡ true → option_map_or (λ (text : A). cut_at byte (now text)) rest [] ≡ [])
+    × (option_map_or (λ (text : A). cut_at byte (now text)) rest [] ≡ [] → none ≡ true)
+taken_by byte now None true is = ((λ t. refl), (λ t. refl))
+taken_by byte now None false is = absurd cc
+taken_by byte now (Some text) true is = absurd cc
+taken_by byte now (Some text) false is = ((λ t. absurd cc), (λ e. absurd (cut_some byte (now text) e)))
