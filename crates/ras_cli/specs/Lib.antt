@@ -1,1 +1,2 @@
+pub mod FolderEras
 pub mod OverFolder

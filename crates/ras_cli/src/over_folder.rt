@@ -1,7 +1,8 @@
 //! The daemon over a folder of files.
 ghost use Rattle.std.specs.Prelude.{◌≡◌, ◌⊎◌, Some, IfSome, IsSomeAnd};
 ghost use Rattle.host_system.specs.View.{MayBegin};
-ghost use Rattle.ras_cli.specs.OverFolder.{Ends, NeverOpened, Outlives, OutlivesOpened, OverDamaged, OverFolder, OverReport, Refuses, Reported};
+ghost use Rattle.ras_cli.specs.OverFolder.{Ends, NeverOpened, Outlives, OutlivesOpened, OverDamaged, OverFolder, OverOther, OverReport, PrintsAlone, Refuses, Reported};
+ghost use Rattle.ras_daemon.specs.Commands.{MayEnd};
 ghost use Rattle.ras_daemon.specs.Task.{task_of};
 
 use host_system::{Input, System};
@@ -44,6 +45,12 @@ pub fn rasd_over<S: System + Drop, I: Input + Drop>(
     ensures reported { OverReport (λ listing past. IsSomeAnd (S.told result.1)
         (Reported result.0 listing past))
         (task_of words.now) (S.told system) }
+    // Every other command prints, and so do words that are none; nothing else of the folder changes.
+    ensures commands { OverOther (λ past. IsSomeAnd (S.told result.1)
+        (PrintsAlone result.0 (task_of words.now) (I.left input) past))
+        (task_of words.now) (S.told system) }
+    // Each command has its own exits.
+    ensures exits { MayEnd (task_of words.now) result.0 }
 {
     let mut source = FileSource::new(input);
     let mut board = FileBoard::new(alloc, use_for(words), system);

@@ -1,7 +1,7 @@
 use Rattle.std.proofs.Common.{sym, ◌∙◌}
 use Rattle.std.specs.Prelude.{◌⊎◌, IsSomeAnd}
 use Rattle.ras_cli.specs.OverFolder.{Ends, NeverOpened, Outlives, OutlivesOpened}
-use Rattle.ras_cli.proofs.OverLemmas.{Begun, over_folder, headline, settles, ends, refused, reports}
+use Rattle.ras_cli.proofs.OverLemmas.{Begun, over_folder, headline, settles, ends, refused, reports, commands}
 use Rattle.ras_cli.proofs.over_folder.rasd_over.Goals as goal
 use Rattle.ras_daemon.specs.Task.{task_of}
 
@@ -57,3 +57,16 @@ returns-clause-reported g c =
       accesses = c.new-board.ensures.unlisted.1;
     } in
     reports c.rasd-exit.result (task_of c.args.words.now) _ _ (g.S.System.told c.args.system) (g.S.System.told c.into_system.result) c.new-board.result c.rasd-exit.new.board begun (sym c.into_system.ensures) c.rasd-exit.ensures.commands
+
+pub returns-clause-commands : goal.returns-clause-commands
+returns-clause-commands g c =
+    let begun : Begun (g.S.System.told c.args.system) c.new-board.result = record {
+      over = c.new-board.ensures.past;
+      kept = c.new-board.ensures.unread;
+      disk_calls = c.new-board.ensures.unlisted.0;
+      accesses = c.new-board.ensures.unlisted.1;
+    } in
+    commands c.rasd-exit.result (task_of c.args.words.now) _ _ (g.S.System.told c.args.system) (g.S.System.told c.into_system.result) c.new-board.result c.rasd-exit.new.board begun (sym c.into_system.ensures) c.rasd-exit.ensures.commands (g.I.Input.left c.args.input) c.new-source.ensures.left
+
+pub returns-clause-exits : goal.returns-clause-exits
+returns-clause-exits g c = c.rasd-exit.ensures.exits
