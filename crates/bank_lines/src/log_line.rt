@@ -96,8 +96,8 @@ fn vendor_of(text: &[u8]) -> Option<u64>
     decimal(number, u64::MAX)
 }
 
-// The microseconds in the first brackets of a head.
-fn log_stamp_of(head: &[u8]) -> Option<u64>
+/// The microseconds since the boot in the first brackets of a line's head, if they hold a stamp.
+pub fn log_stamp_of(head: &[u8]) -> Option<u64>
     ensures { result ≡ log_stamp_of head.now }
 {
     let (_, rest) = cut(b'[', head);
