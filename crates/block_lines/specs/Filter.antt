@@ -2,21 +2,21 @@
 use Rattle.std.specs.Prelude.{ℕ, ◌+◌, List, [], ◌∷◌, Result, Ok}
 use Rattle.line_filters.specs.Filter.{Filter}
 use Rattle.ras_script.specs.declared.line.LineRefused.{LineRefused}
-use Rattle.block_lines.specs.LogLines.{log_line_of}
+use Rattle.block_lines.specs.LogLines.{report_log_line}
 use Rattle.block_lines.specs.Reports.{Reporting, no_reports, reporting_after}
-use Rattle.block_lines.specs.Texts.{end_text, text_at}
+use Rattle.block_lines.specs.Texts.{end_text, blocks_text_at}
 
 -- the text of each line, after so many lines; no line is refused
-abbrev pub answers_after : ℕ → Reporting → List (List ℕ) → List (Result (List ℕ) LineRefused)
-answers_after taken r [] = []
-answers_after taken r (line ∷ lines) =
-    Ok (text_at r (taken + 1) (log_line_of line))
-    ∷ answers_after (taken + 1) (reporting_after r (log_line_of line)) lines
+abbrev pub block_answers : ℕ → Reporting → List (List ℕ) → List (Result (List ℕ) LineRefused)
+block_answers taken r [] = []
+block_answers taken r (line ∷ lines) =
+    Ok (blocks_text_at r (taken + 1) (report_log_line line))
+    ∷ block_answers (taken + 1) (reporting_after r (report_log_line line)) lines
 
 -- the state after lines
 abbrev pub reporting_over : Reporting → List (List ℕ) → Reporting
 reporting_over r [] = r
-reporting_over r (line ∷ lines) = reporting_over (reporting_after r (log_line_of line)) lines
+reporting_over r (line ∷ lines) = reporting_over (reporting_after r (report_log_line line)) lines
 
 -- the text of a report that is in work after them
 abbrev pub rest_after : Reporting → List (List ℕ) → List ℕ
@@ -29,7 +29,7 @@ pub record BlockProgress : Type 0 where
 
 abbrev pub blocks_make : BlockProgress → Filter
 blocks_make log = record {
-  answers = answers_after log.taken log.reports;
+  answers = block_answers log.taken log.reports;
   rest = rest_after log.reports;
   last = λ lines. [];
 }

@@ -9,7 +9,7 @@ use Rattle.ras_klog.specs.Reading.{read_then}
 use Rattle.ras_script.specs.Number.{decimal_of, hexadecimal_of}
 use Rattle.bank_lines.specs.LogHeads.{after, begins, up_to, without_spaces}
 use Rattle.bank_lines.specs.Parts.{value_after}
-use Rattle.block_lines.specs.declared.memory.Location.{Location}
+use Rattle.block_lines.specs.declared.memory.ErrorLocation.{ErrorLocation}
 use Rattle.block_lines.specs.declared.memory.MemoryField.TheVariants.{Physical, Mask, At, Kind}
 use Rattle.block_lines.specs.declared.report_line.ReportLine.{ReportLine}
 use Rattle.block_lines.specs.declared.report_line.ReportLine.TheVariants.{Start, Event, Error, MemoryType, OtherType, Field, Unread, Other}
@@ -62,7 +62,7 @@ abbrev pub after_named : List ℕ → List ℕ → List ℕ
 after_named name text = option_map_or (λ value. after 32 (without_spaces value)) (value_after name text) text
 
 -- the node, the card and the module stand in this order, each if it is known
-abbrev pub location_of : List ℕ → Location
+abbrev pub location_of : List ℕ → ErrorLocation
 location_of text =
     let cards = after_named (codes "node:") text in
     let modules = after_named (codes "card:") cards in
@@ -85,8 +85,8 @@ told_by None read otherwise = otherwise
 told_by (Some value) read otherwise = read value
 
 -- a line of a section, behind its two spaces
-abbrev pub section_line : List ℕ → ReportLine
-section_line text =
+abbrev pub section_said : List ℕ → ReportLine
+section_said text =
     told_by (value_after (codes "section_type: ") text) type_line (
     told_by (value_after (codes "section type: ") text) (λ value. OtherType) (
     told_by (value_after (codes "physical_address: 0x") text) physical_line (
@@ -104,4 +104,4 @@ report_line_of text =
     told_by (value_after source_words text) start_line (
     told_by (value_after (codes "event severity: ") text) (λ value. Event (severity_of value)) (
     told_by (value_after (codes " Error ") text) error_line (
-    told_by (value_after (codes "  ") text) section_line Other)))
+    told_by (value_after (codes "  ") text) section_said Other)))

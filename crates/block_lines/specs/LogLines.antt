@@ -7,7 +7,7 @@ use Rattle.ras_script.specs.Number.{decimal_of}
 use Rattle.bank_lines.specs.LogHeads.{after, is_own, up_to}
 use Rattle.bank_lines.specs.LogLines.{log_stamp_of}
 use Rattle.bank_lines.specs.Parts.{value_after}
-use Rattle.block_lines.specs.declared.log_line.LogLine.{LogLine}
+use Rattle.block_lines.specs.declared.log_line.ReportLogLine.{ReportLogLine}
 use Rattle.block_lines.specs.declared.log_line.OwnLine.{OwnLine}
 use Rattle.block_lines.specs.Lines.{report_line_of}
 
@@ -30,5 +30,5 @@ abbrev pub without_return : List ℕ → List ℕ
 without_return line = if ends_with nat_eq line (13 ∷ []) then take (length line - 1) line else line
 
 -- when a line was printed, if that is told, and what it says if it is of a report
-abbrev pub log_line_of : List ℕ → LogLine
-log_line_of line = record { stamp = log_stamp_of line; own = own_line_of (without_return line) }
+abbrev pub report_log_line : List ℕ → ReportLogLine
+report_log_line line = record { stamp = log_stamp_of line; own = own_line_of (without_return line) }

@@ -7,8 +7,8 @@ use Rattle.block_lines.specs.declared.sources.TheConstants.{MOST_SOURCES}
 
 -- ---- which sources a table has
 
-abbrev pub is_known : List ℕ → ℕ → Bool
-is_known sources source = list_any (λ known. known == source) sources
+abbrev pub is_listed : List ℕ → ℕ → Bool
+is_listed sources source = list_any (λ known. known == source) sources
 
 -- a full table begins anew, so that its line is no longer than what a pipe keeps whole
 abbrev pub kept_sources : List ℕ → List ℕ
@@ -16,7 +16,7 @@ kept_sources sources = if nat_lt (length sources) MOST_SOURCES then sources else
 
 abbrev pub sources_with : List ℕ → ℕ → List ℕ
 sources_with sources source =
-    if is_known sources source then sources else kept_sources sources ++ source ∷ []
+    if is_listed sources source then sources else kept_sources sources ++ source ∷ []
 
 -- ---- its bytes
 

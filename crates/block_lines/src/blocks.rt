@@ -2,13 +2,13 @@
 
 ghost use Rattle.std.specs.Prelude.{◌≡◌, ◌≤◌, ◌<◌, ◌++◌, length, unwrap_or, OnOk};
 ghost use Rattle.std.specs.List.{flat_map};
-ghost use Rattle.block_lines.specs.Blocks.{address_bytes, block_bytes, entry_bytes, flag, front_bytes};
-ghost use Rattle.block_lines.specs.Blocks.{header_bytes, kind_bytes, location_bytes, location_flags};
-ghost use Rattle.block_lines.specs.Blocks.{section_bytes, validation_of};
-ghost use Rattle.block_lines.specs.Reports.{errors_of};
+ghost use Rattle.block_lines.specs.Blocks.{address_bytes, block_bytes, error_entry_bytes, flag, block_front};
+ghost use Rattle.block_lines.specs.Blocks.{entry_header_bytes, kind_bytes, location_bytes, location_flags};
+ghost use Rattle.block_lines.specs.Blocks.{memory_section_bytes, validation_of};
+ghost use Rattle.block_lines.specs.Reports.{section_errors};
 
-use crate::memory::{Location, MemoryError};
-use crate::report::{MOST_ERRORS, Section};
+use crate::memory::{ErrorLocation, MemoryError};
+use crate::report::{MOST_ERRORS, OpenSection};
 use ras_base::NoMemory;
 use ras_base::little_endian::{push_u16, push_u32, push_u64};
 
@@ -23,14 +23,14 @@ pub(crate) fn push_block(
     bytes: &mut Vec<u8>,
     severity: u32,
     errors: &[MemoryError],
-    section: Section,
+    section: OpenSection,
 ) -> Result<(), NoMemory>
-    requires { length (errors.now ++ errors_of section) ≤ MOST_ERRORS }
+    requires { length (errors.now ++ section_errors section) ≤ MOST_ERRORS }
     ensures { OnOk result (bytes.new.items
-        ≡ bytes.old.items ++ block_bytes severity (errors.now ++ errors_of section)) }
+        ≡ bytes.old.items ++ block_bytes severity (errors.now ++ section_errors section)) }
 {
     match section {
-        Section::Memory(error) => push_both(bytes, severity, errors, &[error]),
+        OpenSection::Memory(error) => push_both(bytes, severity, errors, &[error]),
         _ => push_both(bytes, severity, errors, &[]),
     }
 }
@@ -53,10 +53,10 @@ fn push_both(
 }
 
 // Adds what stands before the entries of a block.
-#[tactic(auto, unfolding(crate::specs::Blocks::front_bytes))]
+#[tactic(auto, unfolding(crate::specs::Blocks::block_front))]
 fn push_front(bytes: &mut Vec<u8>, severity: u32, count: usize) -> Result<(), NoMemory>
     requires { count ≤ MOST_ERRORS }
-    ensures { OnOk result (bytes.new.items ≡ bytes.old.items ++ front_bytes severity count) }
+    ensures { OnOk result (bytes.new.items ≡ bytes.old.items ++ block_front severity count) }
 {
     let kind = if severity == 2 { 2 } else { 1 };
     push_u32(bytes, 16 * count as u32 + kind)?;
@@ -67,7 +67,8 @@ fn push_front(bytes: &mut Vec<u8>, severity: u32, count: usize) -> Result<(), No
 
 // Adds entries in order.
 fn push_entries(bytes: &mut Vec<u8>, errors: &[MemoryError]) -> Result<(), NoMemory>
-    ensures { OnOk result (bytes.new.items ≡ bytes.old.items ++ flat_map entry_bytes errors.now) }
+    ensures { OnOk result (bytes.new.items
+        ≡ bytes.old.items ++ flat_map error_entry_bytes errors.now) }
 {
     for error in errors {
         push_entry(bytes, error)?;
@@ -76,18 +77,18 @@ fn push_entries(bytes: &mut Vec<u8>, errors: &[MemoryError]) -> Result<(), NoMem
 }
 
 // Adds the entry of an error.
-#[tactic(auto, unfolding(crate::specs::Blocks::entry_bytes))]
+#[tactic(auto, unfolding(crate::specs::Blocks::error_entry_bytes))]
 fn push_entry(bytes: &mut Vec<u8>, error: &MemoryError) -> Result<(), NoMemory>
-    ensures { OnOk result (bytes.new.items ≡ bytes.old.items ++ entry_bytes error.now) }
+    ensures { OnOk result (bytes.new.items ≡ bytes.old.items ++ error_entry_bytes error.now) }
 {
     push_header(bytes, error.severity)?;
     push_section(bytes, error)
 }
 
 // Adds the header of an entry.
-#[tactic(auto, unfolding(crate::specs::Blocks::header_bytes))]
+#[tactic(auto, unfolding(crate::specs::Blocks::entry_header_bytes))]
 fn push_header(bytes: &mut Vec<u8>, severity: u32) -> Result<(), NoMemory>
-    ensures { OnOk result (bytes.new.items ≡ bytes.old.items ++ header_bytes severity) }
+    ensures { OnOk result (bytes.new.items ≡ bytes.old.items ++ entry_header_bytes severity) }
 {
     bytes.extend_from_slice(&MEMORY_TYPE)?;
     push_u32(bytes, severity)?;
@@ -97,9 +98,10 @@ fn push_header(bytes: &mut Vec<u8>, severity: u32) -> Result<(), NoMemory>
 }
 
 // Adds the memory section of an error.
-#[tactic(auto, unfolding(crate::specs::Blocks::section_bytes))]
+#[tactic(auto, unfolding(crate::specs::Blocks::memory_section_bytes))]
 fn push_section(bytes: &mut Vec<u8>, error: &MemoryError) -> Result<(), NoMemory>
-    ensures { OnOk result (bytes.new.items ≡ bytes.old.items ++ section_bytes error.now) }
+    ensures { OnOk result (bytes.new.items
+        ≡ bytes.old.items ++ memory_section_bytes error.now) }
 {
     push_address(bytes, error)?;
     push_location(bytes, &error.location)?;
@@ -119,7 +121,7 @@ fn push_address(bytes: &mut Vec<u8>, error: &MemoryError) -> Result<(), NoMemory
 
 // Adds the place of an error.
 #[tactic(auto, unfolding(crate::specs::Blocks::location_bytes))]
-fn push_location(bytes: &mut Vec<u8>, at: &Location) -> Result<(), NoMemory>
+fn push_location(bytes: &mut Vec<u8>, at: &ErrorLocation) -> Result<(), NoMemory>
     ensures { OnOk result (bytes.new.items ≡ bytes.old.items ++ location_bytes at.now) }
 {
     push_u16(bytes, at.node.unwrap_or(0))?;
@@ -149,7 +151,7 @@ fn validation_of(error: &MemoryError) -> u64
 }
 
 // Which numbers of a place are valid.
-fn location_flags(at: &Location) -> u64
+fn location_flags(at: &ErrorLocation) -> u64
     ensures value { result ≡ location_flags at.now }
     ensures within { result ≤ 56 }
 {

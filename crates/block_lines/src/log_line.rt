@@ -3,7 +3,7 @@
 ghost use Rattle.std.specs.Prelude.{◌≡◌};
 ghost use Rattle.std.specs.Option.{option_map};
 ghost use Rattle.bank_lines.specs.Parts.{value_after};
-ghost use Rattle.block_lines.specs.LogLines.{error_mark, log_line_of, own_after, own_line_of};
+ghost use Rattle.block_lines.specs.LogLines.{error_mark, report_log_line, own_after, own_line_of};
 ghost use Rattle.block_lines.specs.LogLines.{without_return};
 
 use crate::report_line::{ReportLine, report_line};
@@ -12,7 +12,7 @@ use ras_script::decimal;
 
 /// What a line of a kernel log tells.
 #[derive(Clone, Copy, Debug, PartialEq, Eq)]
-pub(crate) struct LogLine {
+pub(crate) struct ReportLogLine {
     // When it was printed, in microseconds since the boot.
     pub(crate) stamp: Option<u64>,
     // What it says, if it is the kernel's own and of a firmware's report.
@@ -27,10 +27,10 @@ pub(crate) struct OwnLine {
 }
 
 // What a line of a kernel log tells. It takes no memory.
-pub(crate) fn log_line(line: &[u8]) -> LogLine
-    ensures { result ≡ log_line_of line.now }
+pub(crate) fn log_line(line: &[u8]) -> ReportLogLine
+    ensures { result ≡ report_log_line line.now }
 {
-    LogLine {
+    ReportLogLine {
         stamp: log_stamp_of(line),
         own: own_line(without_return(line)),
     }

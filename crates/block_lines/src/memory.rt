@@ -1,11 +1,11 @@
 //! What the kernel prints of an error of memory.
 
 ghost use Rattle.std.specs.Prelude.{◌≡◌};
-ghost use Rattle.block_lines.specs.Reports.{blank_error, with_field};
+ghost use Rattle.block_lines.specs.Reports.{blank_error, error_with};
 
 /// Where the error is, as the firmware counts: each number if it is known.
 #[derive(Clone, Copy, Debug, PartialEq, Eq)]
-pub(crate) struct Location {
+pub(crate) struct ErrorLocation {
     pub(crate) node: Option<u16>,
     pub(crate) card: Option<u16>,
     pub(crate) module: Option<u16>,
@@ -18,7 +18,7 @@ pub(crate) struct MemoryError {
     pub(crate) severity: u32,
     pub(crate) physical: Option<u64>,
     pub(crate) mask: Option<u64>,
-    pub(crate) location: Location,
+    pub(crate) location: ErrorLocation,
     pub(crate) kind: Option<u8>,
 }
 
@@ -27,7 +27,7 @@ pub(crate) struct MemoryError {
 pub(crate) enum MemoryField {
     Physical(u64),
     Mask(u64),
-    At(Location),
+    At(ErrorLocation),
     Kind(u8),
 }
 
@@ -40,7 +40,7 @@ impl MemoryError {
             severity,
             physical: None,
             mask: None,
-            location: Location {
+            location: ErrorLocation {
                 node: None,
                 card: None,
                 module: None,
@@ -51,7 +51,7 @@ impl MemoryError {
 
     // The error with what a line tells of it.
     pub(crate) fn with(self, field: MemoryField) -> MemoryError
-        ensures { result ≡ with_field self field }
+        ensures { result ≡ error_with self field }
     {
         match field {
             MemoryField::Physical(address) => MemoryError {

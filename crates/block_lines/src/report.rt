@@ -6,7 +6,7 @@ ghost use Rattle.block_lines.specs.Reports.{is_late, is_start, remark_in, report
 ghost use Rattle.block_lines.specs.Reports.{section_after, section_with, severity_after};
 ghost use Rattle.block_lines.specs.Reports.{type_remark, typed_section};
 
-use crate::log_line::{LogLine, OwnLine};
+use crate::log_line::{OwnLine, ReportLogLine};
 use crate::memory::{MemoryError, MemoryField};
 use crate::report_line::ReportLine;
 
@@ -19,7 +19,7 @@ pub const LONGEST_PAUSE: u64 = 100_000;
 
 /// How far the section in work has come.
 #[derive(Clone, Copy, Debug, PartialEq, Eq)]
-pub(crate) enum Section {
+pub(crate) enum OpenSection {
     // None began.
     Absent,
     // An error of this severity, and not yet what it is about.
@@ -33,13 +33,13 @@ pub(crate) enum Section {
 /// A report in work: its number, its source, the stamps of its first line and of its last so far,
 /// its severity, and its last section.
 #[derive(Clone, Copy, Debug, PartialEq, Eq)]
-pub(crate) struct Report {
+pub(crate) struct OpenReport {
     pub(crate) number: u64,
     pub(crate) source: u16,
     pub(crate) begun: u64,
     pub(crate) last: u64,
     pub(crate) severity: u32,
-    pub(crate) section: Section,
+    pub(crate) section: OpenSection,
 }
 
 /// What is said of a line.
@@ -55,26 +55,26 @@ pub(crate) enum Remark {
     Partial { source: u16, begun: u64 },
 }
 
-impl Report {
+impl OpenReport {
     // A report that begins.
-    pub(crate) fn new(number: u64, source: u16, stamp: u64) -> Report
+    pub(crate) fn new(number: u64, source: u16, stamp: u64) -> OpenReport
         ensures { result ≡ report_from number source stamp }
     {
-        Report {
+        OpenReport {
             number,
             source,
             begun: stamp,
             last: stamp,
             severity: 3,
-            section: Section::Absent,
+            section: OpenSection::Absent,
         }
     }
 
     // The report after a line of it with this stamp, if so many of its errors ended.
-    pub(crate) fn after(self, count: usize, stamp: Option<u64>, line: ReportLine) -> Report
+    pub(crate) fn after(self, count: usize, stamp: Option<u64>, line: ReportLine) -> OpenReport
         ensures { result ≡ report_after count self stamp line }
     {
-        Report {
+        OpenReport {
             last: stamp.unwrap_or(self.last),
             severity: severity_after(self.severity, line),
             section: self.section.after(count, line),
@@ -118,11 +118,11 @@ impl Report {
 }
 
 // What is said of a line that begins a section after this one.
-fn begun_remark(source: u16, begun: u64, section: Section) -> Remark
+fn begun_remark(source: u16, begun: u64, section: OpenSection) -> Remark
     ensures { result ≡ begun_remark source begun section }
 {
     match section {
-        Section::Begun { .. } => Remark::Partial { source, begun },
+        OpenSection::Begun { .. } => Remark::Partial { source, begun },
         _ => Remark::Nothing,
     }
 }
@@ -144,39 +144,39 @@ fn is_start(line: ReportLine) -> bool
     matches!(line, ReportLine::Start { .. })
 }
 
-impl Section {
+impl OpenSection {
     // The section after a line of its report, if so many of the report's errors ended.
-    fn after(self, count: usize, line: ReportLine) -> Section
+    fn after(self, count: usize, line: ReportLine) -> OpenSection
         ensures { result ≡ section_after count self line }
     {
         match line {
-            ReportLine::Error { severity } => Section::Begun { severity },
+            ReportLine::Error { severity } => OpenSection::Begun { severity },
             ReportLine::MemoryType => self.typed(count),
-            ReportLine::OtherType => Section::LeftOut,
+            ReportLine::OtherType => OpenSection::LeftOut,
             ReportLine::Field(Some(field)) => self.with(field),
             _ => self,
         }
     }
 
     // The section once it is known to be about memory.
-    fn typed(self, count: usize) -> Section
+    fn typed(self, count: usize) -> OpenSection
         ensures { result ≡ typed_section count self }
     {
         match self {
-            Section::Begun { severity } if count < MOST_ERRORS => {
-                Section::Memory(MemoryError::blank(severity))
+            OpenSection::Begun { severity } if count < MOST_ERRORS => {
+                OpenSection::Memory(MemoryError::blank(severity))
             }
-            Section::Begun { .. } => Section::LeftOut,
+            OpenSection::Begun { .. } => OpenSection::LeftOut,
             _ => self,
         }
     }
 
     // The section with a field.
-    fn with(self, field: MemoryField) -> Section
+    fn with(self, field: MemoryField) -> OpenSection
         ensures { result ≡ section_with self field }
     {
         match self {
-            Section::Memory(error) => Section::Memory(error.with(field)),
+            OpenSection::Memory(error) => OpenSection::Memory(error.with(field)),
             _ => self,
         }
     }
@@ -185,7 +185,7 @@ impl Section {
     pub(crate) fn is_cut(&self) -> bool
         ensures { result ≡ is_cut self.now }
     {
-        matches!(*self, Section::Absent | Section::Begun { .. })
+        matches!(*self, OpenSection::Absent | OpenSection::Begun { .. })
     }
 
     // What is said of a line that tells that the section is about memory.
@@ -193,8 +193,8 @@ impl Section {
         ensures { result ≡ type_remark count self.now }
     {
         match *self {
-            Section::Begun { .. } if count < MOST_ERRORS => Remark::Nothing,
-            Section::Begun { .. } => Remark::LeftOut,
+            OpenSection::Begun { .. } if count < MOST_ERRORS => Remark::Nothing,
+            OpenSection::Begun { .. } => Remark::LeftOut,
             _ => Remark::Unread,
         }
     }
@@ -204,7 +204,7 @@ impl Section {
         ensures { result ≡ field_remark self.now }
     {
         match *self {
-            Section::Memory(_) => Remark::Unread,
+            OpenSection::Memory(_) => Remark::Unread,
             _ => Remark::Nothing,
         }
     }

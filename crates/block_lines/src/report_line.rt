@@ -5,10 +5,10 @@ ghost use Rattle.std.specs.Option.{option_map};
 ghost use Rattle.bank_lines.specs.Parts.{value_after};
 ghost use Rattle.block_lines.specs.Lines.{after_named, error_line, error_severity, kind_line};
 ghost use Rattle.block_lines.specs.Lines.{location_line, location_of, mask_line, number_named};
-ghost use Rattle.block_lines.specs.Lines.{physical_line, report_line_of, section_line};
+ghost use Rattle.block_lines.specs.Lines.{physical_line, report_line_of, section_said};
 ghost use Rattle.block_lines.specs.Lines.{severity_of, start_line, type_line};
 
-use crate::memory::{Location, MemoryField};
+use crate::memory::{ErrorLocation, MemoryField};
 use bank_lines::{cut, without_spaces};
 use ras_script::{decimal, hexadecimal};
 
@@ -50,7 +50,7 @@ pub(crate) fn report_line(text: &[u8]) -> ReportLine
         return error_line(value);
     }
     match value_after(b"  ", text) {
-        Some(value) => section_line(value),
+        Some(value) => section_said(value),
         None => ReportLine::Other,
     }
 }
@@ -110,8 +110,8 @@ fn error_severity(value: &[u8]) -> Option<u32>
 }
 
 // A line of a section, behind its two spaces.
-fn section_line(text: &[u8]) -> ReportLine
-    ensures { result ≡ section_line text.now }
+fn section_said(text: &[u8]) -> ReportLine
+    ensures { result ≡ section_said text.now }
 {
     if let Some(value) = value_after(b"section_type: ", text) {
         return type_line(value);
@@ -185,12 +185,12 @@ fn location_line(text: &[u8]) -> ReportLine
 }
 
 // The place of an error: the numbers stand in this order, each if it is known.
-fn location_of(text: &[u8]) -> Location
+fn location_of(text: &[u8]) -> ErrorLocation
     ensures { result ≡ location_of text.now }
 {
     let cards = after_named(b"node:", text);
     let modules = after_named(b"card:", cards);
-    Location {
+    ErrorLocation {
         node: number_named(b"node:", text),
         card: number_named(b"card:", cards),
         module: number_named(b"module:", modules),

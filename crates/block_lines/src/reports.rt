@@ -6,12 +6,12 @@ ghost use Rattle.block_lines.specs.Reports.{after_report, begun_at, begun_work, 
 ghost use Rattle.block_lines.specs.Reports.{going_remark, gone_on, has_error, is_end, line_remark};
 ghost use Rattle.block_lines.specs.Reports.{line_taken, no_reports, own_remark, own_taken};
 ghost use Rattle.block_lines.specs.Reports.{reporting_after, start_remark};
-ghost use Rattle.block_lines.specs.Texts.{end_text, ghes_line, report_text, table_text, text_at};
+ghost use Rattle.block_lines.specs.Texts.{end_text, ghes_line, report_text, table_text, blocks_text_at};
 
 use crate::blocks::push_block;
-use crate::log_line::LogLine;
+use crate::log_line::ReportLogLine;
 use crate::memory::MemoryError;
-use crate::report::{Remark, Report, Section};
+use crate::report::{OpenReport, OpenSection, Remark};
 use crate::report_line::ReportLine;
 use crate::sources::{MOST_SOURCES, keep_source, table_with};
 use crate::text::{BlockName, push_ghes, push_partial, push_remark, push_table};
@@ -26,7 +26,7 @@ use std::marker::Model;
 pub(crate) struct Reports {
     boot: u64,
     began: u64,
-    work: Option<Report>,
+    work: Option<OpenReport>,
     errors: Vec<MemoryError>,
     sources: Vec<u16>,
 }
@@ -72,12 +72,12 @@ impl Reports {
     pub(crate) fn take_line(
         &mut self,
         alloc: Global,
-        line: &LogLine,
+        line: &ReportLogLine,
         number: u64,
         text: &mut Vec<u8>,
     ) -> Result<(), NoMemory>
         ensures text { OnOk result (text.new.items
-            ≡ text.old.items ++ text_at self.old number line.now) }
+            ≡ text.old.items ++ blocks_text_at self.old number line.now) }
         ensures state { OnOk result (self.new ≡ reporting_after self.old line.now) }
     {
         if self.is_end(line) {
@@ -90,7 +90,7 @@ impl Reports {
     }
 
     // Whether a line ends the report in work.
-    fn is_end(&self, line: &LogLine) -> bool
+    fn is_end(&self, line: &ReportLogLine) -> bool
         ensures { result ≡ is_end self.now line.now }
     {
         match self.work {
@@ -100,7 +100,7 @@ impl Reports {
     }
 
     // What is said of a line that ends no report.
-    fn remark(&self, line: &LogLine) -> Remark
+    fn remark(&self, line: &ReportLogLine) -> Remark
         ensures { result ≡ line_remark self.now line.now }
     {
         match line.own {
@@ -130,7 +130,7 @@ impl Reports {
     }
 
     // Takes a line that ends no report.
-    fn take(&mut self, line: &LogLine) -> Result<(), NoMemory>
+    fn take(&mut self, line: &ReportLogLine) -> Result<(), NoMemory>
         ensures { OnOk result (self.new ≡ line_taken self.old line.now) }
     {
         match line.own {
@@ -204,17 +204,17 @@ impl Reports {
     }
 
     // Whether the report in work has an error.
-    fn has_error(&self, report: &Report) -> bool
+    fn has_error(&self, report: &OpenReport) -> bool
         ensures { result ≡ has_error self.now.errors report.now.section }
     {
-        matches!(report.section, Section::Memory(_)) || !self.errors.is_empty()
+        matches!(report.section, OpenSection::Memory(_)) || !self.errors.is_empty()
     }
 
     // Adds the text of the report in work.
     fn push_report(
         &self,
         alloc: Global,
-        report: &Report,
+        report: &OpenReport,
         text: &mut Vec<u8>,
     ) -> Result<(), NoMemory>
         requires { self.now.work ≡ Some report.now }
@@ -249,7 +249,12 @@ impl Reports {
     }
 
     // Adds the line of the block of the report in work.
-    fn push_block(&self, alloc: Global, report: &Report, text: &mut Vec<u8>) -> Result<(), NoMemory>
+    fn push_block(
+        &self,
+        alloc: Global,
+        report: &OpenReport,
+        text: &mut Vec<u8>,
+    ) -> Result<(), NoMemory>
         requires { self.now.work ≡ Some report.now }
         ensures { OnOk result (text.new.items
             ≡ text.old.items ++ ghes_line self.now report.now ++ 10 ∷ []) }
@@ -277,11 +282,11 @@ fn start_remark(stamp: Option<u64>) -> Remark
 }
 
 // A report that begins, if it has a stamp.
-fn begun_work(number: u64, source: u16, stamp: Option<u64>) -> Option<Report>
+fn begun_work(number: u64, source: u16, stamp: Option<u64>) -> Option<OpenReport>
     ensures { result ≡ begun_work number source stamp }
 {
     match stamp {
-        Some(stamp) => Some(Report::new(number, source, stamp)),
+        Some(stamp) => Some(OpenReport::new(number, source, stamp)),
         None => None,
     }
 }
@@ -289,14 +294,14 @@ fn begun_work(number: u64, source: u16, stamp: Option<u64>) -> Option<Report>
 // Adds the error of a section, if a line ends it.
 fn push_ended(
     errors: &mut Vec<MemoryError>,
-    section: Section,
+    section: OpenSection,
     line: ReportLine,
 ) -> Result<(), NoMemory>
     ensures ok { OnOk result (errors.new.items ≡ errors_after errors.old.items section line) }
     ensures err { OnErr result (errors.new.items ≡ errors.old.items) }
 {
     match (line, section) {
-        (ReportLine::Error { .. }, Section::Memory(error)) => {
+        (ReportLine::Error { .. }, OpenSection::Memory(error)) => {
             errors.push(error)?;
             Ok(())
         }

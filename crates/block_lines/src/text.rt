@@ -7,7 +7,7 @@ ghost use Rattle.ras_script.specs.LineLaws.{line_text};
 ghost use Rattle.ras_script.specs.declared.line.ErrorReport.TheVariants.{Block};
 ghost use Rattle.ras_script.specs.declared.line.Line.TheVariants as asks;
 ghost use Rattle.ras_script.specs.declared.line.Table.TheVariants.{Hest};
-ghost use Rattle.block_lines.specs.Texts.{partial_line, remark_text};
+ghost use Rattle.block_lines.specs.Texts.{cut_report_line, remark_text};
 
 use crate::report::Remark;
 use ras_base::{NoMemory, push_number};
@@ -29,7 +29,7 @@ pub(crate) fn push_remark(text: &mut Vec<u8>, remark: Remark, number: u64) -> Re
 
 // Adds the comment of a report that is cut.
 pub(crate) fn push_partial(text: &mut Vec<u8>, source: u16, begun: u64) -> Result<(), NoMemory>
-    ensures { OnOk result (text.new.items ≡ text.old.items ++ partial_line source begun) }
+    ensures { OnOk result (text.new.items ≡ text.old.items ++ cut_report_line source begun) }
 {
     push_named(text, b"# partial source=", u64::from(source))?;
     push_named(text, b" number=", begun)
