@@ -29,6 +29,7 @@ own_line_of line = own_after (up_to 123 line) (after 123 line)
 abbrev pub without_return : List ℕ → List ℕ
 without_return line = if ends_with nat_eq line (13 ∷ []) then take (length line - 1) line else line
 
--- when a line was printed, if that is told, and what it says if it is of a report
+-- when a line was printed, if what stands before its first brace tells that, and what it says if it is of
+-- a report
 abbrev pub report_log_line : List ℕ → ReportLogLine
-report_log_line line = record { stamp = log_stamp_of line; own = own_line_of (without_return line) }
+report_log_line line = record { stamp = log_stamp_of (up_to 123 line); own = own_line_of (without_return line) }

@@ -30,8 +30,9 @@ pub(crate) struct OwnLine {
 pub(crate) fn log_line(line: &[u8]) -> ReportLogLine
     ensures { result ≡ report_log_line line.now }
 {
+    let (head, _) = cut(b'{', line);
     ReportLogLine {
-        stamp: log_stamp_of(line),
+        stamp: log_stamp_of(head),
         own: own_line(without_return(line)),
     }
 }
