@@ -17,7 +17,7 @@ use Rattle.bank_lines.specs.LogAlong.{LogProgress, answers_along, log_found_at, 
 use Rattle.bank_lines.specs.LogFilter.{log_reports, log_rest, log_script}
 use Rattle.bank_lines.specs.LogGroups.{found_told, with_counter}
 use Rattle.bank_lines.specs.LogHeads.{is_own, mark_place}
-use Rattle.bank_lines.specs.LogLines.{is_of_report, is_own_line, line_told_by, log_line_by, log_line_of, log_mark, log_stamp_of, untold}
+use Rattle.bank_lines.specs.LogLines.{is_of_report, is_own_line, line_told_by, log_line_by, log_line_of, log_mark, log_stamp_of, left_unread}
 use Rattle.bank_lines.specs.Texts.{found_text, printed}
 use Rattle.bank_lines.specs.declared.found.Finding.{Finding}
 use Rattle.bank_lines.specs.declared.log_line.LogLine.{LogLine}
@@ -93,7 +93,7 @@ module _ (boot cap : ℕ) where
 
 -- ---- lines that aren't the kernel's own
 
-untold_is : (text : List ℕ) → (untold text ≡ Nothing) ⊎ (untold text ≡ Unread)
+untold_is : (text : List ℕ) → (left_unread text ≡ Nothing) ⊎ (left_unread text ≡ Unread)
 untold_is text = by (is_of_report text)
   where
     by : (is : Bool) → ((if is then Unread else Nothing) ≡ Nothing) ⊎ ((if is then Unread else Nothing) ≡ Unread)
@@ -104,8 +104,8 @@ pub not_own : (line : List ℕ) → is_own_line line ≡ false → (log_line_of 
 not_own line = by (mark_place log_mark line)
   where
     after : (head marked : List ℕ) (own : Bool) → own ≡ false
-        → ((if own then line_told_by (log_stamp_of head) (drop (length log_mark) marked) (klog_line_of marked) else untold (drop (length log_mark) marked)) ≡ Nothing)
-        ⊎ ((if own then line_told_by (log_stamp_of head) (drop (length log_mark) marked) (klog_line_of marked) else untold (drop (length log_mark) marked)) ≡ Unread)
+        → ((if own then line_told_by (log_stamp_of head) (drop (length log_mark) marked) (klog_line_of marked) else left_unread (drop (length log_mark) marked)) ≡ Nothing)
+        ⊎ ((if own then line_told_by (log_stamp_of head) (drop (length log_mark) marked) (klog_line_of marked) else left_unread (drop (length log_mark) marked)) ≡ Unread)
     after head marked true is = absurd cc
     after head marked false is = untold_is (drop (length log_mark) marked)
 

@@ -10,7 +10,7 @@ use Rattle.ras_klog.specs.declared.line.KlogLine.{KlogLine}
 use Rattle.ras_klog.specs.declared.line.KlogLine.TheVariants.{Start, Tsc, Processor, Other}
 use Rattle.ras_script.specs.Number.{decimal_of, hexadecimal_of, is_numeral, numeral_value}
 use Rattle.bank_lines.specs.LogHeads.{after, is_own, mark_place, record_time, up_to, without_spaces}
-use Rattle.bank_lines.specs.LogLines.{bracket_stamp, is_cut, is_of_report, log_line_after, log_line_by, log_line_of, log_mark, micros_of, log_stamp_of, line_told_by, untold, vendor_of, with_vendor}
+use Rattle.bank_lines.specs.LogLines.{bracket_stamp, is_cut, is_of_report, log_line_after, log_line_by, log_line_of, log_mark, micros_of, log_stamp_of, line_told_by, left_unread, vendor_of, with_vendor}
 use Rattle.bank_lines.specs.declared.log_line.LogLine.{LogLine}
 use Rattle.bank_lines.specs.declared.log_line.LogLine.TheVariants.{Nothing, Unread, Part}
 
@@ -171,7 +171,7 @@ timed_in : (stamp : Option ℕ) (seconds : ℕ) (vendor : Option ℕ) → Each (
 timed_in stamp seconds None s t v = tt
 timed_in stamp seconds (Some vendor) s t v = (t, s, omega (arith, v))
 
-untold_in : (text : List ℕ) → IsLogLineInRange (untold text)
+untold_in : (text : List ℕ) → IsLogLineInRange (left_unread text)
 untold_in text = by (is_of_report text)
   where
     by : (is : Bool) → IsLogLineInRange (if is then Unread else Nothing)

@@ -57,12 +57,12 @@ with_vendor stamp seconds None = Unread
 with_vendor stamp seconds (Some vendor) = Part (Processor seconds) stamp vendor
 
 -- a text after a mark that tells nothing: `Unread` if it begins as a line of a report
-abbrev pub untold : List ℕ → LogLine
-untold text = if is_of_report text then Unread else Nothing
+abbrev pub left_unread : List ℕ → LogLine
+left_unread text = if is_of_report text then Unread else Nothing
 
 -- what a text after a mark tells, by what `klog` reads of it
 abbrev pub line_told_by : Option ℕ → List ℕ → KlogLine → LogLine
-line_told_by stamp text Other = untold text
+line_told_by stamp text Other = left_unread text
 line_told_by stamp text (Processor seconds) = with_vendor stamp seconds (vendor_of text)
 line_told_by stamp text line = Part line stamp 0
 
@@ -71,7 +71,7 @@ line_told_by stamp text line = Part line stamp 0
 abbrev pub log_line_after : List ℕ → List ℕ → LogLine
 log_line_after head marked =
     let text = drop (length log_mark) marked in
-    if is_own head then line_told_by (log_stamp_of head) text (klog_line_of marked) else untold text
+    if is_own head then line_told_by (log_stamp_of head) text (klog_line_of marked) else left_unread text
 
 -- a line, by the place of its first mark
 abbrev pub log_line_by : List ℕ → Option ℕ → LogLine

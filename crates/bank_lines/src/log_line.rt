@@ -3,7 +3,7 @@
 ghost use Rattle.std.specs.Prelude.{◌≡◌, ◌≤◌, length, IfSome};
 ghost use Rattle.bank_lines.specs.LogLines.{bracket_stamp, is_cut, is_of_report, log_line_after};
 ghost use Rattle.bank_lines.specs.LogLines.{log_line_of, log_mark, log_stamp_of, micros_of};
-ghost use Rattle.bank_lines.specs.LogLines.{line_told_by, untold, vendor_of};
+ghost use Rattle.bank_lines.specs.LogLines.{line_told_by, left_unread, vendor_of};
 
 use crate::log_heads::{cut, is_joined, is_own, mark_place, record_time, without_spaces};
 use ras_klog::{KlogLine, klog_line};
@@ -57,13 +57,13 @@ fn log_line_after(head: &[u8], marked: &[u8]) -> LogLine
     if is_own(head) {
         line_told_by(log_stamp_of(head), text, klog_line(marked))
     } else {
-        untold(text)
+        left_unread(text)
     }
 }
 
 // What a text after a mark is that tells nothing.
-fn untold(text: &[u8]) -> LogLine
-    ensures { result ≡ untold text.now }
+fn left_unread(text: &[u8]) -> LogLine
+    ensures { result ≡ left_unread text.now }
 {
     if is_of_report(text) {
         LogLine::Unread
@@ -77,7 +77,7 @@ fn line_told_by(stamp: Option<u64>, text: &[u8], line: KlogLine) -> LogLine
     ensures { result ≡ line_told_by stamp text.now line }
 {
     match line {
-        KlogLine::Other => untold(text),
+        KlogLine::Other => left_unread(text),
         KlogLine::Processor { .. } => match vendor_of(text) {
             Some(vendor) => LogLine::Part {
                 line,

@@ -180,9 +180,12 @@ def event_text(boot, front, text):
 
 
 def is_front(front):
-    """Whether a tracer prints this before an event's name: up to the first colon and space, its time at the end."""
+    """Whether a tracer prints this before an event's name: up to the first colon and space, its time at the end.
+
+    The time has four signs at least: so it doesn't fit into the name of a process before the mark.
+    """
     head, colon, rest = front.partition(b": ")
-    is_time = re.fullmatch(rb"[0-9.]*[0-9][0-9.]*", head.rpartition(b" ")[2])
+    is_time = re.fullmatch(rb"(?=.{4})[0-9.]*[0-9][0-9.]*", head.rpartition(b" ")[2])
     return bool(colon and is_time and rest.lstrip(b" ") in (b"", b"mce:"))
 
 

@@ -8,4 +8,4 @@ returns-then-is_own c =
 
 pub returns-else-is_own : goal.returns-else-is_own
 returns-else-is_own c =
-    other_is c.args.head.now c.args.marked.now c.untold.result c.is_own.result c.is_own.ensures c.if-is_own.false c.untold.ensures
+    other_is c.args.head.now c.args.marked.now c.left_unread.result c.is_own.result c.is_own.ensures c.if-is_own.false c.left_unread.ensures
