@@ -1,7 +1,9 @@
-/* spent PROGRAM WORD..: runs a program whose output is thrown away, and prints the processor time that it took, in
-   microseconds. It measures rasd and its counterparts alike. */
-#include <fcntl.h>
+/* spent PROGRAM WORD..: runs a program whose output goes into a file in memory, and prints the processor time that it
+   took, in microseconds. It measures rasd and its counterparts alike. With /dev/null for its output GNU grep would stop
+   at the first line that it finds. */
+#define _GNU_SOURCE
 #include <stdio.h>
+#include <sys/mman.h>
 #include <sys/resource.h>
 #include <sys/wait.h>
 #include <unistd.h>
@@ -11,9 +13,7 @@ int main(int argc, char **argv) {
 	int status;
 	pid_t child = argc > 1 ? fork() : -1;
 	if (!child) {
-		int nowhere = open("/dev/null", O_WRONLY);
-		dup2(nowhere, 1);
-		execvp(argv[1], argv + 1);
+		if (dup2(memfd_create("output", 0), 1) == 1) execvp(argv[1], argv + 1);
 		_exit(127);
 	}
 	if (child < 0 || wait4(child, &status, 0, &used) < 0 || status) return 1;

@@ -48,6 +48,9 @@ class Crate:
             found += [it for it in [*dep.below(), dep] if it not in found]
         return found
 
+    def stamp(self):
+        return self.name + "".join(it.stamp() for it in self.deps)
+
     def makes_rlib(self):
         return self.name != "ras_cli"
 
@@ -72,7 +75,6 @@ def nothing(*_words):
 rtlib = types.SimpleNamespace(
     Crate=Crate, files_of=files_of, guarded=nothing, lock=nothing, stop_on_links=nothing, stop_on_text=nothing
 )
-share_work = nothing
 
 
 def processors():
@@ -94,5 +96,9 @@ def run():
     return 0
 
 
+def main(words):
+    return run() if words[0] == "run" else work(words[0])
+
+
 if __name__ == "__main__":
-    sys.exit(run() if sys.argv[1] == "run" else work(sys.argv[1]))
+    sys.exit(main(sys.argv[1:]))

@@ -1,8 +1,11 @@
 -- Where a text stands within another.
-use Rattle.std.proofs.Common.{◌≡◌, ℕ, zero, suc, ◌+◌, ◌-◌, ◌<◌, ◌≤◌, ◌==◌, Bool, true, false, cond, not, if◌then◌else◌, nat_eq, nat_lt, List, [], ◌∷◌, length, take, drop, refl, sym, ap, ◌∙◌, arith, Option, Some, None, length-drop, length-take}
+use Rattle.std.proofs.Common.{◌≡◌, ℕ, zero, suc, ◌+◌, ◌-◌, ◌<◌, ◌≤◌, ◌==◌, Bool, true, false, cond, not, if◌then◌else◌, nat_eq, nat_lt, List, [], ◌∷◌, length, take, drop, get_or, refl, sym, ap, subst, ◌∙◌, arith, inl, inr, Option, Some, None, length-drop, length-take}
 use Rattle.std.proofs.Math.Seq.{take-length}
 use Rattle.std.proofs.lemmas.Bool.Decides.{nat_tests}
-use Rattle.std.proofs.lemmas.List.{drop_all, take_all}
+use Rattle.std.proofs.lemmas.Bool.{cases_lt, eq-eqb, false≢true}
+use Rattle.std.proofs.lemmas.List.{drop_all, get_or-drop, take_all}
+use Rattle.std.proofs.lemmas.List.Quantifiers.{position-Some}
+use Rattle.std.proofs.lemmas.List.Sums.{fails_before_first}
 use Rattle.std.proofs.lemmas.Slice.Eq.{bytes_eq-Decides}
 use Rattle.std.specs.List.{position, position_or_len, starts_with}
 use Rattle.std.specs.Option.{option_map}
@@ -60,7 +63,7 @@ pub place_is : (text line : List ℕ) → 0 < length text → (r : Option ℕ) �
 place_is text line some None h = sym (place-none text line h)
 place_is text line some (Some k) h = sym (place-at text some line k h.0 h.1)
 
--- ---- pieces
+-- ---- places
 
 found_place : (place size end : ℕ) → Some end ≡ cond (nat_lt place size) (Some place) None → (end ≡ place) × (place < size)
 found_place place size end h = (grind (arith, nat_tests, h), grind (arith, nat_tests, h))
@@ -68,9 +71,61 @@ found_place place size end h = (grind (arith, nat_tests, h), grind (arith, nat_t
 no_place : (place size : ℕ) → None ≡ cond (nat_lt place size) (Some place) None → size ≤ place
 no_place place size h = grind (arith, nat_tests, h)
 
+-- ---- a search by one byte
+
 -- the rest as the code cuts it
 pub rest_is : (n : ℕ) (text : List ℕ) → take (length text - n) (drop n text) ≡ drop n text
 rest_is n text = ap (λ k. take k (drop n text)) (sym (length-drop n text)) ∙ take-length (drop n text)
+
+pub rest_size : (n : ℕ) (text : List ℕ) → length (take (length text - n) (drop n text)) ≡ length text - n
+rest_size n text = ap length (rest_is n text) ∙ length-drop n text
+
+module _ (pivot : ℕ) (text line : List ℕ) where
+  -- no text has its byte at `pivot` before a place
+  abbrev pub NoneBelow : ℕ → Type 0
+  NoneBelow end = (k : ℕ) → k + pivot < end → ¬ OccursAt line text k
+
+  -- a search for that byte passes no text
+  pub none_passed : (from passed : ℕ) → pivot < length text → from + passed ≤ length line → NoneBelow from
+      → ((k : ℕ) → k < passed → (get_or (take (length line - from) (drop from line)) k 0 == get_or text pivot 0) ≡ false) → NoneBelow (from + passed)
+  none_passed from passed within inside before other k below occurs = elim (cases_lt (k + pivot) from) [
+    | inl early ↦ before k early occurs
+    | inr late ↦
+        let there : from + (k + pivot - from) ≡ k + pivot = omega arith in
+        let byte : get_or (take (length line - from) (drop from line)) (k + pivot - from) 0 ≡ get_or text pivot 0 =
+        ap (λ rest. get_or rest (k + pivot - from) 0) (rest_is from line) ∙ get_or-drop from line (k + pivot - from) 0 ∙ ap (λ i. get_or line i 0) there ∙ occurs.reads pivot within in
+        false≢true (sym (other (k + pivot - from) (omega arith)) ∙ eq-eqb _ _ byte)
+  ]
+
+  -- nor does a step past a byte that no text stands round
+  pub none_round : (place : ℕ) → NoneBelow place → ¬ ((pivot ≤ place) × OccursAt line text (place - pivot)) → NoneBelow (place + 1)
+  none_round place before not k below occurs = elim (cases_lt (k + pivot) place) [
+    | inl early ↦ before k early occurs
+    | inr last ↦ let same : k ≡ place - pivot = omega arith in not (omega arith, subst (OccursAt line text) same occurs)
+  ]
+
+  pub none_at_all : pivot < length text → NoneBelow (length line) → Nowhere (OccursAt line text) 0 (length line + 1)
+  none_at_all within none k low high occurs = none k (omega (arith, occurs.fits, within)) occurs
+
+  -- a text at a place, by what stands from there on
+  pub starts_at : (k : ℕ) → k ≤ length line → starts_with nat_eq (drop k line) text ≡ true → OccursAt line text k
+  starts_at k inside is =
+      let front : text ≡ take (length text) (drop k line) = (bytes_eq-Decides text (take (length text) (drop k line))).0 is in
+      OccursAt-from_part line text k (omega (arith, inside, ap length front, length-take (length text) (drop k line), length-drop k line)) (sym front)
+
+  pub at_starts : (k : ℕ) → OccursAt line text k → starts_with nat_eq (drop k line) text ≡ true
+  at_starts k occurs = (bytes_eq-Decides text (take (length text) (drop k line))).1 (sym (OccursAt-part line text k occurs))
+
+-- what a search for a byte passes
+pub passed_at : (byte : ℕ) (text : List ℕ) (place : ℕ) → Some place ≡ position (λ b. b == byte) text → (place < length text) × ((k : ℕ) → k < place → (get_or text k 0 == byte) ≡ false)
+passed_at byte text place h =
+    let is = position-Some (λ b. b == byte) text place 0 (sym h) in
+    (is.0, is.2)
+
+pub passed_all : (byte : ℕ) (text : List ℕ) → None ≡ position (λ b. b == byte) text → (k : ℕ) → k < length text → (get_or text k 0 == byte) ≡ false
+passed_all byte text h k low = fails_before_first (λ b. b == byte) text k 0 (omega (arith, no_place _ _ h))
+
+-- ---- pieces
 
 pub found_front : (byte place : ℕ) (text : List ℕ) → Some place ≡ position (λ b. b == byte) text → take place text ≡ up_to byte text
 found_front byte place text h = ap (λ n. take n text) (found_place _ _ _ h).0

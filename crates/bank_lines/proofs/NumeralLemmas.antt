@@ -2,6 +2,7 @@
 use Rattle.std.proofs.Common.{◌≡◌, ℕ, ◌+◌, ◌*◌, ◌/◌, ◌%◌, ◌^◌, ◌<◌, ◌≤◌, ◌==◌, ◌-◌, suc, zero, cond, drop, Bool, true, false, List, [], ◌∷◌, ◌++◌, length, refl, ap, ◌∙◌, subst, arith, eq-eqb, lit<, length-append}
 use Rattle.std.specs.Prelude.{not, ◌&&◌}
 use Rattle.std.proofs.Math.ListN.{set, length-set}
+use Rattle.std.proofs.Math.Nat.{pow-suc}
 use Rattle.std.proofs.lemmas.List.{get_or-set_same, drop-set-lt}
 use Rattle.std.proofs.Math.Seq.{drop-cons}
 use Rattle.std.proofs.lemmas.Bool.Decides.{nat_tests}
@@ -109,3 +110,16 @@ drop-set_cons out zero x g h k e = absurd (omega arith)
 drop-set_cons out (suc j) x g h k e =
     ap (λ (m : ℕ). drop m (set out m x)) {x = suc j - 1} {y = j} (omega arith) ∙ drop-cons (set out j x) j 0 (omega (arith, length-set out j x))
     ∙ (λ t. (get_or-set_same out j x 0 k ∙ e) t ∷ drop-set-lt (suc j) out j x (omega arith) t)
+
+-- what is left of a number of few digits has one digit less, and is 0 where there is room for none
+pub few_left : (rest room : ℕ) → 0 < room → rest < 16 ^ room → rest / 16 < 16 ^ (room - 1)
+few_left rest zero some small = absurd (omega arith)
+few_left rest (suc room) some small =
+    let power : 16 ^ suc room ≡ 16 ^ room * 16 = pow-suc 16 room in
+    let less : rest / 16 < 16 ^ room = omega (arith, power, small) in
+    let same : room ≡ suc room - 1 = omega arith in
+    subst (λ n. rest / 16 < 16 ^ n) same less
+
+pub room_left : (rest room : ℕ) → rest < 16 ^ room → ¬ (rest ≡ 0) → 0 < room
+room_left rest zero small some = absurd (some (omega arith))
+room_left rest (suc room) small some = omega arith

@@ -1,11 +1,13 @@
 -- Parts by the places of their separators.
-use Rattle.std.proofs.Common.{◌≡◌, ℕ, ◌+◌, ◌-◌, ◌<◌, ◌≤◌, ◌==◌, false, cond, nat_lt, List, [], ◌∷◌, length, take, drop, sym, ap, ◌∙◌, arith, Some, None, length-drop}
+use Rattle.std.proofs.Common.{◌≡◌, ℕ, ◌+◌, ◌-◌, ◌<◌, ◌≤◌, ◌==◌, Bool, true, false, cond, nat_lt, List, [], ◌∷◌, length, take, drop, get_or, refl, sym, ap, ◌∙◌, arith, Some, None, length-drop}
 use Rattle.std.proofs.Math.Seq.{take-length}
 use Rattle.std.proofs.lemmas.Bool.Decides.{nat_tests}
 use Rattle.std.proofs.lemmas.List.Splits.{slice_split_first, slice_split_none}
 use Rattle.std.proofs.lemmas.List.Sums.{fails_before_first}
+use Rattle.std.proofs.lemmas.Slice.Eq.{bytes_eq-Decides}
+use Rattle.std.specs.Str.{bytes_eq}
 use Rattle.std.specs.List.{All, position, position_or_len, slice_split}
-use Rattle.bank_lines.specs.Parts.{cut_at}
+use Rattle.bank_lines.specs.Parts.{cut_at, value_after}
 
 -- the place that a search tells
 found_place : (place size end : ℕ) → Some end ≡ cond (nat_lt place size) (Some place) None → (end ≡ place) × (place < size)
@@ -31,3 +33,11 @@ parts_whole byte text h =
     let late : length text ≤ position_or_len (λ b. b == byte) text = no_place _ _ h in
     let none : All (λ b. (b == byte) ≡ false) text = λ k d inside. fails_before_first (λ b. b == byte) text k d (omega arith) in
     slice_split_none (λ b. b == byte) text none
+
+-- a text whose first byte is another doesn't begin with a name
+pub other_name : (first other : ℕ) (name text : List ℕ) → ¬ (first ≡ other) → value_after (first ∷ name) (other ∷ text) ≡ None
+other_name first other name text apart = by (bytes_eq (other ∷ take (length name) text) (first ∷ name)) refl
+  where
+    by : (is : Bool) → bytes_eq (other ∷ take (length name) text) (first ∷ name) ≡ is → cond is (Some (drop (length name) text)) None ≡ None
+    by true is = absurd (apart (sym (ap (λ bytes. get_or bytes 0 0) ((bytes_eq-Decides (other ∷ take (length name) text) (first ∷ name)).0 is))))
+    by false is = refl

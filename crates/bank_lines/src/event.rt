@@ -8,8 +8,8 @@ ghost use Rattle.bank_lines.specs.TraceEvent.{bank_named, bank_told, cpu_told, g
 ghost use Rattle.bank_lines.specs.TraceEvent.{addr_told, misc_told, tsc_told, processor_told, vendor_told};
 ghost use Rattle.bank_lines.specs.TraceEvent.{global_of, processor_vendor, registers_of, seconds_told};
 
-use crate::parts::{Parts, after_spaces, position_of, value_after};
-use ras_script::{decimal, hexadecimal};
+use crate::parts::{Parts, after_spaces, value_after};
+use ras_script::{decimal, hexadecimal, position_of};
 
 /// What the kernel's event of a machine check tells.
 #[derive(Clone, Copy, Debug, PartialEq, Eq)]

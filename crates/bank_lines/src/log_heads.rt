@@ -1,29 +1,59 @@
 //! Which lines of a kernel log are the kernel's own, by what stands before their mark.
 
-ghost use Rattle.std.specs.Prelude.{◌≡◌, ◌+◌, ◌<◌, ◌≤◌, ◌==◌, drop, length, not, IfSome};
+ghost use Rattle.std.specs.Prelude.{◌≡◌, ◌+◌, ◌-◌, ◌<◌, ◌≤◌, ◌==◌, ◌↔◌, drop, length, not, IfSome, IsTrue};
 ghost use Rattle.std.specs.List.{position};
+ghost use Rattle.memchr.specs.Find.{FindsNeedle, OccursAt};
 ghost use Rattle.bank_lines.specs.LogHeads.{after, are_digits, are_signs, has_digit};
 ghost use Rattle.bank_lines.specs.LogHeads.{is_after_brackets, is_bracketed, is_caller, is_dated};
 ghost use Rattle.bank_lines.specs.LogHeads.{is_iso_time, is_joined, is_logger, is_own, is_stamp};
 ghost use Rattle.bank_lines.specs.LogHeads.{is_time, mark_place, up_to, without_spaces};
 
-use memchr::memmem;
+use ras_script::position_of;
 
-// The first place of a text within another.
+// The first place of a text within another. It is looked for by one of its bytes: a search for the
+// whole of it costs more to set up than a line to look through.
 pub(crate) fn mark_place(text: &[u8], within: &[u8]) -> Option<usize>
     requires { 0 < length text.now }
     ensures place { result ≡ mark_place text.now within.now }
     ensures fits { IfSome result (λ place. place + length text.now ≤ length within.now) }
 {
-    memmem::find(within, text)
+    place_by(pivot_of(text), text, within)
 }
 
-// The first place of a byte in a text.
-fn position_of(byte: u8, text: &[u8]) -> Option<usize>
-    ensures place { result ≡ position (λ b. b == byte) text.now }
-    ensures within { IfSome result (λ place. place < length text.now) }
+// The place of the byte by which a text is looked for: its first capital letter, which few lines
+// without the text have, or its first byte.
+fn pivot_of(text: &[u8]) -> usize
+    requires { 0 < length text.now }
+    ensures { result < length text.now }
 {
-    text.iter().position(|b| *b == byte)
+    match text.iter().position(|b| b.is_ascii_uppercase()) {
+        Some(place) => place,
+        None => 0,
+    }
+}
+
+// The first place of a text within another, looked for by its byte at `pivot`.
+fn place_by(pivot: usize, text: &[u8], within: &[u8]) -> Option<usize>
+    requires { pivot < length text.now }
+    ensures { FindsNeedle within.now text.now 0 result }
+{
+    let mut from = 0;
+    while let Some(passed) = position_of(text[pivot], &within[from..]) {
+        let place = from + passed;
+        if stands_round(place, pivot, text, within) {
+            return Some(place - pivot);
+        }
+        from = place + 1;
+    }
+    None
+}
+
+// Whether a text stands within another so that its byte at `pivot` has a place there.
+fn stands_round(place: usize, pivot: usize, text: &[u8], within: &[u8]) -> bool
+    requires { place ≤ length within.now }
+    ensures { IsTrue result ↔ ((pivot ≤ place) × OccursAt within.now text.now (place - pivot)) }
+{
+    place >= pivot && within[place - pivot..].starts_with(text)
 }
 
 // A text up to the first of these bytes, and what follows that byte.

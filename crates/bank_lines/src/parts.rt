@@ -1,10 +1,11 @@
 //! The parts of a text, in turn.
 
-ghost use Rattle.std.specs.Prelude.{◌≡◌, ◌<◌, ◌==◌, [], ◌∷◌, length, IfSome, MatchOption};
-ghost use Rattle.std.specs.List.{position};
+ghost use Rattle.std.specs.Prelude.{◌≡◌, ◌<◌, [], ◌∷◌, length, IfSome, MatchOption};
 ghost use Rattle.std.specs.Option.{option_map, option_map_or};
 ghost use Rattle.bank_lines.specs.Parts.{after_spaces, cut_at, value_after};
 ghost use Rattle.bank_lines.specs.Steps.PartsLeft.{parts_in};
+
+use ras_script::position_of;
 
 // The parts of a text that are left: what stands between the separators, empty parts too.
 #[derive(Clone, Copy)]
@@ -36,14 +37,6 @@ impl<'a> Parts<'a> {
     }
 }
 
-// The first place of a byte in a text.
-pub(crate) fn position_of(byte: u8, text: &[u8]) -> Option<usize>
-    ensures place { result ≡ position (λ b. b == byte) text.now }
-    ensures within { IfSome result (λ place. place < length text.now) }
-{
-    text.iter().position(|b| *b == byte)
-}
-
 // The first part of a text, and what follows the separator after it.
 #[tactic(auto, using(crate::proofs::PartsLemmas::parts_cut, crate::proofs::PartsLemmas::parts_whole))]
 fn cut(separator: u8, text: &[u8]) -> (&[u8], Option<&[u8]>)
@@ -68,9 +61,14 @@ pub(crate) fn after_spaces(text: &[u8]) -> &[u8]
     rest
 }
 
-// What follows a name that a text begins with.
+// What follows a name that a text begins with. Most names are told apart by their first bytes.
+#[inline(always)]
+#[tactic(auto, using(crate::proofs::PartsLemmas::other_name))]
 pub(crate) fn value_after<'a>(name: &[u8], text: &'a [u8]) -> Option<&'a [u8]>
     ensures { option_map (λ value. value.now) result ≡ value_after name.now text.now }
 {
-    text.strip_prefix(name)
+    match (name, text) {
+        ([first, ..], [other, ..]) if first != other => None,
+        _ => text.strip_prefix(name),
+    }
 }

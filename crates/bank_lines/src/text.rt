@@ -3,14 +3,20 @@
 ghost use Rattle.std.specs.Prelude.{◌≡◌, ◌<◌, ◌≤◌, ◌∷◌, ◌++◌, drop, false, OnOk};
 ghost use Rattle.std.specs.Fmt.{decimal, digit_glyph};
 ghost use Rattle.ras_script.specs.LineLaws.{hexadecimal};
+ghost use Rattle.bank_lines.specs.declared.text.TheConstants.{WORD_BYTES};
 ghost use Rattle.bank_lines.specs.Texts.{asking_line, found_text, partial_comment, unread_line, vendor_line};
 
 use crate::Finding;
 use ras_base::{NoMemory, push_number};
 use ras_facts::BankReport;
 
-// Room for the digits of a number in any radix: the definition of digits takes as many steps.
-const MOST_DIGITS: usize = 64;
+// A space, and the most digits of a register.
+const WORD_BYTES: usize = 17;
+
+// The hexadecimal digits.
+static DIGITS: [u8; 16] = [
+    b'0', b'1', b'2', b'3', b'4', b'5', b'6', b'7', b'8', b'9', b'a', b'b', b'c', b'd', b'e', b'f',
+];
 
 // Adds the text of what was found in the line of this number.
 pub(crate) fn push_found(text: &mut Vec<u8>, found: &Finding, number: u64) -> Result<(), NoMemory>
@@ -72,39 +78,36 @@ fn push_named(text: &mut Vec<u8>, name: &[u8], number: u64) -> Result<(), NoMemo
 fn push_register(text: &mut Vec<u8>, register: u64) -> Result<(), NoMemory>
     ensures { OnOk result (text.new.items ≡ text.old.items ++ 32 ∷ hexadecimal register) }
 {
-    let mut digits = [0u8; MOST_DIGITS];
-    let start = write_digits(register, &mut digits);
-    text.push(b' ')?;
-    text.extend_from_slice(&digits[start..])?;
+    let mut word = [0u8; WORD_BYTES];
+    let start = write_word(register, &mut word);
+    text.extend_from_slice(&word[start..])?;
     Ok(())
 }
 
-// Writes the digits of a number to the end of a buffer, and tells where they begin.
-fn write_digits(number: u64, digits: &mut [u8; MOST_DIGITS]) -> usize
-    ensures within { result ≤ 64 }
-    ensures digits { drop result digits.new ≡ hexadecimal number }
+// Writes a space and the digits of a number to the end of a buffer, and tells where they begin.
+fn write_word(number: u64, word: &mut [u8; WORD_BYTES]) -> usize
+    ensures within { result ≤ WORD_BYTES }
+    ensures word { drop result word.new ≡ 32 ∷ hexadecimal number }
 {
-    let mut place = MOST_DIGITS;
+    let mut place = WORD_BYTES;
     let mut rest = number;
-    while place > 0 {
+    loop {
         place -= 1;
-        digits[place] = digit_of(rest % 16);
+        word[place] = digit_of(rest % 16);
         rest /= 16;
         if rest == 0 {
             break;
         }
     }
-    place
+    word[place - 1] = b' ';
+    place - 1
 }
 
 // The hexadecimal digit of a value.
+#[inline(always)]
 fn digit_of(value: u64) -> u8
     requires { value < 16 }
     ensures { result ≡ digit_glyph false value }
 {
-    if value < 10 {
-        b'0' + value as u8
-    } else {
-        b'a' - 10 + value as u8
-    }
+    DIGITS[value as usize]
 }

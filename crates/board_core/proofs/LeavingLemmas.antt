@@ -11,10 +11,10 @@ use Rattle.board_core.specs.declared.pick.Pick.{Pick}
 use Rattle.board_core.specs.declared.pick.Pick.TheVariants.{Old, New, Fill}
 use Rattle.board_core.specs.Clock.{LeftNow}
 use Rattle.board_core.specs.Steps.DiskLemmas.{greatest_length-least}
-use Rattle.board_core.specs.DiskModel.{Range, IsOutside, Disk, DiskFile, MayLeave, MayLeaveFile, rests, after, after_all}
+use Rattle.board_core.specs.DiskModel.{settled_file, Range, IsOutside, Disk, DiskFile, MayLeave, MayLeaveFile, rests, after, after_all}
 use Rattle.board_core.specs.Steps.FileHistory.{bytes_after, bytes_after_all, disk_after, disk_after_all, range_of, ranges_of, ArePartedAtSync}
 use Rattle.board_core.specs.Steps.History.{change_of, changes_of, first_bytes}
-use Rattle.board_core.specs.MemBoard.{Held, new_held, Change, Past, wrote, synced, acted, printed, settled_file, settled_disk, after_change, call_of, calls_of, clock_of, disk_of, held_of}
+use Rattle.board_core.specs.MemBoard.{Held, new_held, Change, Past, wrote, synced, acted, printed, settled_disk, after_change, call_of, calls_of, clock_of, disk_of, held_of}
 use Rattle.board_core.specs.Steps.ChangeLemmas.{here_left}
 use Rattle.board_core.specs.Steps.MomentLemmas.{now_counts}
 use Rattle.board_core.specs.Pick.{IsInside, IsFilled, IsPicked}

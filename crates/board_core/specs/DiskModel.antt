@@ -27,6 +27,10 @@ pub record DiskFile : Type 0 where
   pub synced : List ℕ
   pub written : List Range
 
+-- a file whose bytes are all on the disk
+abbrev pub settled_file : List ℕ → DiskFile
+settled_file bytes = record { synced = bytes; written = [] }
+
 -- What a stop may leave of a file: in written ranges and past the old end stand any bytes, all
 -- other bytes stay, and the length lies between the old one and the new one.
 pub record MayLeaveFile (file : DiskFile) (bytes : List ℕ) : Type 0 where
@@ -86,7 +90,7 @@ with_range place count file = record file { written = file.written ++ record { p
 -- the disk after a call
 abbrev pub after : Call → Disk → Disk
 after (writes file place count) disk = with_disk_file file (with_range place count (disk_file file disk)) disk
-after (syncs file bytes) disk = with_disk_file file (record { synced = bytes; written = [] }) disk
+after (syncs file bytes) disk = with_disk_file file (settled_file bytes) disk
 after (stores made store) disk = record disk { store = store }
 after (prints piece part) disk = record disk { out = disk.out ++ part }
 after rests disk = disk

@@ -10,7 +10,7 @@ use Rattle.board_core.specs.declared.mem_board.BoardCall.{BoardCall}
 use Rattle.board_core.specs.declared.mem_board.BoardCall.TheVariants.{Disk as OnDisk, Device as OnDevice, Put, Print}
 use Rattle.board_core.specs.Cause.{Faults, Kind, disk_call, device_call, print_call, count_of, with_count}
 use Rattle.board_core.specs.Clock.{Clock}
-use Rattle.board_core.specs.DiskModel.{Disk, DiskFile, Call, writes, syncs, stores, prints, after_all, disk_clock}
+use Rattle.board_core.specs.DiskModel.{Disk, settled_file, Call, writes, syncs, stores, prints, after_all, disk_clock}
 use Rattle.board_core.specs.MemSource.{next_count, is_chosen}
 use Rattle.board_core.specs.Stop.{Left, file_in, with_file_in}
 use Rattle.board_core.specs.Told.{Told, overlay, after_reg_write, after_range_write, after_put}
@@ -88,9 +88,6 @@ calls_of [] held = []
 calls_of (change ∷ changes) held = call_of change held ∷ calls_of changes (after_change change held)
 
 -- a disk on which all is as a read gives it
-abbrev pub settled_file : List ℕ → DiskFile
-settled_file bytes = record { synced = bytes; written = [] }
-
 abbrev pub settled_disk : Left → Disk
 settled_disk here = record {
   zero = settled_file here.file0;

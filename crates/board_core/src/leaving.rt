@@ -2,7 +2,8 @@
 ghost use Rattle.std.specs.Prelude.{◌≡◌, ◌↔◌, ℕ, ◌≤◌, IsTrue, [], ◌∷◌, length, take, drop, List, IfOk, OnOk};
 ghost use Rattle.board_core.specs.Steps.FileHistory.{bytes_after, bytes_after_all, disk_after_all, range_of, ranges_of, ArePartedAtSync};
 ghost use Rattle.board_core.specs.Steps.History.{change_of, changes_of, first_bytes};
-ghost use Rattle.board_core.specs.MemBoard.{synced, settled_file};
+ghost use Rattle.board_core.specs.DiskModel.{settled_file};
+ghost use Rattle.board_core.specs.MemBoard.{synced};
 ghost use Rattle.board_core.specs.Pick.{IsFilled, IsPicked};
 
 use crate::events::overlay_bytes;

@@ -3,5 +3,6 @@ pub mod FieldLemmas
 pub mod NameFormatLemmas
 pub mod EntryLemmas
 pub mod LoopLemmas
+pub mod BlockLemmas
 pub mod FileLemmas
 pub mod SizeLemmas

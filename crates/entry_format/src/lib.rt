@@ -24,4 +24,4 @@ pub use reading::limit_at;
 pub use refused::EntryRefused;
 pub use sizes::{entry_len, name_len};
 pub use version::Version;
-pub use writing::{push_entry, push_label, push_limit, push_name};
+pub use writing::{push_entry, push_label, push_limit, push_name, put_name};

@@ -1,5 +1,5 @@
 //! Entries as bytes.
-ghost use Rattle.std.specs.Prelude.{◌≡◌, ◌++◌, ◌≤◌, length, OnOk};
+ghost use Rattle.std.specs.Prelude.{◌≡◌, ◌++◌, ◌+◌, ◌≤◌, length, take, OnOk};
 ghost use Rattle.std.specs.List.{flat_map};
 ghost use Rattle.ras_facts.specs.Entries.{items_in};
 ghost use Rattle.entry_format.specs.Spelling.{name_bytes, label_bytes, page_bytes, item_bytes, fact_bytes, limit_bytes, entry_bytes};
@@ -51,6 +51,59 @@ pub fn push_name(bytes: &mut Vec<u8>, name: &Name) -> Result<(), NoMemory>
         Name::Boot { boot } => {
             bytes.push(BOOT)?;
             push_u64(bytes, *boot)
+        }
+    }
+}
+
+/// Writes the spelling of the name of a report over the bytes from a place on, and answers the place
+/// after it. So many names can be spelled into one array, which is then added at once.
+#[inline(always)]
+#[tactic(auto, unfolding(crate::specs::Spelling::name_bytes))]
+pub fn put_name(room: &mut [u8], place: usize, name: &Name) -> usize
+    requires { place + 20 ≤ length room.old }
+    ensures spelled { take result room.new ≡ take place room.old ++ name_bytes name.now }
+    ensures length { length room.new ≡ length room.old }
+    ensures most { result ≤ place + 20 }
+{
+    match name {
+        Name::Bank {
+            boot,
+            cpu,
+            bank,
+            tsc,
+        } => {
+            let [b0, b1, b2, b3, b4, b5, b6, b7] = boot.to_le_bytes();
+            let [c0, c1] = cpu.to_le_bytes();
+            let [t0, t1, t2, t3, t4, t5, t6, t7] = tsc.to_le_bytes();
+            let spelled = [
+                BANK, b0, b1, b2, b3, b4, b5, b6, b7, c0, c1, *bank, t0, t1, t2, t3, t4, t5, t6, t7,
+            ];
+            room[place..place + 20].copy_from_slice(&spelled);
+            place + 20
+        }
+        Name::Record { id } => {
+            let [i0, i1, i2, i3, i4, i5, i6, i7] = id.to_le_bytes();
+            room[place..place + 9].copy_from_slice(&[RECORD, i0, i1, i2, i3, i4, i5, i6, i7]);
+            place + 9
+        }
+        Name::Block {
+            boot,
+            source,
+            number,
+        } => {
+            let [b0, b1, b2, b3, b4, b5, b6, b7] = boot.to_le_bytes();
+            let [s0, s1] = source.to_le_bytes();
+            let [n0, n1, n2, n3, n4, n5, n6, n7] = number.to_le_bytes();
+            let spelled = [
+                BLOCK, b0, b1, b2, b3, b4, b5, b6, b7, s0, s1, n0, n1, n2, n3, n4, n5, n6, n7,
+            ];
+            room[place..place + 19].copy_from_slice(&spelled);
+            place + 19
+        }
+        Name::Boot { boot } => {
+            let [b0, b1, b2, b3, b4, b5, b6, b7] = boot.to_le_bytes();
+            room[place..place + 9].copy_from_slice(&[BOOT, b0, b1, b2, b3, b4, b5, b6, b7]);
+            place + 9
         }
     }
 }

@@ -2,8 +2,7 @@
 -- what a stop of the machine may leave.
 use Rattle.std.specs.Prelude.{◌≡◌, ℕ, ◌⊎◌, List, [], ◌∷◌, ◌++◌, take, Option, None, Some}
 use Rattle.std.specs.Option.{option_map}
-use Rattle.board_core.specs.DiskModel.{DiskFile, MayLeaveFile, with_range}
-use Rattle.board_core.specs.MemBoard.{settled_file}
+use Rattle.board_core.specs.DiskModel.{settled_file, DiskFile, MayLeaveFile, with_range}
 use Rattle.board_core.specs.Told.{overlay}
 use Rattle.board_core.specs.declared.board.FileNo.TheVariants.{Zero, One}
 use Rattle.host_system.specs.declared.system.FileName.{FileName}

@@ -2,6 +2,8 @@ pub mod WholeLemmas
 pub mod PayloadLemmas
 pub mod LinkLemmas
 pub mod RowLemmas
+pub mod BlockLemmas
+pub mod ComparingLemmas
 pub mod SizeLemmas
 pub mod RowReadLemmas
 pub mod SoundLemmas

@@ -6,15 +6,16 @@ ghost use Rattle.entry_format.specs.Spelling.{name_bytes};
 ghost use Rattle.ras_account.specs.Accounts.{IsAccount};
 ghost use Rattle.journal_format.specs.Checkpoints.{list_bytes, module_bytes, page_row_bytes, front_bytes, checkpoint_bytes, IsCheckpoint};
 
+use crate::blocks::{BLOCK_BYTES, BLOCK_NAMES, put_names};
 use crate::rows::{push_module, push_page_row};
-use entry_format::{push_limit, push_name};
+use entry_format::push_limit;
 use ras_account::Account;
 use ras_base::NoMemory;
 use ras_base::little_endian::push_u64;
 
 // Adds the numbers at the front.
 #[tactic(auto, unfolding(crate::specs::Checkpoints::front_bytes))]
-fn push_front(bytes: &mut Vec<u8>, account: &Account) -> Result<(), NoMemory>
+pub(crate) fn push_front(bytes: &mut Vec<u8>, account: &Account) -> Result<(), NoMemory>
     ensures { OnOk result (bytes.new.items ≡ bytes.old.items ++ front_bytes Two account.now.state) }
 {
     push_limit(bytes, account.limit())?;
@@ -30,14 +31,17 @@ fn push_names(bytes: &mut Vec<u8>, account: &Account) -> Result<(), NoMemory>
 {
     let count = account.names_len();
     push_u64(bytes, count as u64)?;
-    for i in 0..count {
-        push_name(bytes, account.name(i))?;
+    let mut room = [0; BLOCK_BYTES];
+    // The last block may have no name.
+    for block in 0..count / BLOCK_NAMES + 1 {
+        let end = put_names(&mut room, account, block * BLOCK_NAMES);
+        bytes.extend_from_slice(&room[..end])?;
     }
     Ok(())
 }
 
 // Adds the rows of modules.
-fn push_modules(bytes: &mut Vec<u8>, account: &Account) -> Result<(), NoMemory>
+pub(crate) fn push_modules(bytes: &mut Vec<u8>, account: &Account) -> Result<(), NoMemory>
     ensures { OnOk result (bytes.new.items
         ≡ bytes.old.items ++ list_bytes (module_bytes Two) account.now.state.modules) }
 {
@@ -50,7 +54,7 @@ fn push_modules(bytes: &mut Vec<u8>, account: &Account) -> Result<(), NoMemory>
 }
 
 // Adds the rows of pages.
-fn push_pages(bytes: &mut Vec<u8>, account: &Account) -> Result<(), NoMemory>
+pub(crate) fn push_pages(bytes: &mut Vec<u8>, account: &Account) -> Result<(), NoMemory>
     ensures { OnOk result (bytes.new.items
         ≡ bytes.old.items ++ list_bytes page_row_bytes account.now.state.pages) }
 {
@@ -65,7 +69,7 @@ fn push_pages(bytes: &mut Vec<u8>, account: &Account) -> Result<(), NoMemory>
 }
 
 // So that a clause can tell that an account is one, and that its numbers of rows fit their fields.
-fn tell_account(account: &Account)
+pub(crate) fn tell_account(account: &Account)
     ensures account { IsAccount account.now.state }
     ensures modules { length account.now.state.modules < 2 ^ 64 }
     ensures pages { length account.now.state.pages < 2 ^ 64 }

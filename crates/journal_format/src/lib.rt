@@ -5,6 +5,8 @@
 //! no spelling are refused.
 #![tactic(auto)]
 
+mod blocks;
+mod comparing;
 mod decoding;
 mod encoding;
 mod laws;
@@ -15,6 +17,7 @@ mod row_reading;
 mod rows;
 mod sizes;
 
+pub use comparing::is_checkpoint_of;
 pub use decoding::read_checkpoint;
 pub use encoding::push_checkpoint;
 pub use laws::{checkpoint_laws, link_laws, numbers_in_digits};

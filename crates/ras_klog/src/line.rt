@@ -6,9 +6,9 @@ ghost use Rattle.memchr.specs.Find.{FindsNeedle, OccursAt};
 ghost use Rattle.ras_klog.specs.Reading.{after_marker, bank_of, check_of, colon_number, is_vendor_and_model, klog_line_of, marker, named, parts_of, processor_line_of, start_line_of, told_by_words, tsc_of};
 ghost use Rattle.ras_klog.specs.Steps.Words.{words_in};
 
-use crate::words::{Words, position_of};
+use crate::words::Words;
 use memchr::memchr;
-use ras_script::{decimal, hexadecimal};
+use ras_script::{decimal, hexadecimal, position_of};
 
 /// What a line of a kernel log tells.
 #[derive(Clone, Copy, Debug, PartialEq, Eq)]

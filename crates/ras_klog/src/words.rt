@@ -1,10 +1,12 @@
 //! The words of a text, in turn.
 
-ghost use Rattle.std.specs.Prelude.{◌≡◌, ◌<◌, ◌==◌, [], ◌∷◌, drop, length, slice_index_or, IfSome};
-ghost use Rattle.std.specs.List.{list_all, position};
+ghost use Rattle.std.specs.Prelude.{◌≡◌, ◌==◌, [], ◌∷◌, drop, slice_index_or};
+ghost use Rattle.std.specs.List.{list_all};
 ghost use Rattle.std.specs.Option.{option_map_or};
 ghost use Rattle.ras_klog.specs.Reading.{parts_of, is_empty};
 ghost use Rattle.ras_klog.specs.Steps.Words.{words_in};
+
+use ras_script::position_of;
 
 // The words of a text that are left: what stands between single spaces, empty words too.
 #[derive(Clone, Copy)]
@@ -55,14 +57,6 @@ fn cut(text: &[u8]) -> (&[u8], Option<&[u8]>)
         Some(end) => (&text[..end], Some(&text[end + 1..])),
         None => (text, None),
     }
-}
-
-// The first place of a byte in a text.
-pub(crate) fn position_of(byte: u8, text: &[u8]) -> Option<usize>
-    ensures place { result ≡ position (λ b. b == byte) text.now }
-    ensures within { IfSome result (λ place. place < length text.now) }
-{
-    text.iter().position(|b| *b == byte)
 }
 
 // Whether a text is of spaces alone.

@@ -1,8 +1,8 @@
 -- The words of a line that are held: the first ones.
-use Rattle.std.proofs.Common.{◌≡◌, ℕ, ◌+◌, ◌-◌, ◌<◌, ◌≤◌, List, [], ◌∷◌, ◌++◌, zero, suc, length, map, take, drop, get_or, refl, ap, sym, ◌∙◌, arith, append_assoc, length-append, length-drop}
-use Rattle.std.proofs.lemmas.List.{append-nil, drop-drop, drop_more, get_or-drop, length-map, map-append, nil_from_length, take-append-drop, take_all, take_at, take_more}
+use Rattle.std.proofs.Common.{◌≡◌, ℕ, ◌+◌, ◌-◌, ◌<◌, ◌≤◌, List, [], ◌∷◌, ◌++◌, zero, suc, length, map, take, drop, get_or, refl, ap, sym, ◌∙◌, arith, append_assoc, length-append}
+use Rattle.std.proofs.lemmas.List.{append-nil, drop-drop, drop_more, length-map, map-append, nil_from_length, take-append-drop, take_all, take_at}
 use Rattle.ras_script.specs.Splitting.{words_of}
-use Rattle.ras_script.specs.SplittingLaws.{Lacks, IsWord}
+use Rattle.ras_script.specs.SplittingLaws.{IsWord}
 use Rattle.ras_script.proofs.LineAndWordLemmas.{words_separated, words_single}
 
 take_again : {X : Type 0} (n : ℕ) (front back : List X) → take n (take n front ++ back) ≡ take n (front ++ back)

@@ -1,7 +1,9 @@
 pub mod NumberLemmas
+pub mod PairLemmas
 pub mod ByteLemmas
 pub mod SplittingLemmas
 pub mod HeldWordsLemmas
+pub mod BlockLemmas
 pub mod SpaceLemmas
 pub mod HeldLineLemmas
 pub mod LineAndWordLemmas
@@ -9,6 +11,7 @@ pub mod FieldLemmas
 pub mod LineRangeLemmas
 pub mod WrittenNumberLemmas
 pub mod LineTextLemmas
+pub mod FeedLemmas
 pub mod WindowLemmas
 pub mod LinesLemmas
 pub mod ReaderLemmas

@@ -1,9 +1,10 @@
 -- The bytes of the buffer of a reader of lines, after a read past their end or a step of their
 -- start.
-use Rattle.std.proofs.Common.{◌≡◌, ℕ, ◌+◌, ◌-◌, ◌≤◌, List, [], ◌++◌, length, take, drop, slice_range, Option, Some, None, IfSome, refl, sym, ap, ◌∙◌, arith}
+use Rattle.std.proofs.Common.{◌≡◌, ℕ, ◌+◌, ◌-◌, ◌≤◌, List, [], ◌++◌, length, take, drop, slice_range, Option, Some, None, IfSome, refl, sym, ap, ◌∙◌, arith, length-append, length-drop, length-take}
 use Rattle.std.proofs.lemmas.List.{append-nil, take_at, drop_at, take-append-le, drop-take, drop-drop, length-take-le, take-append-drop}
 use Rattle.board_core.specs.Takes.{Takes}
 use Rattle.ras_script.specs.Reader.{AreTaken}
+use Rattle.ras_script.specs.Steps.Feeds.{line_feed_in}
 use Rattle.ras_script.specs.Steps.ReaderSteps.{Gains}
 use borrow.Rule.Slice.PartMut.{put_mid, post_of}
 use lib.Seq.{take-add}
@@ -62,3 +63,13 @@ dropped xs start end count inside =
     let parts : end - start ≡ count + (end - (start + count)) = omega arith in
     sym (ap (λ j. drop count (take j (drop start xs))) parts ∙ drop-take count _ (drop start xs)
     ∙ ap (take (end - (start + count))) (drop-drop count start xs))
+
+-- the first line feed of what was held, once more is
+pub found_held : (xs ys : List ℕ) (start end n found : ℕ) → start ≤ end → take end ys ≡ take end xs → end + n ≤ length ys → found ≡ start + line_feed_in (slice_range xs start end)
+    → (end - start ≤ length (slice_range ys start (end + n))) × (found - start ≡ line_feed_in (take (end - start) (slice_range ys start (end + n))))
+found_held xs ys start end n found ordered same fits is =
+    let more : slice_range ys start (end + n) ≡ slice_range xs start end ++ take n (drop end ys) = grown xs ys start end n ordered same in
+    let size : length (slice_range xs start end) ≡ end - start = omega (arith, ap length (kept xs ys start end ordered same), length-take {A = ℕ}, length-drop {A = ℕ}) in
+    let front : take (end - start) (slice_range ys start (end + n)) ≡ slice_range xs start end = ap (take (end - start)) more ∙ take_at (slice_range xs start end) (take n (drop end ys)) (end - start) size in
+    let both : length (slice_range ys start (end + n)) ≡ length (slice_range xs start end) + length (take n (drop end ys)) = ap length more ∙ length-append (slice_range xs start end) (take n (drop end ys)) in
+    (omega (arith, both, size), rw front (omega (arith, is)))

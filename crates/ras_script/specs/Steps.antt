@@ -1,4 +1,5 @@
 -- What only proofs use: no public clause comes to it.
 pub mod ReaderSteps
+pub mod Feeds
 pub mod Window
-pub mod Spaces
+pub mod Places

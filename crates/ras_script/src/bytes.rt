@@ -1,11 +1,12 @@
 //! Bytes as the words of a script write them.
 
-ghost use Rattle.std.specs.Prelude.{◌≡◌, ◌↔◌, ◌%◌, ◌<◌, ℕ, List, length, IfOk, IsSome, Some};
+ghost use Rattle.std.specs.Prelude.{◌≡◌, ◌↔◌, ◌%◌, ◌*◌, ◌<◌, ℕ, List, length, IfOk, IsSome, None, Some, if◌then◌else◌};
 ghost use Rattle.std.specs.List.{AllPass};
-ghost use Rattle.hex.specs.Hex.{encode_lower, encode_upper, is_hex_digit};
+ghost use Rattle.std.specs.Result.{result_ok};
+ghost use Rattle.hex.specs.Hex.{decode_of, encode_lower, encode_upper, is_hex_digit};
 ghost use Rattle.ras_script.specs.Bytes.{AreBytes, bytes_of};
 
-use hex::FromHexError;
+use crate::number::value_of;
 use mca_codes::Text;
 use ras_base::NoMemory;
 use std::alloc::Global;
@@ -15,14 +16,31 @@ use std::alloc::Global;
 pub fn bytes_of(alloc: Global, word: &[u8]) -> Result<Option<Text>, NoMemory>
     ensures { IfOk result (λ bytes. bytes ≡ bytes_of word.now) }
 {
-    if word.is_empty() {
+    if word.is_empty() || word.len() % 2 != 0 {
         return Ok(None);
     }
-    match hex::decode(alloc, word) {
-        Ok(bytes) => Ok(Some(Text::new(bytes))),
-        Err(FromHexError::OutOfMemory) => Err(NoMemory),
-        Err(_) => Ok(None),
+    let mut bytes = vec![in alloc; 0u8; word.len() / 2]?;
+    if decode_into(word, &mut bytes) {
+        Ok(Some(Text::new(bytes)))
+    } else {
+        Ok(None)
     }
+}
+
+// Writes the byte of each two digits of a word, and returns whether all its bytes are digits. That is
+// asked once, of all of them together: most words have no other byte.
+fn decode_into(word: &[u8], bytes: &mut [u8]) -> bool
+    requires { length word.now ≡ 2 * length bytes.old }
+    ensures { result_ok (decode_of word.now) ≡ (if result then Some bytes.new else None) }
+{
+    let mut together = 0;
+    for place in 0..bytes.len() {
+        let high = value_of(word[2 * place]);
+        let low = value_of(word[2 * place + 1]);
+        together |= high | low;
+        bytes[place] = high.wrapping_mul(16).wrapping_add(low);
+    }
+    together < 16
 }
 
 /// A bytes word has an even number, at least 2, of hexadecimal digits. Bytes that are written in

@@ -1,6 +1,7 @@
 //! The lines of a script: where each ends, its words, and what it asks for.
 #![tactic(auto)]
 
+mod blocks;
 mod bytes;
 mod fields;
 mod kinds;
@@ -8,10 +9,10 @@ mod laws;
 mod line;
 mod number;
 mod reader;
-mod spaces;
 mod splitting;
 mod window;
 
+pub use blocks::position_of;
 pub use bytes::{bytes_of, written_bytes_are_read};
 pub use fields::BANK_WORDS;
 pub use kinds::{LAST_CHANNEL, MOST_WORDS};

@@ -102,7 +102,7 @@ fn digit_of(byte: u8, radix: u32) -> Option<u64>
 
 // The value of a byte as a digit, `NONE` if it is none.
 #[inline(always)]
-fn value_of(byte: u8) -> u8
+pub(crate) fn value_of(byte: u8) -> u8
     ensures { result ≡ digit_value byte }
 {
     DIGIT_VALUES[usize::from(byte)]

@@ -114,7 +114,7 @@ impl LineReader {
     pub fn has_line(&self) -> bool
         ensures { IsTrue result ↔ Contains self.now.held 10 }
     {
-        self.first_line_feed(0).is_some()
+        self.first_line_feed().is_some()
     }
 
     /// Goes to the next line, which `line` then gives, and returns whether there was one. It reads
@@ -151,7 +151,7 @@ impl LineReader {
         ensures held_first { Contains self.old.held 10 → source.new ≡ source.old }
         ensures cause { HasSourceCause result (S.faults source.old) (S.faults source.new) }
     {
-        if let Some(place) = self.first_line_feed(0) {
+        if let Some(place) = self.first_line_feed() {
             return Ok(Some(place));
         }
         self.read_to_line_feed(source)
@@ -166,8 +166,7 @@ impl LineReader {
         ensures cause { HasSourceCause result (S.faults source.old) (S.faults source.new) }
     {
         loop {
-            let searched = self.held_len();
-            if searched > LONGEST_LINE {
+            if self.held_len() > LONGEST_LINE {
                 return Err(NextRefused::LineTooLong);
             }
             if self.taken_len() > LONGEST_SCRIPT {
@@ -176,7 +175,7 @@ impl LineReader {
             if self.read_more(source)? == 0 {
                 return Ok(None);
             }
-            if let Some(place) = self.first_line_feed(searched) {
+            if let Some(place) = self.first_line_feed() {
                 return Ok(Some(place));
             }
         }
@@ -197,15 +196,13 @@ impl LineReader {
         self.window.held_len()
     }
 
-    // The place of the first line feed among the bytes held. There is none before `from`.
-    fn first_line_feed(&self, from: usize) -> Option<usize>
-        requires inside { from ≤ length self.now.held }
-        requires before { Lacks 10 (take from self.now.held) }
+    // The place of the first line feed among the bytes held.
+    fn first_line_feed(&self) -> Option<usize>
         ensures finds { MatchOption result (Lacks 10 self.now.held)
             (λ place. FeedAt place self.now.held) }
         ensures holds { IsHeld self.now }
     {
-        self.window.first_line_feed(from)
+        self.window.first_line_feed()
     }
 
     // Reads more bytes, after those held. The buffer has room for at least one.

@@ -3,12 +3,12 @@
 ghost use Rattle.std.specs.Prelude.{◌≡◌, ℕ, ◌+◌, ◌<◌, ◌≤◌, List, [], ◌∷◌, ◌++◌, length, map, take, drop};
 ghost use Rattle.std.specs.List.{AllByRecursion, join_with_byte};
 ghost use Rattle.ras_script.specs.Splitting.{AreHeldWords, lines_of, words_of};
-ghost use Rattle.ras_script.specs.Steps.Spaces.{HasNoSpace};
-ghost use Rattle.ras_script.specs.declared.spaces.TheConstants.{BLOCK_BYTES};
+ghost use Rattle.ras_script.specs.Steps.Places.{StandsNowhere};
+ghost use Rattle.ras_script.specs.declared.blocks.TheConstants.{BLOCK_BYTES};
 ghost use Rattle.ras_script.specs.SplittingLaws.{Lacks, IsWord, script_of, with_last_line_feed};
 
+use crate::blocks::{BLOCK_BYTES, lowest, places_at, without};
 use crate::kinds::MOST_WORDS;
-use crate::spaces::{BLOCK_BYTES, lowest, spaces_at, without};
 use arrayvec::ArrayVec;
 
 /// The words of a line that are held: one more than a line of any kind has, so that a line of too
@@ -44,15 +44,15 @@ fn hold_in_block<'a>(
     at: usize,
 ) -> usize
     requires ordered { first ≤ at }
-    requires unbroken { HasNoSpace line.now first at }
+    requires unbroken { StandsNowhere 32 line.now first at }
     requires room { at + BLOCK_BYTES ≤ length line.now }
     ensures ordered { result ≤ at + BLOCK_BYTES }
-    ensures unbroken { HasNoSpace line.now result (at + BLOCK_BYTES) }
+    ensures unbroken { StandsNowhere 32 line.now result (at + BLOCK_BYTES) }
     ensures held { take HELD_WORDS (map (λ word. word.now) words.new.items ++ words_of (drop result line.now))
         ≡ take HELD_WORDS (map (λ word. word.now) words.old.items ++ words_of (drop first line.now)) }
 {
     let mut start = first;
-    let mut spaces = spaces_at(line, at);
+    let mut spaces = places_at(b' ', line, at);
     while spaces != 0 {
         let bit = lowest(spaces);
         let place = at + bit;
@@ -73,7 +73,7 @@ fn hold_rest<'a>(
 )
     requires ordered { first ≤ from }
     requires within { from ≤ length line.now }
-    requires unbroken { HasNoSpace line.now first from }
+    requires unbroken { StandsNowhere 32 line.now first from }
     ensures { map (λ word. word.now) words.new.items
         ≡ take HELD_WORDS (map (λ word. word.now) words.old.items ++ words_of (drop first line.now)) }
 {

@@ -1,6 +1,7 @@
 //! The buffer of a reader of lines: the line that was given last, the bytes after it, and room.
 
 ghost use Rattle.std.specs.Prelude.{◌≡◌, ◌+◌, ◌<◌, ◌≤◌, [], ◌++◌, length, take, drop, slice_range, vec_len, IfOk, OnErr, OnOk, MatchOption};
+ghost use Rattle.ras_script.specs.Steps.Feeds.{line_feed_in};
 ghost use Rattle.board_core.specs.Cause.{HasCause};
 ghost use Rattle.board_core.specs.Takes.{Takes};
 ghost use Rattle.ras_script.specs.Steps.ReaderSteps.{FeedAt, Gains};
@@ -16,7 +17,9 @@ use std::alloc::Global;
 // A line and its line feed.
 const BUFFER_BYTES: usize = LONGEST_LINE + 1;
 
-// `bytes[line..line_end]` was given last; `bytes[start..end]` is held.
+// `bytes[line..line_end]` was given last; `bytes[start..end]` is held, and `line_feed` is the place of
+// the first line feed of these, or `end`: it is asked for twice, before a line is printed and where
+// the next one is given.
 #[derive(Drop)]
 pub(crate) struct Window {
     bytes: Vec<u8>,
@@ -24,11 +27,13 @@ pub(crate) struct Window {
     line_end: usize,
     start: usize,
     end: usize,
+    line_feed: usize,
     ghost size: { vec_len bytes ≡ BUFFER_BYTES },
     ghost line_ordered: { line ≤ line_end },
     ghost line_within: { line_end ≤ BUFFER_BYTES },
     ghost ordered: { start ≤ end },
     ghost within: { end ≤ BUFFER_BYTES },
+    ghost found: { line_feed ≡ start + line_feed_in (slice_range bytes.items start end) },
 }
 
 impl Window {
@@ -45,6 +50,7 @@ impl Window {
             line_end: 0,
             start: 0,
             end: 0,
+            line_feed: 0,
         })
     }
 
@@ -63,17 +69,15 @@ impl Window {
         self.end - self.start
     }
 
-    // The place of the first line feed among the bytes held. There is none before `from`.
-    pub(crate) fn first_line_feed(&self, from: usize) -> Option<usize>
-        requires inside { from ≤ length (held_in self.now) }
-        requires before { Lacks 10 (take from (held_in self.now)) }
+    // The place of the first line feed among the bytes held.
+    pub(crate) fn first_line_feed(&self) -> Option<usize>
         ensures { MatchOption result (Lacks 10 (held_in self.now))
             (λ place. FeedAt place (held_in self.now)) }
     {
-        let rest = &self.bytes[self.start + from..self.end];
-        match line_feed_in(rest) {
-            Some(place) => Some(from + place),
-            None => None,
+        if self.line_feed < self.end {
+            Some(self.line_feed - self.start)
+        } else {
+            None
         }
     }
 
@@ -86,6 +90,7 @@ impl Window {
         self.line = self.start;
         self.line_end = self.start + size;
         self.start = self.line_end + dropped;
+        self.line_feed = self.start + line_feed_in(&self.bytes[self.start..self.end]);
     }
 
     // Moves the bytes held to the front. They may overwrite the line that was given last.
@@ -101,6 +106,7 @@ impl Window {
             self.bytes.copy_within(start..end, 0);
             self.start = 0;
             self.end = end - start;
+            self.line_feed -= start;
         }
     }
 
@@ -120,8 +126,12 @@ impl Window {
         ensures cause { HasCause (S.faults source.old) (S.faults source.new) result }
         ensures line { line_in self.old ≡ [] → line_in self.new ≡ [] }
     {
+        let searched = self.end - self.start;
+        let found = self.line_feed - self.start;
         let count = read_after(source, &mut self.bytes, self.end, most)?;
         self.end += count;
+        let held = &self.bytes[self.start..self.end];
+        self.line_feed = self.start + line_feed_past(held, searched, found);
         Ok(count)
     }
 }
@@ -144,9 +154,28 @@ fn read_after<S: Source>(
     source.read(&mut bytes[end..end + most])
 }
 
-// The place of the first line feed.
-fn line_feed_in(bytes: &[u8]) -> Option<usize>
-    ensures { MatchOption result (Lacks 10 bytes.now) (λ place. FeedAt place bytes.now) }
+// The place of the first line feed, or the length if there is none. It is `found` of the first
+// `searched` bytes.
+fn line_feed_past(bytes: &[u8], searched: usize, found: usize) -> usize
+    requires inside { searched ≤ length bytes.now }
+    requires found { found ≡ line_feed_in (take searched bytes.now) }
+    ensures place { result ≡ line_feed_in bytes.now }
+    ensures within { result ≤ length bytes.now }
 {
-    memchr(b'\n', bytes)
+    if found < searched {
+        found
+    } else {
+        searched + line_feed_in(&bytes[searched..])
+    }
+}
+
+// The place of the first line feed, or the length if there is none.
+fn line_feed_in(bytes: &[u8]) -> usize
+    ensures place { result ≡ line_feed_in bytes.now }
+    ensures within { result ≤ length bytes.now }
+{
+    match memchr(b'\n', bytes) {
+        Some(place) => place,
+        None => bytes.len(),
+    }
 }

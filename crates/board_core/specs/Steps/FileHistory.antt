@@ -3,8 +3,8 @@ use Rattle.std.specs.Prelude.{◌≡◌, ℕ, List, [], ◌∷◌, length}
 use Rattle.std.specs.List.{flat_map}
 use Rattle.board_core.specs.declared.board.FileNo.{FileNo}
 use Rattle.board_core.specs.declared.board.FileNo.TheVariants.{Zero, One}
-use Rattle.board_core.specs.DiskModel.{Range, DiskFile, with_range}
-use Rattle.board_core.specs.MemBoard.{Change, wrote, synced, settled_file}
+use Rattle.board_core.specs.DiskModel.{settled_file, Range, DiskFile, with_range}
+use Rattle.board_core.specs.MemBoard.{Change, wrote, synced}
 use Rattle.board_core.specs.Told.{overlay}
 
 -- its bytes

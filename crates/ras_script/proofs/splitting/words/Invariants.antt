@@ -1,6 +1,6 @@
 use Rattle.std.proofs.Common.{◌≡◌, ◌-◌, ◌≤◌, ◌++◌, length, map, take, drop}
 use Rattle.ras_script.specs.Splitting.{words_of}
-use Rattle.ras_script.specs.Steps.Spaces.{HasNoSpace}
+use Rattle.ras_script.specs.Steps.Places.{StandsNowhere}
 use Rattle.ras_script.specs.declared.splitting.TheConstants.{HELD_WORDS}
 use Rattle.ras_script.proofs.splitting.words.Given as goal
 
@@ -9,7 +9,7 @@ abbrev pub invariant-loop-at : goal.invariant-loop-at
 invariant-loop-at l = record {
   ordered : l.start ≤ l.at;
   within : l.at ≤ length l.line;
-  unbroken : HasNoSpace l.line l.start l.at;
+  unbroken : StandsNowhere 32 l.line l.start l.at;
   held : take HELD_WORDS (map (λ word. word.now) l.words.items ++ words_of (drop l.start l.line)) ≡ take HELD_WORDS (words_of l.line);
 }
 

@@ -1,18 +1,18 @@
-use Rattle.std.proofs.Common.{◌+◌, ◌∙◌, ap, slice_range, arith, ℕ}
+use Rattle.std.proofs.Common.{◌-◌, ◌≡◌, arith, subst, ℕ}
 use Rattle.std.proofs.lemmas.List.{length-take, length-drop}
+use Rattle.ras_script.specs.Steps.Feeds.{line_feed_in}
+use Rattle.ras_script.specs.Steps.ReaderSteps.{FeedAt}
 use Rattle.ras_script.specs.Steps.Window.{held_in}
-use Rattle.ras_script.proofs.WindowLemmas.{dropped}
-use Rattle.ras_script.proofs.ReaderLemmas.{feed_none, feed_found}
+use Rattle.ras_script.proofs.FeedLemmas.{feed_at, no_feed}
 use Rattle.ras_script.proofs.window.Window.first_line_feed.Goals as goal
 
-pub returns-in-Some : goal.returns-in-Some
-returns-in-Some c =
+pub returns-then-self : goal.returns-then-self
+returns-then-self c =
     let w = c.args.self.now in
-    let rest = dropped w.bytes.items w.start w.end c.args.from (omega (arith, c.requires.inside, length-take {A = ℕ}, length-drop {A = ℕ})) in
-    feed_found c.args.from c.in-Some.place (held_in w) _ (ap (λ xs. slice_range xs (w.start + c.args.from) w.end) c.deref.ensures.value ∙ rest) c.requires.inside c.requires.before c.in-Some.ensures
+    let place : line_feed_in (held_in w) ≡ w.line_feed - w.start = omega (arith, w.found) in
+    subst (λ k. FeedAt k (held_in w)) place (feed_at (held_in w) (omega (arith, w.found, length-take {A = ℕ}, length-drop {A = ℕ})))
 
-pub returns-in-None : goal.returns-in-None
-returns-in-None c =
+pub returns-else-self : goal.returns-else-self
+returns-else-self c =
     let w = c.args.self.now in
-    let rest = dropped w.bytes.items w.start w.end c.args.from (omega (arith, c.requires.inside, length-take {A = ℕ}, length-drop {A = ℕ})) in
-    feed_none c.args.from (held_in w) _ (ap (λ xs. slice_range xs (w.start + c.args.from) w.end) c.deref.ensures.value ∙ rest) c.requires.before c.in-None.ensures
+    no_feed (held_in w) (omega (arith, w.found, length-take {A = ℕ}, length-drop {A = ℕ}))

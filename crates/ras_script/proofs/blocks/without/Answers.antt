@@ -3,7 +3,7 @@ use Rattle.std.specs.Int.{bit_not}
 use Rattle.std.proofs.lemmas.Nat.Bits.{bit_at_clear_same, bit_at_clear_other, bit_at_and, and_pow}
 use Rattle.std.proofs.lemmas.Nat.{and-not, and_comm}
 use Rattle.std.proofs.Math.Nat.{two-pow-succ}
-use Rattle.ras_script.proofs.spaces.without.Goals as goal
+use Rattle.ras_script.proofs.blocks.without.Goals as goal
 
 pub returns-clause-cleared : goal.returns-clause-cleared
 returns-clause-cleared c = bit_at_clear_same w64 c.args.bits c.args.bit c.requires.small

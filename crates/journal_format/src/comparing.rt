@@ -1,0 +1,63 @@
+//! Whether bytes are the checkpoint of an account that is there already.
+ghost use Rattle.std.specs.Prelude.{◌≡◌, ◌≢◌, ◌↔◌, ◌++◌, ℕ, List, IsTrue, IfOk, IfSome, None};
+ghost use Rattle.std.specs.List.{flat_map};
+ghost use Rattle.entry_format.specs.declared.version.Version.TheVariants.{Two};
+ghost use Rattle.entry_format.specs.Spelling.{name_bytes};
+ghost use Rattle.journal_format.specs.Checkpoints.{IsCheckpoint};
+
+use crate::blocks::{BLOCK_BYTES, BLOCK_NAMES, put_names};
+use crate::encoding::{push_front, push_modules, push_pages, tell_account};
+use ras_account::Account;
+use ras_base::NoMemory;
+use ras_base::little_endian::push_u64;
+use std::alloc::Global;
+
+// The bytes after a piece at their front, or none if they don't begin with it.
+fn after<'a>(piece: &[u8], bytes: &'a [u8]) -> Option<&'a [u8]>
+    ensures some { IfSome result (λ rest. bytes.now ≡ piece.now ++ rest.now) }
+    ensures none { result ≡ None → (rest : List ℕ) → bytes.now ≢ piece.now ++ rest }
+{
+    bytes.strip_prefix(piece)
+}
+
+// The bytes after the names of an account at their front, or none if they don't begin with them.
+fn after_names<'a>(account: &Account, bytes: &'a [u8]) -> Option<&'a [u8]>
+    ensures some { IfSome result (λ rest. bytes.now
+        ≡ flat_map name_bytes account.now.state.names ++ rest.now) }
+    ensures none { result ≡ None → (rest : List ℕ)
+        → bytes.now ≢ flat_map name_bytes account.now.state.names ++ rest }
+{
+    let mut room = [0; BLOCK_BYTES];
+    let mut rest = bytes;
+    // The last block may have no name.
+    for block in 0..account.names_len() / BLOCK_NAMES + 1 {
+        let end = put_names(&mut room, account, block * BLOCK_NAMES);
+        match after(&room[..end], rest) {
+            Some(later) => rest = later,
+            None => return None,
+        }
+    }
+    Some(rest)
+}
+
+/// Whether bytes are the checkpoint of an account in version 2. No other account is made of them.
+///
+/// The answer is `NoMemory` if memory runs out.
+pub fn is_checkpoint_of(alloc: Global, account: &Account, bytes: &[u8]) -> Result<bool, NoMemory>
+    ensures { IfOk result (λ same. IsTrue same ↔ IsCheckpoint Two account.now.state bytes.now) }
+{
+    tell_account(account);
+    let mut front = Vec::new(alloc);
+    push_front(&mut front, account)?;
+    push_u64(&mut front, account.names_len() as u64)?;
+    let Some(rest) = after(&front, bytes) else {
+        return Ok(false);
+    };
+    let Some(rest) = after_names(account, rest) else {
+        return Ok(false);
+    };
+    let mut rows = Vec::new(alloc);
+    push_modules(&mut rows, account)?;
+    push_pages(&mut rows, account)?;
+    Ok(rest == rows.as_slice())
+}

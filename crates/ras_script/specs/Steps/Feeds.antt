@@ -1,0 +1,7 @@
+-- The first line feed of a text.
+use Rattle.std.specs.Prelude.{ℕ, ◌==◌, List}
+use Rattle.std.specs.List.{position_or_len}
+
+-- its place, or the text's length if there is none
+abbrev pub line_feed_in : List ℕ → ℕ
+line_feed_in text = position_or_len (λ b. b == 10) text
