@@ -22,14 +22,21 @@ static int module_count, socket_of[65536];
 
 /* The journal: its files, or what would be in them, the current one, and the gate at the end of its chain. */
 static int fd[2] = {-1, -1}, is_shut[2], current;
+static size_t size[2];
 static Text file[2], out, text, front, link_;
 static u64 generation, links, line_count;
 static size_t gate;
 
+/* Syncs a file, a short one whole. */
+static void sync_file(int f) {
+	if (size[f] <= 4096 ? fsync(fd[f]) : fdatasync(fd[f])) fail("a journal file can't be synced");
+}
 /* Writes into a file and syncs it, or into its copy in memory. */
 static void put(int f, size_t at, const void *p, size_t n) {
 	if (fd[f] >= 0) {
-		if (pwrite(fd[f], p, n, at) != (ssize_t)n || fdatasync(fd[f])) fail("a write failed");
+		if (pwrite(fd[f], p, n, at) != (ssize_t)n) fail("a write failed");
+		if (at + n > size[f]) size[f] = at + n;
+		sync_file(f);
 		return;
 	}
 	size_t after = file[f].n - at, over = n < after ? n : after;
@@ -114,8 +121,8 @@ static void open_journal(void) {
 	close(folder);
 	for (int f = 0; f < 2; f++) {
 		u64 its = 0;
-		if (fdatasync(fd[f])) fail("a journal file can't be synced");
-		file[f].n = lseek(fd[f], 0, SEEK_END);
+		size[f] = file[f].n = lseek(fd[f], 0, SEEK_END);
+		sync_file(f);
 		file[f].b = malloc(file[f].n + 1);
 		if (!file[f].b || pread(fd[f], file[f].b, file[f].n, 0) != (ssize_t)file[f].n) fail("a journal file can't be read");
 		is_shut[f] = file[f].n > 1 && (u8)file[f].b[0] != OPEN_GATE;

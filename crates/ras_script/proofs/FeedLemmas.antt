@@ -42,7 +42,7 @@ feed_found text (Some place) is =
 
 -- one in the first of two texts, or in the second
 pub feed_kept : (front back : List ℕ) → line_feed_in front < length front → line_feed_in (front ++ back) ≡ line_feed_in front
-feed_kept front back inside = 
+feed_kept front back inside =
     let other : eqb (line_feed_in front) (length front) ≡ false = grind (arith, nat_tests, inside) in
     prefix_len-append (λ b. not (b == 10)) front back ∙ rw other refl
 
