@@ -13,10 +13,8 @@ tied=("$here/tied")
 # Each line for rasd is passed on whole, or not at all.
 whole=("$here/whole-lines" --most 4096)
 
-# Of each memory error that the firmware reports the kernel makes up a machine check of bank 255, which no processor has;
-# service/ghes-lines gives that error. Comments, of what a filter left out, do nothing in a run, so they are told.
-copy='^bank [0-9]+ [0-9]+ [0-9]+ 255 '
-pass_on=("${whole[@]}" --tell "^#|$copy" "feed: left out" --without "$copy")
+# Comments, of what a filter left out, do nothing in a run, so they are told.
+pass_on=("${whole[@]}" --tell '^#' "feed: left out")
 
 # Sets make_lines to the command that makes lines of this boot's log. A piece ends before a report.
 log_filter() {

@@ -8,11 +8,11 @@ function is_decimal(word, most) {
 function is_head(text) {
     sub(/^<[0-9]+>/, "", text)
     sub(/^kern *:[a-z]+ *: /, "", text)
-    sub(/^[A-Z][a-z][a-z] [ 0-9][0-9] [0-9:.]+ [^ ]+ kernel: /, "", text)
-    sub(/^[0-9]+-[0-9]+-[0-9]+T[0-9:.,+-]+Z? ([^ ]+ kernel: )?/, "", text)
+    sub(/^[A-Z][a-z][a-z] [ 0-9][0-9] [0-9:.]+ [A-Za-z0-9._-]+ kernel: /, "", text)
+    sub(/^[0-9]+-[0-9]+-[0-9]+T[0-9:.,+-]+Z? ([A-Za-z0-9._-]+ kernel: )?/, "", text)
     sub(/^\[[A-Z][a-z][a-z] [A-Z][a-z][a-z] [ 0-9][0-9] [0-9:]+ [0-9]+\] /, "", text)
     sub(/^\[ *[0-9]+\.[0-9]+\](\[ *[A-Z][0-9]+\])? /, "", text)
-    sub(/^[^ ]+ kernel: /, "", text)
+    sub(/^[A-Za-z0-9._-]+ kernel: /, "", text)
     return text == ""
 }
 # The microseconds in the brackets of a line, or nothing.

@@ -143,7 +143,7 @@ def log_start(chance):
     """The line of a log that begins a report, or nearly does."""
     word = chance.choice(("Machine Check:", "Machine Check Exception:"))
     end = chance.choice(("", "", "", " ", "  ", "\r", " x"))
-    bank, status = chance.choice((7, 7, 8, 256)), chance.choice(STATUSES)
+    bank, status = chance.choice((7, 7, 8, 255, 256)), chance.choice(STATUSES)
     return f"CPU {chance.choice((0, 1, 65_535))}: {word} {chance.randrange(8)} Bank {bank}: {status}{end}"
 
 
@@ -162,11 +162,13 @@ def log_time(chance):
 
 HEADS = (
     "mce: ", "[   12.500001] mce: ", "[   12.500002] node7 kernel: mce: ", "<0>[    0.000000] mce: ",
-    "Nov 29 13:35:57 node7 kernel: mce: ",
+    "Nov 29 13:35:57 node7 kernel: mce: ", "0,1234,12500003,-;mce: ", "[Sun Nov 29 13:36:01 2026] mce: ",
 )  # fmt: skip
 ODD_HEADS = (
     "", "[ 1.5] mce: ", "usb 1-1: Product: mce: ", "[   12.500001] node7 kernel: usb 1-1: Product: mce: ", "kernel: x: mce: ",
     "[18446744073709.551616] mce: ", "[18446744073709.551615] mce: ", "mce:", "node7 mce: ", "[   12.500001][    T7] mce: ",
+    "[   12.500001] /x kernel: mce: ", "[12/x] mce: ", "0,1234,x,-;mce: ", "0,1,9999999999999999999,c,caller=T1;mce: ",
+    "Sun 2026-11-29 13:36:01 UTC node7 kernel: mce: ", "Nov 29 x node7 kernel: mce: ", "<x>[ 1.5] mce: ", "kern  :emerg : [ 1.5] mce: ",
 )  # fmt: skip
 
 
@@ -203,8 +205,10 @@ def event(chance):
     if chance.random() < 0.2:
         place = chance.randrange(len(parts))
         parts[place : place + chance.randrange(2)] = chance.choice(([], [chance.choice(parts)], ["MISC: 0"], ["x", "a: b"]))
-    stamp = chance.choice(("12.500001:", "12.500001:", "12.500002:", "18446744073709.551615:", "12.5:", "12500001:", ""))
-    front = chance.choice(("kworker/0:1-7 [000] ..... ", "a b-1 [000] d..1. ", "mce_record: ", "9.000001: x-1 "))
+    stamps = ("12.500001:", "12.500001:", "12.500002:", "18446744073709.551615:", "12.5:", "12500001:", "", "12us:", "1.0: exec: x=")
+    stamp = chance.choice(stamps)
+    fronts = ("kworker/0:1-7 [000] ..... ",) * 3 + ("a b-1 [000] d..1. ", "mce_record: ", "9.000001: x-1 ")
+    front = chance.choice(fronts)
     mark = chance.choice(("mce_record: ",) * 12 + ("mce:mce_record: ", "mce_record:          ", "mce_record:", "mce_record "))
     return f"{front}{stamp} {mark}{', '.join(parts)}"
 

@@ -7,6 +7,7 @@ use Rattle.std.specs.Option.{option_map_or}
 use Rattle.ras_klog.specs.Reading.{read_then}
 use Rattle.ras_script.proofs.WrittenNumberLemmas.{decimal_read, hexadecimal_read}
 use Rattle.ras_script.specs.LineLaws.{hexadecimal}
+use Rattle.ras_script.specs.Lines.{without_last}
 use Rattle.ras_script.specs.SplittingLaws.{Lacks}
 use Rattle.bank_lines.specs.declared.event.TraceEvent.{TraceEvent}
 use Rattle.bank_lines.specs.declared.event.Fields.{Fields}
@@ -172,10 +173,9 @@ module _ (p : Printed) (h : IsPrinted p) where
   slashed_after : fields_after f3 (
       (codes " ADDR/MISC/SYND: " ++ (register p.event.addr ++ 47 ∷ (register p.event.misc ++ 47 ∷ register p.synd)))
       ∷ place_field p ∷ (codes " TSC: " ++ hexadecimal p.event.tsc) ∷ (codes " PROCESSOR: " ++ (decimal p.event.vendor ++ 58 ∷ hexadecimal p.cpuid))
-      ∷ (codes " TIME: " ++ decimal p.event.seconds) ∷ (codes " SOCKET: " ++ decimal p.socket) ∷ (codes " APIC: " ++ hexadecimal p.apic) ∷ []) ≡ Some f7
+      ∷ (codes " TIME: " ++ decimal p.event.seconds) ∷ (codes " SOCKET: " ++ decimal p.socket) ∷ []) ≡ Some f7
   slashed_after =
-      let t7 : List (List ℕ) = [] in
-      let t6 : List (List ℕ) = (codes " APIC: " ++ hexadecimal p.apic) ∷ t7 in
+      let t6 : List (List ℕ) = [] in
       let t5 : List (List ℕ) = (codes " SOCKET: " ++ decimal p.socket) ∷ t6 in
       let t4 : List (List ℕ) = (codes " TIME: " ++ decimal p.event.seconds) ∷ t5 in
       let t3 : List (List ℕ) = (codes " PROCESSOR: " ++ (decimal p.event.vendor ++ 58 ∷ hexadecimal p.cpuid)) ∷ t4 in
@@ -187,7 +187,6 @@ module _ (p : Printed) (h : IsPrinted p) where
       ∙ step f5 f6 (codes " PROCESSOR: " ++ (decimal p.event.vendor ++ 58 ∷ hexadecimal p.cpuid)) t4 processor_took
       ∙ step f6 f7 (codes " TIME: " ++ decimal p.event.seconds) t5 time_took
       ∙ step f7 f7 (codes " SOCKET: " ++ decimal p.socket) t6 refl
-      ∙ step f7 f7 (codes " APIC: " ++ hexadecimal p.apic) t7 refl
 
   -- ---- the other forms
 
@@ -209,10 +208,9 @@ module _ (p : Printed) (h : IsPrinted p) where
   named_after : (more : List (List ℕ)) → fields_after f7 more ≡ Some f7 → fields_after f3 (
       (codes " ADDR: " ++ register p.event.addr) ∷ (codes " MISC: " ++ register p.event.misc) ∷ (codes " SYND: " ++ register p.synd) ∷ place_field p
       ∷ (codes " TSC: " ++ hexadecimal p.event.tsc) ∷ (codes " PPIN: " ++ hexadecimal p.ppin) ∷ (codes " vendor: " ++ decimal p.event.vendor) ∷ (codes " CPUID: " ++ hexadecimal p.cpuid)
-      ∷ (codes " time: " ++ decimal p.event.seconds) ∷ (codes " socket: " ++ decimal p.socket) ∷ (codes " APIC: " ++ hexadecimal p.apic) ∷ (codes " microcode: " ++ hexadecimal p.microcode) ∷ more) ≡ Some f7
+      ∷ (codes " time: " ++ decimal p.event.seconds) ∷ (codes " socket: " ++ decimal p.socket) ∷ (codes " APIC: " ++ hexadecimal p.apic) ∷ more) ≡ Some f7
   named_after more rest =
-      let t12 : List (List ℕ) = more in
-      let t11 : List (List ℕ) = (codes " microcode: " ++ hexadecimal p.microcode) ∷ t12 in
+      let t11 : List (List ℕ) = more in
       let t10 : List (List ℕ) = (codes " APIC: " ++ hexadecimal p.apic) ∷ t11 in
       let t9 : List (List ℕ) = (codes " socket: " ++ decimal p.socket) ∷ t10 in
       let t8 : List (List ℕ) = (codes " time: " ++ decimal p.event.seconds) ∷ t9 in
@@ -234,16 +232,20 @@ module _ (p : Printed) (h : IsPrinted p) where
       ∙ step f6 f7 (codes " time: " ++ decimal p.event.seconds) t9 seconds_took
       ∙ step f7 f7 (codes " socket: " ++ decimal p.socket) t10 refl
       ∙ step f7 f7 (codes " APIC: " ++ hexadecimal p.apic) t11 refl
-      ∙ step f7 f7 (codes " microcode: " ++ hexadecimal p.microcode) t12 refl
       ∙ rest
 
-  bytes_after : (byte : ℕ) (bytes : List ℕ) → fields_after f7 (data_from byte bytes) ≡ Some f7
-  bytes_after byte [] = step f7 f7 (codes "0x" ++ (hexadecimal byte ++ codes "}")) [] refl
-  bytes_after byte (first ∷ bytes) = step f7 f7 (codes "0x" ++ hexadecimal first) (data_from byte bytes) refl ∙ bytes_after byte bytes
+  -- bytes of vendor data behind a part that isn't wanted, without the last one
+  bytes_after : (byte : ℕ) (bytes part : List ℕ) → took f7 part ≡ Some f7 → fields_after f7 (without_last (part ∷ data_from byte bytes)) ≡ Some f7
+  bytes_after byte [] part is = step f7 f7 part [] is
+  bytes_after byte (first ∷ bytes) part is =
+      step f7 f7 part (without_last ((codes "0x" ++ hexadecimal first) ∷ data_from byte bytes)) is
+      ∙ bytes_after byte bytes (codes "0x" ++ hexadecimal first) refl
 
-  data_after : (byte : ℕ) (bytes : List ℕ) → fields_after f7 (data_fields byte bytes) ≡ Some f7
-  data_after byte [] = step f7 f7 (codes " vendor data: {0x" ++ (hexadecimal byte ++ codes "}")) [] refl
-  data_after byte (first ∷ bytes) = step f7 f7 (codes " vendor data: {0x" ++ hexadecimal first) (data_from byte bytes) refl ∙ bytes_after byte bytes
+  data_after : (byte : ℕ) (bytes : List ℕ) → fields_after f7 (without_last ((codes " microcode: " ++ hexadecimal p.microcode) ∷ data_fields byte bytes)) ≡ Some f7
+  data_after byte [] = step f7 f7 (codes " microcode: " ++ hexadecimal p.microcode) [] refl
+  data_after byte (first ∷ bytes) =
+      step f7 f7 (codes " microcode: " ++ hexadecimal p.microcode) (without_last ((codes " vendor data: {0x" ++ hexadecimal first) ∷ data_from byte bytes)) refl
+      ∙ bytes_after byte bytes (codes " vendor data: {0x" ++ hexadecimal first) refl
 
   -- ---- no field holds a comma
 
@@ -357,11 +359,11 @@ spaces_lack (suc n) = ((λ (e : ◌≡◌ {A = ℕ} 32 44). omega (arith, e)), s
 -- fields that are read, behind any number of spaces
 read_fields : (e : TraceEvent) (g : Fields) (spaces : ℕ) (first second : List ℕ) (more : List (List ℕ))
     → AllByRecursion (Lacks 44) ((replicate spaces 32 ++ first) ∷ second ∷ more)
-    → fields_after no_fields ((replicate spaces 32 ++ first) ∷ second ∷ more) ≡ Some g → whole_event g ≡ Some e
+    → fields_after no_fields (without_last ((replicate spaces 32 ++ first) ∷ second ∷ more)) ≡ Some g → whole_event g ≡ Some e
     → event_in (replicate spaces 32 ++ join_with_byte 44 (first ∷ second ∷ more)) ≡ Some e
 read_fields e g spaces first second more lack after is =
     ap event_in (sym (append_assoc (replicate spaces 32) first (44 ∷ join_with_byte 44 (second ∷ more))))
-    ∙ ap (λ (parts : List (List ℕ)). read_then (fields_after no_fields parts) whole_event) (fields_split ((replicate spaces 32 ++ first) ∷ second ∷ more) (omega arith) lack)
+    ∙ ap (λ (parts : List (List ℕ)). read_then (fields_after no_fields (without_last parts)) whole_event) (fields_split ((replicate spaces 32 ++ first) ∷ second ∷ more) (omega arith) lack)
     ∙ ap (λ (o : Option Fields). read_then o whole_event) after
     ∙ is
 
@@ -369,30 +371,37 @@ read_fields e g spaces first second more lack after is =
 abbrev others : Printed → List (List ℕ) → List (List ℕ)
 others p more = (codes " MC" ++ (decimal p.event.bank ++ 58 ∷ 32 ∷ register p.event.status)) ∷ (codes " IPID: " ++ register p.ipid) ∷ more
 
-abbrev pub slashed_more : Printed → List (List ℕ)
-slashed_more p =
-    (codes " ADDR/MISC/SYND: " ++ (register p.event.addr ++ 47 ∷ (register p.event.misc ++ 47 ∷ register p.synd)))
-    ∷ place_field p ∷ (codes " TSC: " ++ hexadecimal p.event.tsc) ∷ (codes " PROCESSOR: " ++ (decimal p.event.vendor ++ 58 ∷ hexadecimal p.cpuid))
+abbrev slashed_rest : Printed → List (List ℕ)
+slashed_rest p =
+    place_field p ∷ (codes " TSC: " ++ hexadecimal p.event.tsc) ∷ (codes " PROCESSOR: " ++ (decimal p.event.vendor ++ 58 ∷ hexadecimal p.cpuid))
     ∷ (codes " TIME: " ++ decimal p.event.seconds) ∷ (codes " SOCKET: " ++ decimal p.socket) ∷ (codes " APIC: " ++ hexadecimal p.apic) ∷ []
 
-abbrev pub named_more : Printed → List (List ℕ) → List (List ℕ)
-named_more p more =
-    (codes " ADDR: " ++ register p.event.addr) ∷ (codes " MISC: " ++ register p.event.misc) ∷ (codes " SYND: " ++ register p.synd) ∷ place_field p
+abbrev pub slashed_more : Printed → List (List ℕ)
+slashed_more p = (codes " ADDR/MISC/SYND: " ++ (register p.event.addr ++ 47 ∷ (register p.event.misc ++ 47 ∷ register p.synd))) ∷ slashed_rest p
+
+abbrev named_rest : Printed → List (List ℕ) → List (List ℕ)
+named_rest p more =
+    (codes " MISC: " ++ register p.event.misc) ∷ (codes " SYND: " ++ register p.synd) ∷ place_field p
     ∷ (codes " TSC: " ++ hexadecimal p.event.tsc) ∷ (codes " PPIN: " ++ hexadecimal p.ppin) ∷ (codes " vendor: " ++ decimal p.event.vendor) ∷ (codes " CPUID: " ++ hexadecimal p.cpuid)
     ∷ (codes " time: " ++ decimal p.event.seconds) ∷ (codes " socket: " ++ decimal p.socket) ∷ (codes " APIC: " ++ hexadecimal p.apic) ∷ (codes " microcode: " ++ hexadecimal p.microcode) ∷ more
 
+abbrev pub named_more : Printed → List (List ℕ) → List (List ℕ)
+named_more p more = (codes " ADDR: " ++ register p.event.addr) ∷ named_rest p more
+
 -- the fields behind the first four
-with_more : (p : Printed) (h : IsPrinted p) (spaces : ℕ) (more : List (List ℕ)) → AllByRecursion (Lacks 44) more → fields_after (f3 p h) more ≡ Some (f7 p h)
-    → event_in (replicate spaces 32 ++ join_with_byte 44 (first_fields p more)) ≡ Some p.event
-with_more p h spaces more lack after =
-    read_fields p.event (f7 p h) spaces (codes "CPU: " ++ decimal p.event.cpu) (codes " MCGc/s: " ++ (hexadecimal p.event.cap ++ 47 ∷ hexadecimal p.event.mcg)) (others p more)
-    (first_lack p h spaces more lack (spaces_lack spaces))
-    (first_after p h spaces more ∙ after) refl
+with_more : (p : Printed) (h : IsPrinted p) (spaces : ℕ) (next : List ℕ) (more : List (List ℕ)) → AllByRecursion (Lacks 44) (next ∷ more)
+    → fields_after (f3 p h) (without_last (next ∷ more)) ≡ Some (f7 p h)
+    → event_in (replicate spaces 32 ++ join_with_byte 44 (first_fields p (next ∷ more))) ≡ Some p.event
+with_more p h spaces next more lack after =
+    read_fields p.event (f7 p h) spaces (codes "CPU: " ++ decimal p.event.cpu) (codes " MCGc/s: " ++ (hexadecimal p.event.cap ++ 47 ∷ hexadecimal p.event.mcg)) (others p (next ∷ more))
+    (first_lack p h spaces (next ∷ more) lack (spaces_lack spaces))
+    (first_after p h spaces (without_last (next ∷ more)) ∙ after) refl
 
 pub event_read : (form : Form) (p : Printed) (spaces : ℕ) → IsPrinted p → event_in (replicate spaces 32 ++ event_text form p) ≡ Some p.event
-event_read linux_5_10 p spaces h = with_more p h spaces (slashed_more p) (slashed_lack p h) (slashed_after p h)
-event_read linux_6_12 p spaces h = with_more p h spaces (named_more p []) (named_lack p h [] tt) (named_after p h [] refl)
+event_read linux_5_10 p spaces h = with_more p h spaces (codes " ADDR/MISC/SYND: " ++ (register p.event.addr ++ 47 ∷ (register p.event.misc ++ 47 ∷ register p.synd))) (slashed_rest p) (slashed_lack p h) (slashed_after p h)
+event_read linux_6_12 p spaces h = with_more p h spaces (codes " ADDR: " ++ register p.event.addr) (named_rest p []) (named_lack p h [] tt) (named_after p h [] refl)
 event_read linux_7_2 p spaces h =
     let n = h.numbers.1.1.1.1.1.1.1.1.1.1.1.1.1.1.1.1.1 in
     let tail : List (List ℕ) = data_fields p.byte p.bytes in
-    with_more p h spaces (named_more p tail) (named_lack p h tail (data_lack p.byte p.bytes n.0 n.1)) (named_after p h tail (data_after p h p.byte p.bytes))
+    let last : List (List ℕ) = without_last ((codes " microcode: " ++ hexadecimal p.microcode) ∷ tail) in
+    with_more p h spaces (codes " ADDR: " ++ register p.event.addr) (named_rest p tail) (named_lack p h tail (data_lack p.byte p.bytes n.0 n.1)) (named_after p h last (data_after p h p.byte p.bytes))

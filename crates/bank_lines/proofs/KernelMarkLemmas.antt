@@ -1,5 +1,5 @@
 -- No form of the event's text holds an underscore, so the mark before it is the line's last.
-use Rattle.std.proofs.Common.{◌≡◌, ℕ, zero, suc, ◌+◌, ◌^◌, ◌<◌, ◌==◌, ◌&&◌, Bool, true, false, nat_eq, List, [], ◌∷◌, ◌++◌, codes, decimal, take, drop, length, refl, sym, ap, ◌∙◌, arith, append_assoc, length-append, Option, Some, None}
+use Rattle.std.proofs.Common.{◌≡◌, ℕ, zero, suc, ◌+◌, ◌^◌, ◌<◌, ◌==◌, ◌&&◌, Bool, true, false, if◌then◌else◌, nat_eq, List, [], ◌∷◌, ◌++◌, codes, decimal, take, drop, length, refl, sym, ap, ◌∙◌, arith, append_assoc, length-append, Option, Some, None}
 use Rattle.std.specs.Prelude.{not, replicate}
 use Rattle.std.proofs.Math.Seq.{take-append_seam}
 use Rattle.std.proofs.lemmas.Bool.Decides.{nat_tests}
@@ -12,7 +12,7 @@ use Rattle.bank_lines.specs.declared.event.TraceEvent.{TraceEvent}
 use Rattle.bank_lines.specs.declared.found.Finding.TheVariants.{Nothing, Unread}
 use Rattle.bank_lines.specs.TraceEvent.{event_in}
 use Rattle.bank_lines.specs.Kernel.{Form, IsPrinted, Printed, data_fields, data_from, event_text, fields_of, linux_5_10, linux_6_12, linux_7_2, padded, place_field, register}
-use Rattle.bank_lines.specs.Trace.{event_found, found_at, last_mark, event_mark, one_on, trace_found}
+use Rattle.bank_lines.specs.Trace.{event_found, found_at, is_traced, last_mark, event_mark, one_on, trace_found}
 use Rattle.bank_lines.proofs.KernelLawLemmas.{event_read, named_more, slashed_more}
 use Rattle.bank_lines.proofs.KernelLemmas.{padded_lacks}
 use Rattle.bank_lines.proofs.NumeralLemmas.{decimal_lacks, hexadecimal_lacks, lack_both, literal_lacks}
@@ -252,18 +252,19 @@ mark_behind (b ∷ before) text lacks =
     ap (λ (o : Option ℕ). one_on o (starts_with nat_eq (b ∷ (before ++ (event_mark ++ text))) event_mark)) (mark_behind before text lacks) ∙ ap Some next
 
 -- what is found in a line whose text behind the mark is read, and holds no underscore
-found_behind : (boot : ℕ) (before text : List ℕ) (e : TraceEvent) → Lacks 95 text → event_in text ≡ Some e → trace_found boot (before ++ (event_mark ++ text)) ≡ event_found boot before e
-found_behind boot before text e lacks reads =
+found_behind : (boot : ℕ) (before text : List ℕ) (e : TraceEvent) → is_traced before ≡ true → Lacks 95 text → event_in text ≡ Some e → trace_found boot (before ++ (event_mark ++ text)) ≡ event_found boot before e
+found_behind boot before text e traced lacks reads =
     let line : List ℕ = before ++ (event_mark ++ text) in
     let front : take (length before) line ≡ before = take-append_seam before (event_mark ++ text) in
     let size : length before + 12 ≡ length (before ++ event_mark) = omega (arith, length-append before event_mark) in
     let behind : drop (length before + 12) line ≡ text = ap (drop (length before + 12)) (sym (append_assoc before event_mark text)) ∙ drop_at (before ++ event_mark) text (length before + 12) (sym size) in
     ap (λ (o : Option ℕ). option_map_or (found_at boot line) o Nothing) (mark_behind before text lacks)
-    ∙ ap (λ (t : List ℕ). option_map_or (event_found boot t) (event_in (drop (length before + 12) line)) Unread) front
+    ∙ ap (λ (t : List ℕ). if is_traced t then option_map_or (event_found boot t) (event_in (drop (length before + 12) line)) Unread else Unread) front
+    ∙ ap (λ (t : Bool). if t then option_map_or (event_found boot before) (event_in (drop (length before + 12) line)) Unread else Unread) traced
     ∙ ap (λ (t : List ℕ). option_map_or (event_found boot before) (event_in t) Unread) behind
     ∙ ap (λ (o : Option TraceEvent). option_map_or (event_found boot before) o Unread) reads
 
-pub line_read : (boot : ℕ) (before : List ℕ) (form : Form) (p : Printed) (spaces : ℕ) → IsPrinted p
+pub line_read : (boot : ℕ) (before : List ℕ) (form : Form) (p : Printed) (spaces : ℕ) → IsPrinted p → is_traced before ≡ true
     → trace_found boot (before ++ (event_mark ++ (replicate spaces 32 ++ event_text form p))) ≡ event_found boot before p.event
-line_read boot before form p spaces h =
-    found_behind boot before (replicate spaces 32 ++ event_text form p) p.event (text_lacks form p spaces h) (event_read form p spaces h)
+line_read boot before form p spaces h traced =
+    found_behind boot before (replicate spaces 32 ++ event_text form p) p.event traced (text_lacks form p spaces h) (event_read form p spaces h)

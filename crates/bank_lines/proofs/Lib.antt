@@ -15,3 +15,5 @@ mod KernelLemmas
 mod KernelLawLemmas
 mod KernelMarkLemmas
 mod LogLineLemmas
+mod LinesLawLemmas
+mod EventLemmas

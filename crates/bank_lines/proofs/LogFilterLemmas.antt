@@ -1,5 +1,5 @@
 -- The filter by the report in work makes what the groups of the lines tell.
-use Rattle.std.proofs.Common.{◌≡◌, ℕ, ◌+◌, ◌==◌, Bool, true, false, not, List, [], ◌∷◌, ◌++◌, length, map, drop, refl, sym, ap, ◌∙◌, arith, Ok, Option, None, if◌then◌else◌}
+use Rattle.std.proofs.Common.{◌≡◌, ℕ, ◌+◌, ◌==◌, ◌&&◌, Bool, true, false, not, List, [], ◌∷◌, ◌++◌, length, map, drop, refl, sym, ap, ◌∙◌, arith, Ok, Option, None, if◌then◌else◌}
 use Rattle.std.proofs.Math.Path.{fun_ext}
 use Rattle.std.proofs.lemmas.List.{append-nil, drop_at, length-append}
 use Rattle.std.proofs.lemmas.Grind.{flat_map-append}
@@ -7,17 +7,20 @@ use Rattle.std.specs.List.{flat_map}
 use Rattle.mca_status.specs.Registers.{valid}
 use Rattle.ras_facts.specs.Facts.{status_in}
 use Rattle.ras_klog.specs.Klog.{added}
-use Rattle.ras_klog.specs.Stages.{at_start, has_place, out_at, stage_after}
+use Rattle.ras_klog.specs.Stages.{at_start, has_place, out_at, out_at_end, stage_after}
 use Rattle.ras_klog.specs.declared.line.KlogLine.TheVariants.{Other}
 use Rattle.ras_klog.specs.declared.state.KlogOut.{KlogOut}
 use Rattle.ras_klog.specs.declared.state.KlogOut.TheVariants as Told
 use Rattle.ras_klog.specs.declared.state.Stage.{Stage}
 use Rattle.ras_klog.specs.declared.state.Stage.TheVariants.{Idle, Begun, Timed}
+use Rattle.ras_facts.specs.declared.bank.BankReport.{BankReport}
+use Rattle.ras_script.specs.SplittingLaws.{script_of}
+use Rattle.bank_lines.specs.Finding.{is_torn, lacks_address, log_found_of, without_address}
 use Rattle.bank_lines.specs.LogAlong.{answers_along, log_found_at, found_at_end, log_at_start, rest_along, state_after, state_over}
-use Rattle.bank_lines.specs.LogFilter.{log_answers_after, early_lines, founds_of, founds_text, is_passed, log_answers, log_filter, log_rest, passed_text, work_after}
-use Rattle.bank_lines.specs.LogGroups.{found_told, klog_part, with_counter}
+use Rattle.bank_lines.specs.LogFilter.{comment_at, comment_text, log_answers_after, early_lines, founds_of, founds_text, group_text, log_answers, log_filter, log_rest, tells_torn, work_after}
+use Rattle.bank_lines.specs.LogGroups.{found_told, klog_part, polled_counter, with_counter}
 use Rattle.bank_lines.specs.LogLines.{log_line_of}
-use Rattle.bank_lines.specs.Texts.{found_text}
+use Rattle.bank_lines.specs.Texts.{asking_line, found_text, torn_line, unread_line}
 use Rattle.bank_lines.specs.declared.found.Finding.{Finding}
 use Rattle.bank_lines.specs.declared.log_line.LogLine.{LogLine}
 use Rattle.bank_lines.specs.declared.log_line.LogLine.TheVariants.{Nothing, Unread, Part}
@@ -30,34 +33,54 @@ added_is begun more text is = ap (drop (length begun)) is ∙ drop_at begun more
 
 -- ---- one line
 
--- the number of a line matters to nothing that is found in a group
-number_free : (n count : ℕ) (stamp : Option ℕ) (vendor : ℕ) (out : KlogOut)
-    → found_text n (found_told count stamp vendor out) ≡ found_text 0 (found_told count stamp vendor out)
-number_free n count stamp vendor Told.Nothing = refl
-number_free n count stamp vendor (Told.Partial cpu bank) = refl
-number_free n count stamp vendor (Told.Whole report) = by (vendor == 0) (valid (status_in (with_counter count stamp report)))
-  where
-    by : (intel is_valid : Bool)
-        → found_text n (if intel then (if is_valid then Finding.Whole (with_counter count stamp report) else Finding.Nothing) else Finding.Foreign vendor report.cpu report.bank)
-        ≡ found_text 0 (if intel then (if is_valid then Finding.Whole (with_counter count stamp report) else Finding.Nothing) else Finding.Foreign vendor report.cpu report.bank)
-    by true true = refl
-    by true false = refl
-    by false true = refl
-    by false false = refl
+abbrev kind : BankReport → Bool → Bool → Bool → Finding
+kind r is_valid firmware lacks =
+    if is_valid then (if firmware then Finding.Firmware r.cpu else (if lacks then Finding.Torn (without_address r) else Finding.Whole r)) else Finding.Nothing
 
--- a line is told as passed over, or by what is found in its group
+-- a report by another counter is of the same kind
+kind_text : (n : ℕ) (r s : BankReport) (is_valid firmware lacks : Bool)
+    → found_text n (kind r is_valid firmware lacks)
+    ≡ (if is_torn (kind s is_valid firmware lacks) then script_of (torn_line n ∷ []) else []) ++ group_text (kind r is_valid firmware lacks)
+kind_text n r s true true lacks = refl
+kind_text n r s true false true =
+    flat_map-append (λ (line : List ℕ). line ++ 10 ∷ []) (torn_line n ∷ []) (asking_line (without_address r) ∷ [])
+kind_text n r s true false false = refl
+kind_text n r s false firmware lacks = refl
+
+counted_text : (n counter : ℕ) (report : BankReport) (none : Bool)
+    → found_text n (log_found_of (if none then record report { tsc = counter } else report))
+    ≡ (if is_torn (log_found_of report) then script_of (torn_line n ∷ []) else []) ++ group_text (log_found_of (if none then record report { tsc = counter } else report))
+counted_text n counter report true = kind_text n (record report { tsc = counter }) report (valid (status_in report)) (report.bank == 255) (lacks_address report)
+counted_text n counter report false = kind_text n report report (valid (status_in report)) (report.bank == 255) (lacks_address report)
+
+-- what is told of a report, by its comment and what is found in its group
+told_text : (n count : ℕ) (stamp : Option ℕ) (vendor : ℕ) (out : KlogOut)
+    → found_text n (found_told count stamp vendor out)
+    ≡ (if tells_torn vendor out then script_of (torn_line n ∷ []) else []) ++ group_text (found_told count stamp vendor out)
+told_text n count stamp vendor Told.Nothing = refl
+told_text n count stamp vendor (Told.Partial cpu bank) = refl
+told_text n count stamp vendor (Told.Whole report) = by (vendor == 0)
+  where
+    by : (intel : Bool)
+        → found_text n (if intel then log_found_of (with_counter count stamp report) else Finding.Foreign vendor report.cpu report.bank)
+        ≡ (if intel && is_torn (log_found_of report) then script_of (torn_line n ∷ []) else [])
+        ++ group_text (if intel then log_found_of (with_counter count stamp report) else Finding.Foreign vendor report.cpu report.bank)
+    by true = counted_text n (polled_counter count stamp report.seconds) report (report.tsc == 0)
+    by false = refl
+
+-- a line's text is its comment, and what is found in its group
 one_line : (boot cap n : ℕ) (state : LogState) (line : LogLine)
     → found_text n (log_found_at boot cap state line)
-    ≡ (if is_passed state.work line then found_text n Finding.Unread else []) ++ found_text 0 (group_found boot cap state line)
+    ≡ comment_at boot cap n state.work line ++ group_text (group_found boot cap state line)
 one_line boot cap n state Nothing = refl
 one_line boot cap n state Unread = sym (append-nil (found_text n Finding.Unread))
 one_line boot cap n state (Part line stamp vendor) = by (has_place state.work line)
   where
     by : (place : Bool)
         → found_text n (if place then found_told state.count state.stamp vendor (out_at boot cap state.work line) else Finding.Unread)
-        ≡ (if not place then found_text n Finding.Unread else [])
-        ++ found_text 0 (if place then found_told state.count state.stamp vendor (out_at boot cap state.work line) else Finding.Nothing)
-    by true = number_free n state.count state.stamp vendor (out_at boot cap state.work line)
+        ≡ (if not place then script_of (unread_line n ∷ []) else (if tells_torn vendor (out_at boot cap state.work line) then script_of (torn_line n ∷ []) else []))
+        ++ group_text (if place then found_told state.count state.stamp vendor (out_at boot cap state.work line) else Finding.Nothing)
+    by true = told_text n state.count state.stamp vendor (out_at boot cap state.work line)
     by false = sym (append-nil (found_text n Finding.Unread))
 
 -- ---- the stage after lines
@@ -102,45 +125,54 @@ module _ (boot cap : ℕ) where
       ap (λ (founds : List Finding). group_found boot cap state (log_line_of line) ∷ founds) (to_end-is (state_after boot cap state (log_line_of line)) lines)
 
   -- the texts of what is found along lines, and of one more
-  early_is : (lines : List (List ℕ)) → early_lines boot cap lines ≡ flat_map (found_text 0) (along boot cap log_at_start (map log_line_of lines))
-  early_is lines = sym (at_once boot cap (found_text 0) refl at_start None 0 (map log_line_of lines))
+  early_is : (lines : List (List ℕ)) → early_lines boot cap lines ≡ flat_map group_text (along boot cap log_at_start (map log_line_of lines))
+  early_is lines = sym (at_once boot cap group_text refl at_start None 0 (map log_line_of lines))
 
-  text_is : (lines : List (List ℕ)) → founds_text (founds_of boot cap lines) ≡ flat_map (found_text 0) (to_end boot cap log_at_start (map log_line_of lines))
-  text_is lines = sym (ends boot cap (found_text 0) refl at_start None 0 (map log_line_of lines))
+  text_is : (lines : List (List ℕ)) → founds_text (founds_of boot cap lines) ≡ flat_map group_text (to_end boot cap log_at_start (map log_line_of lines))
+  text_is lines = sym (ends boot cap group_text refl at_start None 0 (map log_line_of lines))
 
-  one_text : (found : Finding) → flat_map (found_text 0) (found ∷ []) ≡ found_text 0 found
-  one_text found = append-nil (found_text 0 found)
+  one_text : (found : Finding) → flat_map group_text (found ∷ []) ≡ group_text found
+  one_text found = append-nil (group_text found)
 
   pub early-push : (before : List (List ℕ)) (line : List ℕ)
       → early_lines boot cap (before ++ line ∷ [])
-      ≡ early_lines boot cap before ++ found_text 0 (group_found boot cap (state_over boot cap log_at_start before) (log_line_of line))
+      ≡ early_lines boot cap before ++ group_text (group_found boot cap (state_over boot cap log_at_start before) (log_line_of line))
   early-push before line =
       let found : Finding = group_found boot cap (state_over boot cap log_at_start before) (log_line_of line) in
       early_is (before ++ line ∷ [])
-      ∙ ap (flat_map (found_text 0)) (along-push log_at_start before line)
-      ∙ flat_map-append (found_text 0) (along boot cap log_at_start (map log_line_of before)) (found ∷ [])
-      ∙ ap (λ (text : List ℕ). text ++ flat_map (found_text 0) (found ∷ [])) (sym (early_is before))
+      ∙ ap (flat_map group_text) (along-push log_at_start before line)
+      ∙ flat_map-append group_text (along boot cap log_at_start (map log_line_of before)) (found ∷ [])
+      ∙ ap (λ (text : List ℕ). text ++ flat_map group_text (found ∷ [])) (sym (early_is before))
       ∙ ap (λ (text : List ℕ). early_lines boot cap before ++ text) (one_text found)
+
+  -- at the end no report is whole
+  end_text : (state : LogState) → group_text (found_at_end state) ≡ found_text 0 (found_at_end state)
+  end_text state = by state.work
+    where
+      by : (stage : Stage) → group_text (found_told state.count state.stamp 0 (out_at_end stage)) ≡ found_text 0 (found_told state.count state.stamp 0 (out_at_end stage))
+      by Idle = refl
+      by (Begun head) = refl
+      by (Timed head tsc addr misc) = refl
 
   text_ends : (lines : List (List ℕ)) → founds_text (founds_of boot cap lines) ≡ early_lines boot cap lines ++ rest_along boot cap log_at_start lines
   text_ends lines =
       let found : Finding = found_at_end (state_over boot cap log_at_start lines) in
       text_is lines
-      ∙ ap (flat_map (found_text 0)) (to_end-is log_at_start lines)
-      ∙ flat_map-append (found_text 0) (along boot cap log_at_start (map log_line_of lines)) (found ∷ [])
-      ∙ ap (λ (text : List ℕ). text ++ flat_map (found_text 0) (found ∷ [])) (sym (early_is lines))
-      ∙ ap (λ (text : List ℕ). early_lines boot cap lines ++ text) (one_text found)
+      ∙ ap (flat_map group_text) (to_end-is log_at_start lines)
+      ∙ flat_map-append group_text (along boot cap log_at_start (map log_line_of lines)) (found ∷ [])
+      ∙ ap (λ (text : List ℕ). text ++ flat_map group_text (found ∷ [])) (sym (early_is lines))
+      ∙ ap (λ (text : List ℕ). early_lines boot cap lines ++ text) (one_text found ∙ end_text (state_over boot cap log_at_start lines))
 
-  -- a line's text is that it is passed over, or what it adds
+  -- a line's text is its comment, and what it adds
   line_is : (before : List (List ℕ)) (line : List ℕ)
       → found_text (length before + 1) (log_found_at boot cap (state_over boot cap log_at_start before) (log_line_of line))
-      ≡ passed_text before line ++ added (early_lines boot cap before) (early_lines boot cap (before ++ line ∷ []))
+      ≡ comment_text boot cap before line ++ added (early_lines boot cap before) (early_lines boot cap (before ++ line ∷ []))
   line_is before line =
       let state : LogState = state_over boot cap log_at_start before in
       let found : Finding = group_found boot cap state (log_line_of line) in
       one_line boot cap (length before + 1) state (log_line_of line)
-      ∙ ap (λ (stage : Stage). (if is_passed stage (log_line_of line) then found_text (length before + 1) Finding.Unread else []) ++ found_text 0 found) (over_work boot cap log_at_start at_start before refl)
-      ∙ ap (λ (text : List ℕ). passed_text before line ++ text) (sym (added_is (early_lines boot cap before) (found_text 0 found) _ (early-push before line)))
+      ∙ ap (λ (stage : Stage). comment_at boot cap (length before + 1) stage (log_line_of line) ++ group_text found) (over_work boot cap log_at_start at_start before refl)
+      ∙ ap (λ (text : List ℕ). comment_text boot cap before line ++ text) (sym (added_is (early_lines boot cap before) (group_text found) _ (early-push before line)))
 
   pub answers_are : (before lines : List (List ℕ))
       → answers_along boot cap (state_over boot cap log_at_start before) (length before) lines ≡ log_answers_after boot cap before lines

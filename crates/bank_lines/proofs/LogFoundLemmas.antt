@@ -1,5 +1,5 @@
 -- The numbers of what is found along a log are those of their types.
-use Rattle.std.proofs.Common.{ℕ, ◌+◌, ◌%◌, ◌^◌, ◌<◌, ◌==◌, Bool, true, false, List, [], ◌∷◌, length, arith, Option, None, Some, if◌then◌else◌}
+use Rattle.std.proofs.Common.{ℕ, ◌+◌, ◌-◌, ◌%◌, ◌^◌, ◌<◌, ◌==◌, Bool, true, false, List, [], ◌∷◌, length, arith, Option, None, Some, if◌then◌else◌}
 use Rattle.std.specs.Prelude.{⊤}
 use Rattle.std.specs.List.{AllByRecursion}
 use Rattle.mca_status.specs.Registers.{valid}
@@ -13,7 +13,7 @@ use Rattle.ras_klog.specs.declared.state.Stage.{Stage}
 use Rattle.ras_klog.specs.declared.state.Stage.TheVariants.{Idle, Begun, Timed}
 use Rattle.ras_klog.specs.Stages.{has_place, out_at, out_at_end, stage_after}
 use Rattle.ras_script.specs.LineLaws.{IsBankInRange}
-use Rattle.bank_lines.specs.Finding.{IsFoundInRange, IsInTypes, Numbered}
+use Rattle.bank_lines.specs.Finding.{IsFoundInRange, IsInTypes, Numbered, lacks_address, log_found_of, without_address}
 use Rattle.bank_lines.specs.LogAlong.{log_found_at, found_at_end, stamp_after, state_after}
 use Rattle.bank_lines.specs.LogGroups.{count_after, found_told, polled_counter, with_counter}
 use Rattle.bank_lines.specs.LogLines.{log_line_of}
@@ -54,17 +54,28 @@ report_in_range count stamp report c s h = by (report.tsc == 0)
         ((fields.0, (fields.1.0, (counter_in count stamp report.seconds c s, fields.1.1.1))), h.1, h.2)
     by false = h
 
+log_found_in : (report : BankReport) → IsBankInRange report → IsInTypes (log_found_of report)
+log_found_in report h = by (valid (status_in report)) (report.bank == 255) (lacks_address report)
+  where
+    by : (is_valid firmware lacks : Bool)
+        → IsInTypes (if is_valid then (if firmware then Finding.Firmware report.cpu else (if lacks then Finding.Torn (without_address report) else Finding.Whole report)) else Finding.Nothing)
+    by true true lacks = h.1
+    by true false true =
+        let n = h.0 in
+        let status : report.status - 2 ^ 58 < 2 ^ 64 = omega (arith, n.1.1.1.1.1.0) in
+        ((n.0, (n.1.0, (n.1.1.0, (n.1.1.1.0, (n.1.1.1.1.0, (status, n.1.1.1.1.1.1)))))), h.1, h.2)
+    by true false false = h
+    by false firmware lacks = tt
+
 told_found_in : (count : ℕ) (stamp : Option ℕ) (vendor : ℕ) (out : KlogOut) → count < 1000000 → Each (λ s. s < 2 ^ 64) stamp → vendor < 2 ^ 64 → IsToldInRange out
     → IsInTypes (found_told count stamp vendor out)
 told_found_in count stamp vendor Told.Nothing c s v h = tt
 told_found_in count stamp vendor (Told.Partial cpu bank) c s v h = h
-told_found_in count stamp vendor (Told.Whole report) c s v h = by (vendor == 0) (valid (status_in (with_counter count stamp report)))
+told_found_in count stamp vendor (Told.Whole report) c s v h = by (vendor == 0)
   where
-    by : (intel is_valid : Bool)
-        → IsInTypes (if intel then (if is_valid then Finding.Whole (with_counter count stamp report) else Finding.Nothing) else Finding.Foreign vendor report.cpu report.bank)
-    by true true = report_in_range count stamp report c s h
-    by true false = tt
-    by false is_valid = (v, h.1, h.2)
+    by : (intel : Bool) → IsInTypes (if intel then log_found_of (with_counter count stamp report) else Finding.Foreign vendor report.cpu report.bank)
+    by true = log_found_in (with_counter count stamp report) (report_in_range count stamp report c s h)
+    by false = (v, h.1, h.2)
 
 -- ---- steps
 

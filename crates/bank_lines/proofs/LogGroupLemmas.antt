@@ -13,6 +13,7 @@ use Rattle.ras_klog.specs.declared.state.KlogOut.TheVariants as Told
 use Rattle.ras_klog.specs.declared.state.Stage.{Stage}
 use Rattle.ras_klog.specs.declared.state.Stage.TheVariants.{Idle, Begun, Timed}
 use Rattle.ras_klog.specs.Stages.{has_place, out_at}
+use Rattle.bank_lines.specs.Finding.{lacks_address, log_found_of, without_address}
 use Rattle.bank_lines.specs.LogAlong.{found_at_end, state_after}
 use Rattle.bank_lines.specs.LogGroups.{before_end, count_after, found_told, group_founds_from, group_vendor, klog_part, log_groups, log_up_to_start, timed_vendor, told_in, with_counter}
 use Rattle.bank_lines.specs.declared.found.Finding.{Finding}
@@ -58,18 +59,27 @@ found_group boot cap count stamp head rest = found_told count stamp (group_vendo
 abbrev pub work : Stage → Option ℕ → ℕ → LogState
 work stage stamp count = record { work = stage; stamp = stamp; count = count }
 
+log_goes : (r : BankReport) (founds : List Finding) → before_end (log_found_of r ∷ founds) ≡ log_found_of r ∷ before_end founds
+log_goes r founds = by (valid (status_in r)) (r.bank == 255) (lacks_address r)
+  where
+    by : (is_valid firmware lacks : Bool)
+        → before_end ((if is_valid then (if firmware then Finding.Firmware r.cpu else (if lacks then Finding.Torn (without_address r) else Finding.Whole r)) else Finding.Nothing) ∷ founds)
+        ≡ (if is_valid then (if firmware then Finding.Firmware r.cpu else (if lacks then Finding.Torn (without_address r) else Finding.Whole r)) else Finding.Nothing) ∷ before_end founds
+    by true true lacks = refl
+    by true false true = refl
+    by true false false = refl
+    by false firmware lacks = refl
+
 -- a whole report is none that isn't whole
 whole_goes : (count : ℕ) (stamp : Option ℕ) (vendor : ℕ) (report : BankReport) (founds : List Finding)
     → before_end (found_told count stamp vendor (Told.Whole report) ∷ founds) ≡ found_told count stamp vendor (Told.Whole report) ∷ before_end founds
-whole_goes count stamp vendor report founds = by (vendor == 0) (valid (status_in (with_counter count stamp report)))
+whole_goes count stamp vendor report founds = by (vendor == 0)
   where
-    by : (intel is_valid : Bool)
-        → before_end ((if intel then (if is_valid then Finding.Whole (with_counter count stamp report) else Finding.Nothing) else Finding.Foreign vendor report.cpu report.bank) ∷ founds)
-        ≡ (if intel then (if is_valid then Finding.Whole (with_counter count stamp report) else Finding.Nothing) else Finding.Foreign vendor report.cpu report.bank) ∷ before_end founds
-    by true true = refl
-    by true false = refl
-    by false true = refl
-    by false false = refl
+    by : (intel : Bool)
+        → before_end ((if intel then log_found_of (with_counter count stamp report) else Finding.Foreign vendor report.cpu report.bank) ∷ founds)
+        ≡ (if intel then log_found_of (with_counter count stamp report) else Finding.Foreign vendor report.cpu report.bank) ∷ before_end founds
+    by true = log_goes (with_counter count stamp report) founds
+    by false = refl
 
 module _ (boot cap : ℕ) where
   -- what is found in the groups of a report in work and of the lines after it

@@ -1,7 +1,9 @@
 -- What is printed of a log, and the reports that it has.
-use Rattle.std.proofs.Common.{◌≡◌, ℕ, ◌+◌, ◌==◌, Bool, true, false, List, [], ◌∷◌, ◌++◌, map, refl, sym, ap, ◌∙◌, append_assoc, None, Some, if◌then◌else◌, Result, Ok}
-use Rattle.std.proofs.lemmas.List.{append-nil}
+use Rattle.std.proofs.Common.{◌≡◌, ℕ, ◌+◌, ◌==◌, ◌⊎◌, inl, inr, Bool, true, false, List, [], ◌∷◌, ◌++◌, length, take, drop, map, refl, sym, ap, ◌∙◌, append_assoc, Option, None, Some, if◌then◌else◌, Result, Ok}
+use Rattle.std.proofs.lemmas.List.{append-nil, map-append}
 use Rattle.std.specs.List.{flat_map}
+use Rattle.std.specs.Option.{option_map_or}
+use Rattle.ras_klog.specs.Reading.{klog_line_of}
 use Rattle.line_filters.specs.Filter.{Took}
 use Rattle.line_filters.specs.Filters.{texts_in}
 use Rattle.ras_facts.specs.Facts.{bank_name}
@@ -14,7 +16,8 @@ use Rattle.bank_lines.specs.Finding.{report_in, reports_in}
 use Rattle.bank_lines.specs.LogAlong.{LogProgress, answers_along, log_found_at, found_at_end, log_at_start, log_makes, rest_along, state_after}
 use Rattle.bank_lines.specs.LogFilter.{log_reports, log_rest, log_script}
 use Rattle.bank_lines.specs.LogGroups.{found_told, with_counter}
-use Rattle.bank_lines.specs.LogLines.{log_line_of}
+use Rattle.bank_lines.specs.LogHeads.{is_own, mark_place}
+use Rattle.bank_lines.specs.LogLines.{is_of_report, is_own_line, line_told_by, log_line_by, log_line_of, log_mark, log_stamp_of, untold}
 use Rattle.bank_lines.specs.Texts.{found_text, printed}
 use Rattle.bank_lines.specs.declared.found.Finding.{Finding}
 use Rattle.bank_lines.specs.declared.log_line.LogLine.{LogLine}
@@ -87,6 +90,48 @@ module _ (boot cap : ℕ) where
   reports_are lines =
       numbered_reports log_at_start 0 lines
       ∙ ends boot cap report_in refl at_start None 0 (map log_line_of lines)
+
+-- ---- lines that aren't the kernel's own
+
+untold_is : (text : List ℕ) → (untold text ≡ Nothing) ⊎ (untold text ≡ Unread)
+untold_is text = by (is_of_report text)
+  where
+    by : (is : Bool) → ((if is then Unread else Nothing) ≡ Nothing) ⊎ ((if is then Unread else Nothing) ≡ Unread)
+    by true = inr refl
+    by false = inl refl
+
+pub not_own : (line : List ℕ) → is_own_line line ≡ false → (log_line_of line ≡ Nothing) ⊎ (log_line_of line ≡ Unread)
+not_own line = by (mark_place log_mark line)
+  where
+    after : (head marked : List ℕ) (own : Bool) → own ≡ false
+        → ((if own then line_told_by (log_stamp_of head) (drop (length log_mark) marked) (klog_line_of marked) else untold (drop (length log_mark) marked)) ≡ Nothing)
+        ⊎ ((if own then line_told_by (log_stamp_of head) (drop (length log_mark) marked) (klog_line_of marked) else untold (drop (length log_mark) marked)) ≡ Unread)
+    after head marked true is = absurd cc
+    after head marked false is = untold_is (drop (length log_mark) marked)
+
+    by : (place : Option ℕ) → option_map_or (λ place. is_own (take place line)) place false ≡ false
+        → (log_line_by line place ≡ Nothing) ⊎ (log_line_by line place ≡ Unread)
+    by None is = inl refl
+    by (Some place) is = after (take place line) (drop place line) (is_own (take place line)) is
+
+module _ (boot cap : ℕ) where
+  without : (state : LogState) (before after : List LogLine) (line : LogLine) → (line ≡ Nothing) ⊎ (line ≡ Unread)
+      → flat_map report_in (to_end boot cap state (before ++ line ∷ after)) ≡ flat_map report_in (to_end boot cap state (before ++ after))
+  without state [] after line (inl is) =
+      ap (λ (l : LogLine). flat_map report_in (group_found boot cap state l ∷ to_end boot cap (state_after boot cap state l) after)) is
+  without state [] after line (inr is) =
+      ap (λ (l : LogLine). flat_map report_in (group_found boot cap state l ∷ to_end boot cap (state_after boot cap state l) after)) is
+  without state (b ∷ before) after line is =
+      ap (λ (rest : List BankReport). report_in (group_found boot cap state b) ++ rest) (without (state_after boot cap state b) before after line is)
+
+  pub reports_without : (before after : List (List ℕ)) (line : List ℕ) → is_own_line line ≡ false
+      → log_reports boot cap (before ++ line ∷ after) ≡ log_reports boot cap (before ++ after)
+  reports_without before after line foreign =
+      sym (ends boot cap report_in refl at_start None 0 (map log_line_of (before ++ line ∷ after)))
+      ∙ ap (λ (ls : List LogLine). flat_map report_in (to_end boot cap log_at_start ls)) (map-append log_line_of before (line ∷ after))
+      ∙ without log_at_start (map log_line_of before) (map log_line_of after) (log_line_of line) (not_own line foreign)
+      ∙ sym (ap (λ (ls : List LogLine). flat_map report_in (to_end boot cap log_at_start ls)) (map-append log_line_of before after))
+      ∙ ends boot cap report_in refl at_start None 0 (map log_line_of (before ++ after))
 
 -- ---- names
 

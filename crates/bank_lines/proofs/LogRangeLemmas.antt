@@ -9,8 +9,8 @@ use Rattle.ras_klog.specs.Reading.{after_marker, bank_of, check_of, colon_number
 use Rattle.ras_klog.specs.declared.line.KlogLine.{KlogLine}
 use Rattle.ras_klog.specs.declared.line.KlogLine.TheVariants.{Start, Tsc, Processor, Other}
 use Rattle.ras_script.specs.Number.{decimal_of, hexadecimal_of, is_numeral, numeral_value}
-use Rattle.bank_lines.specs.LogHeads.{after, is_own, mark_place, up_to, without_spaces}
-use Rattle.bank_lines.specs.LogLines.{is_of_report, log_line_after, log_line_by, log_line_of, log_mark, micros_of, log_stamp_of, line_told_by, vendor_of, with_vendor}
+use Rattle.bank_lines.specs.LogHeads.{after, is_own, mark_place, record_time, up_to, without_spaces}
+use Rattle.bank_lines.specs.LogLines.{bracket_stamp, is_cut, is_of_report, log_line_after, log_line_by, log_line_of, log_mark, micros_of, log_stamp_of, line_told_by, untold, vendor_of, with_vendor}
 use Rattle.bank_lines.specs.declared.log_line.LogLine.{LogLine}
 use Rattle.bank_lines.specs.declared.log_line.LogLine.TheVariants.{Nothing, Unread, Part}
 
@@ -149,36 +149,49 @@ klog_in bytes =
 micros_in : (w : List ℕ) → Each (λ n. n ≤ 999999) (micros_of w)
 micros_in w = each_if (λ n. n ≤ 999999) (length w == 6) (decimal_of 999999 w) None (decimal_in 999999 w) tt
 
-stamp_in : (head : List ℕ) → Each (λ s. s < 2 ^ 64) (log_stamp_of head)
-stamp_in head =
+bracket_in : (head : List ℕ) → Each (λ s. s < 2 ^ 64) (bracket_stamp head)
+bracket_in head =
     let text : List ℕ = without_spaces (up_to 93 (after 91 head)) in
     each_then (λ n. n ≤ 999999999999) (λ s. s < 2 ^ 64) (decimal_of 999999999999 (up_to 46 text)) _ (decimal_in 999999999999 (up_to 46 text)) (λ seconds s.
     each_then (λ n. n ≤ 999999) (λ s. s < 2 ^ 64) (micros_of (after 46 text)) _ (micros_in (after 46 text)) (λ micros m. omega (arith, s, m)))
 
+stamp_in : (head : List ℕ) → Each (λ s. s < 2 ^ 64) (log_stamp_of head)
+stamp_in head =
+    let read : Option ℕ = decimal_of 999999999999999999 (record_time head) in
+    each_if (λ s. s < 2 ^ 64) (ends_with nat_eq head (codes ";")) read (bracket_stamp head)
+    (each_wider (λ n. n ≤ 999999999999999999) (λ s. s < 2 ^ 64) read (λ n h. omega (arith, h)) (decimal_in 999999999999999999 (record_time head)))
+    (bracket_in head)
+
 vendor_in : (text : List ℕ) → Each (λ n. n ≤ 2 ^ 64 - 1) (vendor_of text)
-vendor_in text = decimal_in (2 ^ 64 - 1) (up_to 58 (after 32 text))
+vendor_in text =
+    each_if (λ n. n ≤ 2 ^ 64 - 1) (is_cut text) None (decimal_of (2 ^ 64 - 1) (up_to 58 (after 32 text))) tt (decimal_in (2 ^ 64 - 1) (up_to 58 (after 32 text)))
 
 timed_in : (stamp : Option ℕ) (seconds : ℕ) (vendor : Option ℕ) → Each (λ s. s < 2 ^ 64) stamp → seconds < 2 ^ 64 → Each (λ n. n ≤ 2 ^ 64 - 1) vendor
     → IsLogLineInRange (with_vendor stamp seconds vendor)
 timed_in stamp seconds None s t v = tt
 timed_in stamp seconds (Some vendor) s t v = (t, s, omega (arith, v))
 
-unread_or_nothing : (is : Bool) → IsLogLineInRange (if is then Unread else Nothing)
-unread_or_nothing true = tt
-unread_or_nothing false = tt
+untold_in : (text : List ℕ) → IsLogLineInRange (untold text)
+untold_in text = by (is_of_report text)
+  where
+    by : (is : Bool) → IsLogLineInRange (if is then Unread else Nothing)
+    by true = tt
+    by false = tt
 
 told_in : (stamp : Option ℕ) (text : List ℕ) (line : KlogLine) → Each (λ s. s < 2 ^ 64) stamp → IsLineInRange line → IsLogLineInRange (line_told_by stamp text line)
-told_in stamp text Other s h = unread_or_nothing (is_of_report text)
+told_in stamp text Other s h = untold_in text
 told_in stamp text (Processor seconds) s h = timed_in stamp seconds (vendor_of text) s h (vendor_in text)
 told_in stamp text (Start cpu mcg bank status) s h = (h, s, omega arith)
 told_in stamp text (Tsc tsc addr misc) s h = (h, s, omega arith)
 
-own_or_nothing : (is : Bool) (line : LogLine) → IsLogLineInRange line → IsLogLineInRange (if is then line else Nothing)
-own_or_nothing true line h = h
-own_or_nothing false line h = tt
+own_or_other : (is : Bool) (line other : LogLine) → IsLogLineInRange line → IsLogLineInRange other → IsLogLineInRange (if is then line else other)
+own_or_other true line other h k = h
+own_or_other false line other h k = k
 
 after_in : (head marked : List ℕ) → IsLogLineInRange (log_line_after head marked)
-after_in head marked = own_or_nothing (is_own head) _ (told_in (log_stamp_of head) (drop (length log_mark) marked) (klog_line_of marked) (stamp_in head) (klog_in marked))
+after_in head marked =
+    let text : List ℕ = drop (length log_mark) marked in
+    own_or_other (is_own head) _ _ (told_in (log_stamp_of head) text (klog_line_of marked) (stamp_in head) (klog_in marked)) (untold_in text)
 
 by_in : (line : List ℕ) (place : Option ℕ) → IsLogLineInRange (log_line_by line place)
 by_in line None = tt

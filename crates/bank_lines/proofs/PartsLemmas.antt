@@ -1,11 +1,13 @@
 -- Parts by the places of their separators.
-use Rattle.std.proofs.Common.{◌≡◌, ℕ, ◌+◌, ◌-◌, ◌<◌, ◌≤◌, ◌==◌, Bool, true, false, cond, nat_lt, List, [], ◌∷◌, length, take, drop, get_or, refl, sym, ap, ◌∙◌, arith, Some, None, length-drop}
+use Rattle.std.proofs.Common.{◌≡◌, ℕ, ◌+◌, ◌-◌, ◌<◌, ◌≤◌, ◌==◌, Bool, true, false, cond, nat_lt, List, [], ◌∷◌, length, take, drop, get_or, refl, sym, ap, ◌∙◌, arith, Some, None, length-drop, Option}
 use Rattle.std.proofs.Math.Seq.{take-length}
 use Rattle.std.proofs.lemmas.Bool.Decides.{nat_tests}
-use Rattle.std.proofs.lemmas.List.Splits.{slice_split_first, slice_split_none}
+use Rattle.std.proofs.lemmas.List.Splits.{length-slice_split, slice_split_first, slice_split_none}
 use Rattle.std.proofs.lemmas.List.Sums.{fails_before_first}
 use Rattle.std.proofs.lemmas.Slice.Eq.{bytes_eq-Decides}
 use Rattle.std.specs.Str.{bytes_eq}
+use Rattle.std.specs.Prelude.{is_some, not}
+use Rattle.std.specs.Option.{option_map_or}
 use Rattle.std.specs.List.{All, position, position_or_len, slice_split}
 use Rattle.bank_lines.specs.Parts.{cut_at, value_after}
 
@@ -41,3 +43,16 @@ other_name first other name text apart = by (bytes_eq (other ∷ take (length na
     by : (is : Bool) → bytes_eq (other ∷ take (length name) text) (first ∷ name) ≡ is → cond is (Some (drop (length name) text)) None ≡ None
     by true is = absurd (apart (sym (ap (λ bytes. get_or bytes 0 0) ((bytes_eq-Decides (other ∷ take (length name) text) (first ∷ name)).0 is))))
     by false is = refl
+
+-- a text has a part
+pub cut_some : (byte : ℕ) (text : List ℕ) → ¬ (cut_at byte text ≡ [])
+cut_some byte text is = omega (arith, length-slice_split (λ b. b == byte) text, ap length is)
+
+-- whether a rest is none, and so has no part
+pub taken_by : {A : Type 0} (byte : ℕ) (now : A → List ℕ) (rest : Option A) (none : Bool) → is_some rest ≡ not none
+    → (none ≡ true → option_map_or (λ (text : A). cut_at byte (now text)) rest [] ≡ [])
+    × (option_map_or (λ (text : A). cut_at byte (now text)) rest [] ≡ [] → none ≡ true)
+taken_by byte now None true is = ((λ t. refl), (λ t. refl))
+taken_by byte now None false is = absurd cc
+taken_by byte now (Some text) true is = absurd cc
+taken_by byte now (Some text) false is = ((λ t. absurd cc), (λ e. absurd (cut_some byte (now text) e)))

@@ -11,18 +11,19 @@ use Rattle.ras_klog.specs.Reading.{provided, read_then}
 use Rattle.ras_script.specs.LineLaws.{IsBankInRange}
 use Rattle.ras_script.specs.Number.{decimal_of, hexadecimal_of, is_numeral}
 use Rattle.std.specs.Str.Parse.{digits_value}
+use Rattle.ras_script.specs.Lines.{without_last}
 use Rattle.bank_lines.specs.declared.event.Bank.{Bank}
 use Rattle.bank_lines.specs.declared.event.TraceEvent.{TraceEvent}
 use Rattle.bank_lines.specs.declared.event.Fields.{Fields}
 use Rattle.bank_lines.specs.declared.event.Global.{Global}
 use Rattle.bank_lines.specs.declared.event.Registers.{Registers}
-use Rattle.bank_lines.specs.declared.found.Finding.TheVariants.{Nothing, Whole, Foreign, Unread}
+use Rattle.bank_lines.specs.declared.found.Finding.TheVariants.{Nothing, Whole, Foreign, Firmware, Unread}
 use Rattle.bank_lines.specs.declared.stamp.TheConstants.{MOST_SECONDS}
 use Rattle.bank_lines.specs.TraceEvent.{addr_told, bank_named, cpu_told, event_in, whole_event, fields_after, global_of, global_told, misc_told, no_fields, once, processor_vendor, processor_told, registers_of, registers_told, seconds_told, status_told, tellings, part_told_by, took, tsc_told, vendor_told}
 use Rattle.bank_lines.specs.Finding.{IsInTypes, found_of}
 use Rattle.bank_lines.specs.Parts.{after_spaces, cut_at, value_after}
 use Rattle.bank_lines.specs.Stamp.{last_stamp, stamp_of}
-use Rattle.bank_lines.specs.Trace.{counter_of, event_found, found_at, last_mark, event_report, trace_found}
+use Rattle.bank_lines.specs.Trace.{counter_of, event_found, found_at, is_traced, last_mark, event_report, trace_found}
 
 -- ---- what is read after something that was read
 
@@ -237,7 +238,7 @@ none_in = record { cpu = tt; global = tt; bank = tt; addr = tt; misc = tt; tsc =
 
 event_in_range : (text : List ℕ) → IfSome (event_in text) EventIn
 event_in_range text =
-    then_some FieldsIn EventIn (fields_after no_fields (cut_at 44 text)) whole_event (fields_in no_fields (cut_at 44 text) none_in) event_of_in
+    then_some FieldsIn EventIn (fields_after no_fields (without_last (cut_at 44 text))) whole_event (fields_in no_fields (without_last (cut_at 44 text)) none_in) event_of_in
 
 -- ---- a counter
 
@@ -269,11 +270,12 @@ bank_in boot tsc e small counter h =
     ((small, (omega (arith, h.seconds), (omega (arith, counter), (omega (arith, h.cap), (omega (arith, h.mcg), (omega (arith, h.status), (omega (arith, h.addr), (omega (arith, h.misc), tt)))))))), omega (arith, h.cpu), omega (arith, h.bank))
 
 found_in : (report : BankReport) → IsBankInRange report → IsInTypes (found_of report)
-found_in report within = by (valid (status_in report))
+found_in report within = by (valid (status_in report)) (report.bank == 255)
   where
-    by : (holds : Bool) → IsInTypes (if holds then Whole report else Nothing)
-    by true = within
-    by false = tt
+    by : (holds firmware : Bool) → IsInTypes (if holds then (if firmware then Firmware report.cpu else Whole report) else Nothing)
+    by true true = within.1
+    by true false = within
+    by false firmware = tt
 
 counted_in : (boot : ℕ) (e : TraceEvent) (counter : Option ℕ) → boot < 2 ^ 64 → EventIn e → IfSome counter Is64
     → IsInTypes (option_map_or (λ tsc. found_of (event_report boot e tsc)) counter Unread)
@@ -293,7 +295,11 @@ told_in boot before (Some e) small h = event_found_in boot before e small h
 
 marked_in : (boot : ℕ) (line : List ℕ) (place : Option ℕ) → boot < 2 ^ 64 → IsInTypes (option_map_or (found_at boot line) place Nothing)
 marked_in boot line None small = tt
-marked_in boot line (Some place) small = told_in boot (take place line) (event_in (drop (place + 12) line)) small (event_in_range (drop (place + 12) line))
+marked_in boot line (Some place) small = by (is_traced (take place line))
+  where
+    by : (traced : Bool) → IsInTypes (if traced then option_map_or (event_found boot (take place line)) (event_in (drop (place + 12) line)) Unread else Unread)
+    by true = told_in boot (take place line) (event_in (drop (place + 12) line)) small (event_in_range (drop (place + 12) line))
+    by false = tt
 
 pub trace_in : (boot : ℕ) (line : List ℕ) → boot < 2 ^ 64 → IsInTypes (trace_found boot line)
 trace_in boot line small = marked_in boot line (last_mark line) small

@@ -19,9 +19,9 @@ use Rattle.ras_script.specs.declared.line.Line.TheVariants as asks
 use Rattle.ras_script.specs.declared.line.LineRefused.{LineRefused}
 use Rattle.ras_script.specs.declared.reader.TheConstants.{LONGEST_LINE}
 use Rattle.bank_lines.specs.declared.found.Finding.{Finding}
-use Rattle.bank_lines.specs.declared.found.Finding.TheVariants.{Nothing, Whole, Partial, Foreign, Unread}
+use Rattle.bank_lines.specs.declared.found.Finding.TheVariants.{Nothing, Whole, Torn, Partial, Foreign, Firmware, Unread}
 use Rattle.bank_lines.specs.Finding.{IsFoundInRange, IsInTypes, Numbered, report_in, reports_in}
-use Rattle.bank_lines.specs.Texts.{asks_in, asks_of, asking_line, found_lines, found_text, is_asking, lines_at, partial_comment, printed, printed_lines, unread_line, vendor_line}
+use Rattle.bank_lines.specs.Texts.{asks_in, asks_of, asking_line, firmware_line, found_lines, found_text, is_asking, lines_at, partial_comment, printed, printed_lines, torn_line, unread_line, vendor_line}
 use Rattle.bank_lines.proofs.NumeralLemmas.{WordOk, both, decimal_ok, hexadecimal_ok, joined_lack, joined_short, lack_both, literal_lacks}
 
 -- ---- what a line asks for
@@ -40,6 +40,10 @@ each_of : (number : ℕ) (found : Finding) → IsInTypes found
     → asks_in (lines_at number found) ≡ asks_of (record { number = number; found = found })
 each_of number Nothing within = refl
 each_of number (Whole report) within = asked_alone (asking_line report) (Ok (asks.Report (Bank report))) (bank_read report within)
+each_of number (Torn report) within =
+    ap (λ (a : Result Line LineRefused). filter is_asking (a ∷ line_of (asking_line report) ∷ [])) (comment (drop 2 (torn_line number)))
+    ∙ asked_alone (asking_line report) (Ok (asks.Report (Bank report))) (bank_read report within)
+each_of number (Firmware cpu) within = asked_alone (firmware_line cpu) (Ok asks.Nothing) (comment (drop 2 (firmware_line cpu)))
 each_of number (Partial cpu bank) within = asked_alone (partial_comment cpu bank) (Ok asks.Nothing) (comment (drop 2 (partial_comment cpu bank)))
 each_of number (Foreign vendor cpu bank) within = asked_alone (vendor_line vendor cpu bank) (Ok asks.Nothing) (comment (drop 2 (vendor_line vendor cpu bank)))
 each_of number Unread within = asked_alone (unread_line number) (Ok asks.Nothing) (comment (drop 2 (unread_line number)))
@@ -90,6 +94,19 @@ vendor_ok vendor cpu bank least small few =
     let five = number_after (head ++ decimal vendor ++ codes " cpu=" ++ decimal cpu ++ codes " bank=") bank 188 four.0 four.1 (omega arith) in
     (five.0, omega (arith, five.1))
 
+firmware_ok : (cpu : ℕ) → cpu < 2 ^ 16 → LineOk (firmware_line cpu)
+firmware_ok cpu small =
+    let head : List ℕ = codes "# firmware cpu=" in
+    let one = number_after head cpu 20 (literal_lacks 10 head refl) (omega arith) (omega arith) in
+    let two = literal_after (head ++ decimal cpu) (codes " bank=255") 84 one (literal_lacks 10 (codes " bank=255") refl) (omega arith) in
+    (two.0, omega (arith, two.1))
+
+torn_ok : (number : ℕ) → number < 2 ^ 64 → LineOk (torn_line number)
+torn_ok number small =
+    let head : List ℕ = codes "# torn " in
+    let one = number_after head number 20 (literal_lacks 10 head refl) (omega arith) small in
+    (one.0, omega (arith, one.1))
+
 unread_ok : (number : ℕ) → number < 2 ^ 64 → LineOk (unread_line number)
 unread_ok number small =
     let head : List ℕ = codes "# unread " in
@@ -99,6 +116,8 @@ unread_ok number small =
 lines_ok : (number : ℕ) (found : Finding) → number < 2 ^ 64 → IsInTypes found → AllByRecursion LineOk (lines_at number found)
 lines_ok number Nothing small within = tt
 lines_ok number (Whole report) small within = (bank_ok report within, tt)
+lines_ok number (Torn report) small within = (torn_ok number small, (bank_ok report within, tt))
+lines_ok number (Firmware cpu) small within = (firmware_ok cpu within, tt)
 lines_ok number (Partial cpu bank) small within = (partial_ok cpu bank within.0 within.1, tt)
 lines_ok number (Foreign vendor cpu bank) small within = (vendor_ok vendor cpu bank within.0 within.1 within.2, tt)
 lines_ok number Unread small within = (unread_ok number small, tt)

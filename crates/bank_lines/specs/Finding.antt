@@ -1,16 +1,48 @@
 -- What is found in the input.
-use Rattle.std.specs.Prelude.{ℕ, ◌<◌, ◌^◌, List, [], ◌∷◌, if◌then◌else◌}
+use Rattle.std.specs.Prelude.{ℕ, ◌-◌, ◌<◌, ◌==◌, ◌&&◌, ◌^◌, Bool, true, false, List, [], ◌∷◌, if◌then◌else◌}
 use Rattle.std.specs.List.{flat_map}
-use Rattle.mca_status.specs.Registers.{valid}
+use Rattle.mca_status.specs.Registers.{address_valid, valid}
 use Rattle.ras_facts.specs.Facts.{status_in}
 use Rattle.ras_facts.specs.declared.bank.BankReport.{BankReport}
 use Rattle.ras_script.specs.LineLaws.{IsBankInRange}
 use Rattle.bank_lines.specs.declared.found.Finding.{Finding}
-use Rattle.bank_lines.specs.declared.found.Finding.TheVariants.{Nothing, Whole, Partial, Foreign, Unread}
+use Rattle.bank_lines.specs.declared.found.Finding.TheVariants.{Nothing, Whole, Torn, Partial, Foreign, Firmware, Unread}
+use Rattle.bank_lines.specs.declared.found.TheConstants.{FIRMWARE_BANK}
 
--- what is found of a whole report of an Intel processor: nothing if its bank holds no error
+-- What is found of a whole report of an Intel processor, if this is what is found of an error: nothing if
+-- its bank holds none. No processor has bank 255: Linux makes up a report of it for each memory error that
+-- the firmware reports.
+abbrev pub held : BankReport → Finding → Finding
+held report found =
+    if valid (status_in report)
+    then (if report.bank == FIRMWARE_BANK then Firmware report.cpu else found) else Nothing
+
+-- what is found of a whole report of a trace
 abbrev pub found_of : BankReport → Finding
-found_of report = if valid (status_in report) then Whole report else Nothing
+found_of report = held report (Whole report)
+
+-- ---- a report of a log that lacks its address
+
+-- its status says that there is an address, and none came
+abbrev pub lacks_address : BankReport → Bool
+lacks_address report = address_valid (status_in report) && report.addr == 0
+
+-- the report with ADDRV 0, bit 58 of its status
+abbrev pub without_address : BankReport → BankReport
+without_address report = record report { status = report.status - 2 ^ 58 }
+
+abbrev pub torn_or_whole : BankReport → Finding
+torn_or_whole report = if lacks_address report then Torn (without_address report) else Whole report
+
+abbrev pub is_torn : Finding → Bool
+is_torn (Torn report) = true
+is_torn found = false
+
+-- what is found of a whole report of a log
+abbrev pub log_found_of : BankReport → Finding
+log_found_of report = held report (torn_or_whole report)
+
+-- ---- all that was found
 
 -- what was found, and the number of the line at which it was
 pub record Numbered : Type 0 where
@@ -20,6 +52,7 @@ pub record Numbered : Type 0 where
 -- a whole report, if this is one
 abbrev pub report_in : Finding → List BankReport
 report_in (Whole report) = report ∷ []
+report_in (Torn report) = report ∷ []
 report_in found = []
 
 -- the whole reports, in order
@@ -30,8 +63,10 @@ reports_in founds = flat_map (λ (numbered : Numbered). report_in numbered.found
 abbrev pub IsInTypes : Finding → Type 0
 IsInTypes Nothing = Unit {0}
 IsInTypes (Whole report) = IsBankInRange report
+IsInTypes (Torn report) = IsBankInRange report
 IsInTypes (Partial cpu bank) = (cpu < 2 ^ 16) × (bank < 2 ^ 8)
 IsInTypes (Foreign vendor cpu bank) = (vendor < 2 ^ 64) × (cpu < 2 ^ 16) × (bank < 2 ^ 8)
+IsInTypes (Firmware cpu) = cpu < 2 ^ 16
 IsInTypes Unread = Unit {0}
 
 abbrev pub IsFoundInRange : Numbered → Type 0

@@ -1,18 +1,22 @@
 -- What `lines klog` makes of a kernel log, by the groups of its lines.
-use Rattle.std.specs.Prelude.{ℕ, ◌+◌, List, [], ◌∷◌, ◌++◌, length, map, not, Bool, true, false, Result, Ok, if◌then◌else◌}
+use Rattle.std.specs.Prelude.{ℕ, ◌+◌, ◌==◌, ◌&&◌, List, [], ◌∷◌, ◌++◌, length, map, not, Bool, true, false, Result, Ok, if◌then◌else◌}
 use Rattle.std.specs.List.{flat_map}
 use Rattle.line_filters.specs.Filter.{Filter}
 use Rattle.line_filters.specs.Filters.{texts_in}
 use Rattle.ras_facts.specs.declared.bank.BankReport.{BankReport}
 use Rattle.ras_klog.specs.Klog.{added}
-use Rattle.ras_klog.specs.Stages.{at_start, has_place, stage_after}
+use Rattle.ras_klog.specs.Stages.{at_start, has_place, out_at, stage_after}
+use Rattle.ras_klog.specs.declared.state.KlogOut.{KlogOut}
+use Rattle.ras_klog.specs.declared.state.KlogOut.TheVariants as Told
 use Rattle.ras_klog.specs.declared.state.Stage.{Stage}
+use Rattle.ras_script.specs.SplittingLaws.{script_of}
 use Rattle.ras_script.specs.declared.line.LineRefused.{LineRefused}
-use Rattle.bank_lines.specs.Finding.{report_in}
+use Rattle.bank_lines.specs.Finding.{is_torn, log_found_of, report_in}
 use Rattle.bank_lines.specs.LogGroups.{before_end, klog_part, log_founds}
 use Rattle.bank_lines.specs.LogLines.{log_line_of}
-use Rattle.bank_lines.specs.Texts.{found_text}
+use Rattle.bank_lines.specs.Texts.{found_text, torn_line, unread_line}
 use Rattle.bank_lines.specs.declared.found.Finding.{Finding}
+use Rattle.bank_lines.specs.declared.found.Finding.TheVariants.{Torn, Whole}
 use Rattle.bank_lines.specs.declared.log_line.LogLine.{LogLine}
 use Rattle.bank_lines.specs.declared.log_line.LogLine.TheVariants.{Nothing, Unread, Part}
 
@@ -22,15 +26,20 @@ use Rattle.bank_lines.specs.declared.log_line.LogLine.TheVariants.{Nothing, Unre
 abbrev pub founds_of : ℕ → ℕ → List (List ℕ) → List Finding
 founds_of boot cap lines = log_founds boot cap (map log_line_of lines)
 
--- The text of it. The number of a line doesn't matter to what is found in a group.
+-- The text of it. That an address was torn off is told at its line; apart from that the number of a line
+-- doesn't matter to what is found in a group.
+abbrev pub group_text : Finding → List ℕ
+group_text (Torn report) = found_text 0 (Whole report)
+group_text found = found_text 0 found
+
 abbrev pub founds_text : List Finding → List ℕ
-founds_text founds = flat_map (found_text 0) founds
+founds_text founds = flat_map group_text founds
 
 -- what of it is printed before the log is known to have ended
 abbrev pub early_lines : ℕ → ℕ → List (List ℕ) → List ℕ
 early_lines boot cap lines = founds_text (before_end (founds_of boot cap lines))
 
--- ---- lines that are in no report
+-- ---- comments of lines
 
 -- how far the report in work has come after these lines
 abbrev pub work_after : Stage → List (List ℕ) → Stage
@@ -44,21 +53,36 @@ is_passed stage Nothing = false
 is_passed stage Unread = true
 is_passed stage (Part line stamp vendor) = not (has_place stage line)
 
--- the text of a line that is passed over, by the number of the line
-abbrev pub passed_text : List (List ℕ) → List ℕ → List ℕ
-passed_text before line =
-    if is_passed (work_after at_start before) (log_line_of line)
-    then found_text (length before + 1) Finding.Unread else []
+-- whether this is told as a report that lacks its address
+abbrev pub tells_torn : ℕ → KlogOut → Bool
+tells_torn vendor (Told.Whole report) = vendor == 0 && is_torn (log_found_of report)
+tells_torn vendor out = false
+
+-- whether a line makes such a report whole
+abbrev pub ends_torn : ℕ → ℕ → Stage → LogLine → Bool
+ends_torn boot cap stage (Part line stamp vendor) = tells_torn vendor (out_at boot cap stage line)
+ends_torn boot cap stage line = false
+
+-- the comment of a line of this number: that it is passed over, or that an address was torn off
+abbrev pub comment_at : ℕ → ℕ → ℕ → Stage → LogLine → List ℕ
+comment_at boot cap number stage line =
+    if is_passed stage line then script_of (unread_line number ∷ [])
+    else (if ends_torn boot cap stage line then script_of (torn_line number ∷ []) else [])
+
+-- the same of a line after these before it
+abbrev pub comment_text : ℕ → ℕ → List (List ℕ) → List ℕ → List ℕ
+comment_text boot cap before line =
+    comment_at boot cap (length before + 1) (work_after at_start before) (log_line_of line)
 
 -- ---- the filter
 
--- the text of each line, after these before them: that it is passed over, or what it adds to what the
--- groups tell. No line is refused.
+-- the text of each line, after these before them: its comment, and what it adds to what the groups tell.
+-- No line is refused.
 abbrev pub log_answers_after : ℕ → ℕ → List (List ℕ) → List (List ℕ) → List (Result (List ℕ) LineRefused)
 log_answers_after boot cap before [] = []
 log_answers_after boot cap before (line ∷ lines) =
     Ok (
-    passed_text before line
+    comment_text boot cap before line
     ++ added (early_lines boot cap before) (early_lines boot cap (before ++ line ∷ []))
     ) ∷ log_answers_after boot cap (before ++ line ∷ []) lines
 

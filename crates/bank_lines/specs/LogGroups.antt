@@ -7,7 +7,7 @@ use Rattle.ras_klog.specs.declared.line.KlogLine.TheVariants.{Start, Tsc, Proces
 use Rattle.ras_klog.specs.declared.state.Head.{Head}
 use Rattle.ras_klog.specs.declared.state.KlogOut.{KlogOut}
 use Rattle.ras_klog.specs.declared.state.KlogOut.TheVariants as Told
-use Rattle.bank_lines.specs.Finding.{found_of}
+use Rattle.bank_lines.specs.Finding.{log_found_of}
 use Rattle.bank_lines.specs.declared.found.Finding.{Finding}
 use Rattle.bank_lines.specs.declared.found.Finding.TheVariants.{Nothing, Partial, Foreign}
 use Rattle.bank_lines.specs.declared.log_line.LogLine.{LogLine}
@@ -91,7 +91,7 @@ abbrev pub found_told : ℕ → Option ℕ → ℕ → KlogOut → Finding
 found_told count stamp vendor Told.Nothing = Nothing
 found_told count stamp vendor (Told.Partial cpu bank) = Partial cpu bank
 found_told count stamp vendor (Told.Whole report) =
-    if vendor == 0 then found_of (with_counter count stamp report)
+    if vendor == 0 then log_found_of (with_counter count stamp report)
     else Foreign vendor report.cpu report.bank
 
 abbrev pub group_founds_from : ℕ → ℕ → ℕ → List LogGroup → List Finding

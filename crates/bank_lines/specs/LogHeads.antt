@@ -1,5 +1,5 @@
 -- Which lines of a kernel log are the kernel's own, by what stands before their mark: their head.
-use Rattle.std.specs.Prelude.{ℕ, ◌+◌, ◌-◌, ◌==◌, ◌&&◌, ◌||◌, Bool, not, List, [], ◌∷◌, codes, drop, take, length, slice_index_or, nat_eq, Option, None, Some, if◌then◌else◌}
+use Rattle.std.specs.Prelude.{ℕ, ◌+◌, ◌-◌, ◌==◌, ◌&&◌, ◌||◌, Bool, not, List, [], ◌∷◌, codes, drop, take, length, slice_index_or, nat_eq, nat_lt, Option, None, Some, if◌then◌else◌}
 use Rattle.std.specs.Char.{is_digit}
 use Rattle.std.specs.List.{ends_with, list_all, list_any, position_or_len, starts_with}
 use Rattle.std.specs.Option.{option_map}
@@ -34,9 +34,33 @@ are_digits text = list_all (λ b. is_digit b 10) text
 abbrev pub has_digit : List ℕ → Bool
 has_digit text = list_any (λ b. is_digit b 10) text
 
+abbrev pub is_number : List ℕ → Bool
+is_number text = not (length text == 0) && are_digits text
+
 -- whether it has no space
 abbrev pub is_joined : List ℕ → Bool
 is_joined text = list_all (λ b. not (b == 32)) text
+
+-- ---- names
+
+-- a sign of a host's name
+abbrev pub is_name_sign : ℕ → Bool
+is_name_sign b =
+    list_any (λ sign. sign == b) (codes "abcdefghijklmnopqrstuvwxyzABCDEFGHIJKLMNOPQRSTUVWXYZ0123456789.-_")
+
+abbrev pub are_name_signs : List ℕ → Bool
+are_name_signs text = list_all (λ b. is_name_sign b) text
+
+abbrev pub is_name : List ℕ → Bool
+is_name word = not (length word == 0) && are_name_signs word
+
+-- names, and spaces between
+abbrev pub are_names : List ℕ → Bool
+are_names text = list_all (λ b. b == 32 || is_name_sign b) text
+
+-- the host's name and a space before it, or nothing
+abbrev pub is_host : List ℕ → Bool
+is_host text = length text == 0 || begins text (codes " ") && is_name (drop 1 text)
 
 -- ---- times
 
@@ -45,7 +69,14 @@ are_signs text = list_all (λ b. list_any (λ sign. sign == b) (codes "012345678
 
 -- a word of a time: `29`, `13:36:01.123456`, `2026-11-29T13:36:01+00:00`
 abbrev pub is_time : List ℕ → Bool
-is_time word = not (length word == 0) && are_signs word
+is_time word = has_digit word && are_signs word
+
+-- what stands in brackets: `   12.500001`, `Sun Nov 29 13:36:01 2026`, `   12.500001 <    0.000001 >`
+abbrev pub are_clock_signs : List ℕ → Bool
+are_clock_signs text = list_all (λ b. is_name_sign b || list_any (λ sign. sign == b) (codes " :+<>")) text
+
+abbrev pub is_clock : List ℕ → Bool
+is_clock text = has_digit text && are_clock_signs text
 
 -- what `dmesg --time-format iso` puts before a message
 abbrev pub is_iso_time : List ℕ → Bool
@@ -64,39 +95,75 @@ abbrev pub is_after_brackets : List ℕ → Bool
 is_after_brackets text =
     bytes_eq text (codes " ") || (is_caller text || begins text (codes " ") && is_caller (drop 1 text))
 
--- a text in brackets with a digit in it, and a space: `[   12.500001] `, `[   12.500001][ T4711] `,
+-- a time in brackets, and a space: `[   12.500001] `, `[   12.500001][ T4711] `,
 -- `[Sun Nov 29 13:36:01 2026] `
 abbrev pub is_bracketed : List ℕ → Bool
 is_bracketed text =
-    begins text (codes "[") && (has_digit (up_to 93 text) && is_after_brackets (after 93 text))
+    begins text (codes "[") && (is_clock (drop 1 (up_to 93 text)) && is_after_brackets (after 93 text))
 
--- What may stand right before a message of the kernel: nothing, brackets, a level and brackets, as in
--- `<0>[   12.500001] `, or a time.
+-- a level and brackets: `<0>[   12.500001] `
+abbrev pub is_leveled : List ℕ → Bool
+is_leveled text =
+    begins text (codes "<") && (is_number (drop 1 (up_to 62 text)) && is_bracketed (after 62 text))
+
+-- What may stand right before a message of the kernel: nothing, brackets, a level and brackets, or a
+-- time.
 abbrev pub is_stamp : List ℕ → Bool
-is_stamp text =
-    length text == 0 || (is_bracketed text
-    || (begins text (codes "<") && is_bracketed (after 62 text) || is_iso_time text))
+is_stamp text = length text == 0 || (is_bracketed text || (is_leveled text || is_iso_time text))
+
+-- ---- records
+
+abbrev pub are_flag_signs : List ℕ → Bool
+are_flag_signs text = list_all (λ b. is_name_sign b || list_any (λ sign. sign == b) (codes ",=+")) text
+
+-- what stands in a record's head behind its time, and a semicolon
+abbrev pub are_flags : List ℕ → Bool
+are_flags text =
+    ends_with nat_eq text (codes ";") && (length (after 59 text) == 0 && are_flag_signs (up_to 59 text))
+
+-- the third field of a record's head: its time, in microseconds
+abbrev pub record_time : List ℕ → List ℕ
+record_time text = up_to 44 (after 44 (after 44 text))
+
+-- `<level>,<sequence>,<microseconds>,<flags>[,..];`, as /dev/kmsg and netconsole print it
+abbrev pub is_record : List ℕ → Bool
+is_record text =
+    is_number (up_to 44 text) && (is_number (up_to 44 (after 44 text)) && (is_number (record_time text)
+    && are_flags (after 44 (after 44 (after 44 text)))))
 
 -- ---- whose line it is
 
--- What may stand before ` kernel: `. In brackets and after them at most one word, the host's; else words
--- of which the first or the second is of a time: `Nov 29 13:36:01 host`.
+-- words of a time and behind them names: `Nov 29 13:36:01 host`, `Sun 2026-11-29 13:36:01 UTC host`,
+-- `2026-11-29T13:36:01+00:00 host`
+abbrev pub is_timed : List ℕ → Bool
+is_timed text =
+    let second = without_spaces (after 32 text) in
+    is_time (up_to 32 text) && are_names (after 32 text)
+    || is_name (up_to 32 text) && (is_time (up_to 32 second) && (is_time (up_to 32 (after 32 second))
+    && are_names (after 32 (after 32 second))))
+
+-- what may stand before ` kernel: `: a time in brackets and the host's name, or words of a time and names
 abbrev pub is_dated : List ℕ → Bool
 is_dated text =
-    if begins text (codes "[") then is_joined (drop 1 (after 93 text))
-    else is_time (up_to 32 text)
-    || not (begins text (codes " ")) && is_time (up_to 32 (without_spaces (after 32 text)))
+    if begins text (codes "[")
+    then nat_lt (length (up_to 93 text)) (length text)
+    && (is_clock (drop 1 (up_to 93 text)) && is_host (after 93 text))
+    else is_timed text
+
+abbrev pub is_facility : List ℕ → Bool
+is_facility text = begins text (codes "kern  :") && are_names (after 58 text)
+
+abbrev pub is_kernel : List ℕ → Bool
+is_kernel text = ends_with nat_eq text (codes " kernel") && is_dated (take (length text - 7) text)
 
 -- what may stand before the first colon that a space follows: `Nov 29 13:36:01 host kernel`, or
 -- `kern  :emerg `
 abbrev pub is_logger : List ℕ → Bool
-is_logger text =
-    begins text (codes "kern  :")
-    || ends_with nat_eq text (codes " kernel") && is_dated (take (length text - 7) text)
+is_logger text = is_facility text || is_kernel text
 
 -- a head, by the first place of a colon and a space in it
 abbrev pub is_own_by : List ℕ → Option ℕ → Bool
-is_own_by head None = is_stamp head
+is_own_by head None = is_stamp head || is_record head
 is_own_by head (Some place) = is_logger (take place head) && is_stamp (drop (place + 2) head)
 
 -- Whether a head shows a line as the kernel's own. Who else is told of in a log, a device or a process,

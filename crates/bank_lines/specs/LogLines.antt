@@ -1,14 +1,16 @@
 -- What the lines of a kernel log tell of machine checks.
-use Rattle.std.specs.Prelude.{ℕ, ◌+◌, ◌*◌, ◌-◌, ◌^◌, ◌==◌, ◌||◌, Bool, List, codes, drop, take, length, Option, None, Some, if◌then◌else◌}
+use Rattle.std.specs.Prelude.{ℕ, ◌+◌, ◌*◌, ◌-◌, ◌^◌, ◌==◌, ◌||◌, Bool, false, List, codes, drop, take, length, nat_eq, Option, None, Some, if◌then◌else◌}
+use Rattle.std.specs.List.{ends_with}
+use Rattle.std.specs.Option.{option_map_or}
 use Rattle.std.specs.Str.{bytes_eq}
 use Rattle.ras_klog.specs.Reading.{klog_line_of, read_then}
 use Rattle.ras_klog.specs.declared.line.KlogLine.{KlogLine}
 use Rattle.ras_klog.specs.declared.line.KlogLine.TheVariants.{Processor, Other}
 use Rattle.ras_script.specs.Number.{decimal_of}
-use Rattle.bank_lines.specs.LogHeads.{after, is_own, mark_place, up_to, without_spaces}
+use Rattle.bank_lines.specs.LogHeads.{after, is_joined, is_own, mark_place, record_time, up_to, without_spaces}
 use Rattle.bank_lines.specs.declared.log_line.LogLine.{LogLine}
 use Rattle.bank_lines.specs.declared.log_line.LogLine.TheVariants.{Nothing, Unread, Part}
-use Rattle.bank_lines.specs.declared.log_line.TheConstants.{LAST_SECOND, MICROSECONDS}
+use Rattle.bank_lines.specs.declared.log_line.TheConstants.{LAST_SECOND, LAST_STAMP, MICROSECONDS}
 
 -- what begins the text of a machine check
 abbrev pub log_mark : List ℕ
@@ -22,11 +24,16 @@ micros_of word = if length word == 6 then decimal_of (MICROSECONDS - 1) word els
 
 -- `<seconds>.<micros>` in microseconds, after spaces and in the first brackets of a head. The seconds
 -- have 12 digits at most, so the number is below 10^18.
-abbrev pub log_stamp_of : List ℕ → Option ℕ
-log_stamp_of head =
+abbrev pub bracket_stamp : List ℕ → Option ℕ
+bracket_stamp head =
     let text = without_spaces (up_to 93 (after 91 head)) in
     read_then (decimal_of LAST_SECOND (up_to 46 text)) (λ seconds.
     read_then (micros_of (after 46 text)) (λ micros. Some (seconds * MICROSECONDS + micros)))
+
+-- the same of a record, which ends in a semicolon
+abbrev pub log_stamp_of : List ℕ → Option ℕ
+log_stamp_of head =
+    if ends_with nat_eq head (codes ";") then decimal_of LAST_STAMP (record_time head) else bracket_stamp head
 
 -- ---- what it tells
 
@@ -36,26 +43,35 @@ is_of_report text =
     let word = up_to 32 text in
     bytes_eq word (codes "CPU") || (bytes_eq word (codes "TSC") || bytes_eq word (codes "PROCESSOR"))
 
--- the vendor's number: the second word up to its colon
+-- Whether the line of a time ends with it, the fourth word. The kernel prints more, so it is cut.
+abbrev pub is_cut : List ℕ → Bool
+is_cut text = is_joined (after 32 (after 32 (after 32 text)))
+
+-- the vendor's number, the second word up to its colon, of a line that isn't cut
 abbrev pub vendor_of : List ℕ → Option ℕ
-vendor_of text = decimal_of (2 ^ 64 - 1) (up_to 58 (after 32 text))
+vendor_of text = if is_cut text then None else decimal_of (2 ^ 64 - 1) (up_to 58 (after 32 text))
 
 -- when the bank was read, if the vendor reads
 abbrev pub with_vendor : Option ℕ → ℕ → Option ℕ → LogLine
 with_vendor stamp seconds None = Unread
 with_vendor stamp seconds (Some vendor) = Part (Processor seconds) stamp vendor
 
--- What a text after a mark tells, by what `klog` reads of it: `Unread` if it begins as a line of a
--- report, and can't be read as one.
+-- a text after a mark that tells nothing: `Unread` if it begins as a line of a report
+abbrev pub untold : List ℕ → LogLine
+untold text = if is_of_report text then Unread else Nothing
+
+-- what a text after a mark tells, by what `klog` reads of it
 abbrev pub line_told_by : Option ℕ → List ℕ → KlogLine → LogLine
-line_told_by stamp text Other = if is_of_report text then Unread else Nothing
+line_told_by stamp text Other = untold text
 line_told_by stamp text (Processor seconds) = with_vendor stamp seconds (vendor_of text)
 line_told_by stamp text line = Part line stamp 0
 
--- what a line with this head tells from its mark on
+-- What a line with this head tells from its mark on. If the head doesn't show it as the kernel's own,
+-- it tells nothing.
 abbrev pub log_line_after : List ℕ → List ℕ → LogLine
 log_line_after head marked =
-    if is_own head then line_told_by (log_stamp_of head) (drop (length log_mark) marked) (klog_line_of marked) else Nothing
+    let text = drop (length log_mark) marked in
+    if is_own head then line_told_by (log_stamp_of head) text (klog_line_of marked) else untold text
 
 -- a line, by the place of its first mark
 abbrev pub log_line_by : List ℕ → Option ℕ → LogLine
@@ -65,3 +81,7 @@ log_line_by line (Some place) = log_line_after (take place line) (drop place lin
 -- what a line of a kernel log tells: it is the kernel's own by what stands before the first mark
 abbrev pub log_line_of : List ℕ → LogLine
 log_line_of line = log_line_by line (mark_place log_mark line)
+
+-- whether a line has a mark, and what stands before the first one shows it as the kernel's own
+abbrev pub is_own_line : List ℕ → Bool
+is_own_line line = option_map_or (λ place. is_own (take place line)) (mark_place log_mark line) false

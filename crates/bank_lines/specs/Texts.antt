@@ -10,7 +10,7 @@ use Rattle.ras_script.specs.declared.line.Line.{Line}
 use Rattle.ras_script.specs.declared.line.Line.TheVariants as asks
 use Rattle.ras_script.specs.declared.line.LineRefused.{LineRefused}
 use Rattle.bank_lines.specs.declared.found.Finding.{Finding}
-use Rattle.bank_lines.specs.declared.found.Finding.TheVariants.{Nothing, Whole, Partial, Foreign, Unread}
+use Rattle.bank_lines.specs.declared.found.Finding.TheVariants.{Nothing, Whole, Torn, Partial, Foreign, Firmware, Unread}
 use Rattle.bank_lines.specs.Finding.{Numbered, report_in}
 
 -- ---- lines, without their line feeds
@@ -19,7 +19,8 @@ use Rattle.bank_lines.specs.Finding.{Numbered, report_in}
 abbrev pub asking_line : BankReport → List ℕ
 asking_line report = line_text (asks.Report (Bank report))
 
--- the comments: of a report that isn't whole, of another vendor's, and of a line that can't be read
+-- the comments: of a report that isn't whole, of another vendor's, of one that Linux makes up of the
+-- firmware's, of one whose address was torn off, and of a line that can't be read
 abbrev pub partial_comment : ℕ → ℕ → List ℕ
 partial_comment cpu bank = codes "# partial cpu=" ++ decimal cpu ++ codes " bank=" ++ decimal bank
 
@@ -27,20 +28,28 @@ abbrev pub vendor_line : ℕ → ℕ → ℕ → List ℕ
 vendor_line vendor cpu bank =
     codes "# vendor=" ++ decimal vendor ++ codes " cpu=" ++ decimal cpu ++ codes " bank=" ++ decimal bank
 
+abbrev pub firmware_line : ℕ → List ℕ
+firmware_line cpu = codes "# firmware cpu=" ++ decimal cpu ++ codes " bank=255"
+
+abbrev pub torn_line : ℕ → List ℕ
+torn_line number = codes "# torn " ++ decimal number
+
 abbrev pub unread_line : ℕ → List ℕ
 unread_line number = codes "# unread " ++ decimal number
 
--- the line of what was found in the line of this number, if it has one
+-- the lines of what was found in the line of this number
 abbrev pub lines_at : ℕ → Finding → List (List ℕ)
 lines_at number Nothing = []
 lines_at number (Whole report) = asking_line report ∷ []
+lines_at number (Torn report) = torn_line number ∷ asking_line report ∷ []
 lines_at number (Partial cpu bank) = partial_comment cpu bank ∷ []
 lines_at number (Foreign vendor cpu bank) = vendor_line vendor cpu bank ∷ []
+lines_at number (Firmware cpu) = firmware_line cpu ∷ []
 lines_at number Unread = unread_line number ∷ []
 
 -- ---- texts
 
--- the text of it: a line feed ends the line
+-- the text of it: a line feed ends each line
 abbrev pub found_text : ℕ → Finding → List ℕ
 found_text number found = script_of (lines_at number found)
 

@@ -2,6 +2,7 @@
 use Rattle.std.specs.Prelude.{ℕ, ◌-◌, ◌^◌, ◌==◌, List, [], ◌∷◌, codes, drop, take, Option, None, Some}
 use Rattle.std.specs.List.{position_or_len}
 use Rattle.std.specs.Option.{option_map_or}
+use Rattle.ras_script.specs.Lines.{without_last}
 use Rattle.ras_script.specs.Number.{decimal_of, hexadecimal_of}
 use Rattle.ras_klog.specs.Reading.{read_then}
 use Rattle.bank_lines.specs.declared.event.TraceEvent.{TraceEvent}
@@ -165,6 +166,7 @@ whole_event fields =
       misc = misc;
     })))))))))
 
--- What the text of an event tells. It is cut at each comma, and spaces before a field don't count.
+-- What the text of an event tells. It is cut at each comma, and spaces before a field don't count. Nor
+-- does the last part: kernels print nothing there that is wanted, and a text that is cut ends within it.
 abbrev pub event_in : List ℕ → Option TraceEvent
-event_in text = read_then (fields_after no_fields (cut_at 44 text)) whole_event
+event_in text = read_then (fields_after no_fields (without_last (cut_at 44 text))) whole_event

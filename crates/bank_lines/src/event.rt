@@ -73,13 +73,18 @@ struct Fields {
 /// What the text of an event tells. It takes no memory.
 ///
 /// The text is cut at each comma, and a field is what begins with its name, behind any spaces. None
-/// if a field that is wanted is missing, is there twice, or holds no number in its range.
+/// if a field that is wanted is missing, is there twice, or holds no number in its range. What
+/// follows the last comma is passed over: kernels print nothing there that is wanted, and a text
+/// that is cut ends within it.
 pub fn event_in(text: &[u8]) -> Option<TraceEvent>
     ensures { result ≡ event_in text.now }
 {
     let mut fields = Fields::none();
     let mut parts = Parts::new(b',', text);
     while let Some(part) = parts.next() {
+        if parts.are_taken() {
+            break;
+        }
         fields.take(part)?;
     }
     fields.event()

@@ -1,10 +1,18 @@
 //! What is found in the input.
 
-ghost use Rattle.std.specs.Prelude.{◌≡◌};
-ghost use Rattle.bank_lines.specs.Finding.{found_of};
+ghost use Rattle.std.specs.Prelude.{◌≡◌, true};
+ghost use Rattle.bank_lines.specs.Finding.{found_of, held, lacks_address, log_found_of};
+ghost use Rattle.bank_lines.specs.Finding.{torn_or_whole, without_address};
 
 use mca_status::Status;
 use ras_facts::BankReport;
+
+/// The bank of the machine checks that Linux makes up of the memory errors that the firmware
+/// reports.
+pub const FIRMWARE_BANK: u8 = 255;
+
+// ADDRV of IA32_MCi_STATUS.
+const ADDRESS_VALID: u64 = 1 << 58;
 
 /// What is found in the input.
 #[derive(Clone, Copy, Debug, PartialEq, Eq)]
@@ -13,10 +21,14 @@ pub enum Finding {
     Nothing,
     /// A whole report of an Intel processor's bank, which holds an error (VAL is 1).
     Whole(BankReport),
+    /// The same of a log that lost the address of which its status tells: here ADDRV is 0.
+    Torn(BankReport),
     /// A report of a bank that began, and isn't whole.
     Partial { cpu: u16, bank: u8 },
     /// A report of another vendor's processor, by the kernel's number of the vendor: 0 is Intel.
     Foreign { vendor: u64, cpu: u16, bank: u8 },
+    /// What Linux makes up of a memory error that the firmware reports.
+    Firmware { cpu: u16 },
     /// A line that has the mark of a machine check, and can't be read as one.
     Unread,
 }
@@ -26,10 +38,55 @@ impl Finding {
     pub fn of_report(report: BankReport) -> Finding
         ensures { result ≡ found_of report }
     {
-        if Status(report.status).is_valid() {
-            Finding::Whole(report)
-        } else {
-            Finding::Nothing
-        }
+        held(&report, Finding::Whole(report))
+    }
+
+    /// The same of a report of a log, which may have lost its address.
+    pub fn of_log_report(report: BankReport) -> Finding
+        ensures { result ≡ log_found_of report }
+    {
+        held(&report, torn_or_whole(report))
+    }
+}
+
+// What is found of a report, if this is what is found of an error.
+fn held(report: &BankReport, found: Finding) -> Finding
+    ensures { result ≡ held report.now found }
+{
+    if !Status(report.status).is_valid() {
+        return Finding::Nothing;
+    }
+    if report.bank == FIRMWARE_BANK {
+        return Finding::Firmware { cpu: report.cpu };
+    }
+    found
+}
+
+// A report, without the address that it lacks.
+fn torn_or_whole(report: BankReport) -> Finding
+    ensures { result ≡ torn_or_whole report }
+{
+    if lacks_address(&report) {
+        Finding::Torn(without_address(report))
+    } else {
+        Finding::Whole(report)
+    }
+}
+
+// Whether a report's status says that there is an address, and none came.
+fn lacks_address(report: &BankReport) -> bool
+    ensures { result ≡ lacks_address report.now }
+{
+    Status(report.status).is_address_valid() && report.addr == 0
+}
+
+// A report with ADDRV 0.
+fn without_address(report: BankReport) -> BankReport
+    requires { lacks_address report ≡ true }
+    ensures { result ≡ without_address report }
+{
+    BankReport {
+        status: report.status - ADDRESS_VALID,
+        ..report
     }
 }

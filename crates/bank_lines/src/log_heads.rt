@@ -3,10 +3,7 @@
 ghost use Rattle.std.specs.Prelude.{◌≡◌, ◌+◌, ◌-◌, ◌<◌, ◌≤◌, ◌==◌, ◌↔◌, drop, length, not, IfSome, IsTrue};
 ghost use Rattle.std.specs.List.{position};
 ghost use Rattle.memchr.specs.Find.{FindsNeedle, OccursAt};
-ghost use Rattle.bank_lines.specs.LogHeads.{after, are_digits, are_signs, has_digit};
-ghost use Rattle.bank_lines.specs.LogHeads.{is_after_brackets, is_bracketed, is_caller, is_dated};
-ghost use Rattle.bank_lines.specs.LogHeads.{is_iso_time, is_joined, is_logger, is_own, is_stamp};
-ghost use Rattle.bank_lines.specs.LogHeads.{is_time, mark_place, up_to, without_spaces};
+ghost use Rattle.bank_lines.specs.LogHeads.{after, are_digits, are_signs, has_digit, is_after_brackets, is_bracketed, is_caller, is_dated, is_iso_time, is_joined, is_logger, is_own, is_stamp, is_time, mark_place, up_to, without_spaces, are_clock_signs, are_flag_signs, are_flags, are_name_signs, are_names, is_clock, is_facility, is_host, is_kernel, is_leveled, is_name, is_name_sign, is_number, is_record, is_timed, record_time};
 
 use ras_script::position_of;
 
@@ -105,10 +102,52 @@ fn are_digits(text: &[u8]) -> bool
 }
 
 // Whether a text has a digit.
-fn has_digit(text: &[u8]) -> bool
+pub(crate) fn has_digit(text: &[u8]) -> bool
     ensures { result ≡ has_digit text.now }
 {
     text.iter().any(|b| b.is_ascii_digit())
+}
+
+// Whether a text is a number.
+fn is_number(text: &[u8]) -> bool
+    ensures { result ≡ is_number text.now }
+{
+    !text.is_empty() && are_digits(text)
+}
+
+// Whether a byte is a sign of a host's name.
+fn is_name_sign(byte: u8) -> bool
+    ensures { result ≡ is_name_sign byte }
+{
+    b"abcdefghijklmnopqrstuvwxyzABCDEFGHIJKLMNOPQRSTUVWXYZ0123456789.-_".contains(&byte)
+}
+
+// Whether a word is a host's name.
+fn is_name(word: &[u8]) -> bool
+    ensures { result ≡ is_name word.now }
+{
+    !word.is_empty() && are_name_signs(word)
+}
+
+// Whether a text is of the signs of names alone.
+fn are_name_signs(text: &[u8]) -> bool
+    ensures { result ≡ are_name_signs text.now }
+{
+    text.iter().all(|b| is_name_sign(*b))
+}
+
+// Whether a text is of names, and spaces between.
+fn are_names(text: &[u8]) -> bool
+    ensures { result ≡ are_names text.now }
+{
+    text.iter().all(|b| *b == b' ' || is_name_sign(*b))
+}
+
+// Whether a text is the host's name and a space before it, or nothing.
+fn is_host(text: &[u8]) -> bool
+    ensures { result ≡ is_host text.now }
+{
+    text.is_empty() || text.starts_with(b" ") && is_name(without_first(text))
 }
 
 // Whether a text is of the signs of times alone.
@@ -119,7 +158,7 @@ fn are_signs(text: &[u8]) -> bool
 }
 
 // Whether a text has no space.
-fn is_joined(text: &[u8]) -> bool
+pub(crate) fn is_joined(text: &[u8]) -> bool
     ensures { result ≡ is_joined text.now }
 {
     text.iter().all(|b| *b != b' ')
@@ -131,7 +170,7 @@ pub(crate) fn is_own(head: &[u8]) -> bool
 {
     match mark_place(b": ", head) {
         Some(place) => is_logger(&head[..place]) && is_stamp(&head[place + 2..]),
-        None => is_stamp(head),
+        None => is_stamp(head) || is_record(head),
     }
 }
 
@@ -139,9 +178,21 @@ pub(crate) fn is_own(head: &[u8]) -> bool
 fn is_logger(text: &[u8]) -> bool
     ensures { result ≡ is_logger text.now }
 {
-    if text.starts_with(b"kern  :") {
-        return true;
-    }
+    is_facility(text) || is_kernel(text)
+}
+
+// Whether a text is the kernel's facility and a level.
+fn is_facility(text: &[u8]) -> bool
+    ensures { result ≡ is_facility text.now }
+{
+    let (_, level) = cut(b':', text);
+    text.starts_with(b"kern  :") && are_names(level)
+}
+
+// Whether a text is a time, perhaps the host's name, and the kernel's.
+fn is_kernel(text: &[u8]) -> bool
+    ensures { result ≡ is_kernel text.now }
+{
     match text.strip_suffix(b" kernel") {
         Some(front) => is_dated(front),
         None => false,
@@ -153,30 +204,44 @@ fn is_dated(text: &[u8]) -> bool
     ensures { result ≡ is_dated text.now }
 {
     if text.starts_with(b"[") {
-        let (_, rest) = cut(b']', text);
-        return is_joined(without_first(rest));
+        let (time, host) = cut(b']', text);
+        return time.len() < text.len() && is_clock(without_first(time)) && is_host(host);
     }
+    is_timed(text)
+}
+
+// Whether a text is of words of a time and names behind them.
+fn is_timed(text: &[u8]) -> bool
+    ensures { result ≡ is_timed text.now }
+{
     let (first, rest) = cut(b' ', text);
-    let (second, _) = cut(b' ', without_spaces(rest));
-    is_time(first) || !text.starts_with(b" ") && is_time(second)
+    let (second, names) = cut(b' ', without_spaces(rest));
+    let (third, more) = cut(b' ', names);
+    is_time(first) && are_names(rest)
+        || is_name(first) && is_time(second) && is_time(third) && are_names(more)
 }
 
 // Whether a text may stand right before a message of the kernel.
 fn is_stamp(text: &[u8]) -> bool
     ensures { result ≡ is_stamp text.now }
 {
-    text.is_empty()
-        || is_bracketed(text)
-        || text.starts_with(b"<") && is_bracketed(cut(b'>', text).1)
-        || is_iso_time(text)
+    text.is_empty() || is_bracketed(text) || is_leveled(text) || is_iso_time(text)
 }
 
-// Whether a text is in brackets, with a caller after it or not, and a space.
+// Whether a text is a level and a time in brackets.
+fn is_leveled(text: &[u8]) -> bool
+    ensures { result ≡ is_leveled text.now }
+{
+    let (level, rest) = cut(b'>', text);
+    text.starts_with(b"<") && is_number(without_first(level)) && is_bracketed(rest)
+}
+
+// Whether a text is a time in brackets, with a caller after it or not, and a space.
 fn is_bracketed(text: &[u8]) -> bool
     ensures { result ≡ is_bracketed text.now }
 {
-    let (inner, rest) = cut(b']', text);
-    text.starts_with(b"[") && has_digit(inner) && is_after_brackets(rest)
+    let (time, rest) = cut(b']', text);
+    text.starts_with(b"[") && is_clock(without_first(time)) && is_after_brackets(rest)
 }
 
 // Whether a text may follow brackets: a space, after a caller or not.
@@ -212,5 +277,55 @@ fn is_iso_time(text: &[u8]) -> bool
 fn is_time(word: &[u8]) -> bool
     ensures { result ≡ is_time word.now }
 {
-    !word.is_empty() && are_signs(word)
+    has_digit(word) && are_signs(word)
+}
+
+// Whether a text is a time as it stands in brackets.
+fn is_clock(text: &[u8]) -> bool
+    ensures { result ≡ is_clock text.now }
+{
+    has_digit(text) && are_clock_signs(text)
+}
+
+// Whether a text is of the signs of a time in brackets alone.
+fn are_clock_signs(text: &[u8]) -> bool
+    ensures { result ≡ are_clock_signs text.now }
+{
+    text.iter()
+        .all(|b| is_name_sign(*b) || b" :+<>".contains(b))
+}
+
+// The time in the head of a record, and what stands behind it.
+pub(crate) fn record_time(text: &[u8]) -> (&[u8], &[u8])
+    ensures time { result.0.now ≡ record_time text.now }
+    ensures rest { result.1.now ≡ after 44 (after 44 (after 44 text.now)) }
+{
+    let (_, rest) = cut(b',', text);
+    let (_, rest) = cut(b',', rest);
+    cut(b',', rest)
+}
+
+// Whether a text is the head of a record of /dev/kmsg.
+fn is_record(text: &[u8]) -> bool
+    ensures { result ≡ is_record text.now }
+{
+    let (level, rest) = cut(b',', text);
+    let (sequence, _) = cut(b',', rest);
+    let (time, flags) = record_time(text);
+    is_number(level) && is_number(sequence) && is_number(time) && are_flags(flags)
+}
+
+// Whether a text may stand behind the time of a record.
+fn are_flags(text: &[u8]) -> bool
+    ensures { result ≡ are_flags text.now }
+{
+    let (flags, rest) = cut(b';', text);
+    text.ends_with(b";") && rest.is_empty() && are_flag_signs(flags)
+}
+
+// Whether a text is of the signs of flags alone.
+fn are_flag_signs(text: &[u8]) -> bool
+    ensures { result ≡ are_flag_signs text.now }
+{
+    text.iter().all(|b| is_name_sign(*b) || b",=+".contains(b))
 }

@@ -1,6 +1,6 @@
 //! What is printed of a kernel log, by its reports.
 
-ghost use Rattle.std.specs.Prelude.{◌≡◌, ◌<◌, ◌^◌, ℕ, List, length, map, Ok, Some};
+ghost use Rattle.std.specs.Prelude.{◌≡◌, ◌<◌, ◌^◌, ◌⊎◌, ℕ, List, ◌∷◌, ◌++◌, false, length, map, Ok, Some};
 ghost use Rattle.ras_facts.specs.Facts.{bank_name};
 ghost use Rattle.ras_facts.specs.declared.bank.BankReport.{BankReport};
 ghost use Rattle.ras_klog.specs.Groups.{told_of_groups};
@@ -9,8 +9,10 @@ ghost use Rattle.ras_script.specs.declared.line.ErrorReport.TheVariants.{Bank};
 ghost use Rattle.ras_script.specs.declared.line.Line.TheVariants.{Report};
 ghost use Rattle.bank_lines.specs.LogFilter.{log_reports, log_script};
 ghost use Rattle.bank_lines.specs.LogGroups.{klog_part, log_groups, told_in, with_counter};
+ghost use Rattle.bank_lines.specs.LogLines.{is_own_line, log_line_of};
 ghost use Rattle.bank_lines.specs.Texts.{asks_in};
 ghost use Rattle.bank_lines.specs.declared.log_line.LogLine.{LogLine};
+ghost use Rattle.bank_lines.specs.declared.log_line.LogLine.TheVariants.{Nothing, Unread};
 
 use crate::laws::printed_lines_are_read_back;
 
@@ -26,6 +28,13 @@ pub fn logs_are_made_lines()
         → length lines < 2 ^ 63
         → asks_in (lines_of (log_script boot cap lines))
         ≡ map (λ (r : BankReport). Ok (Report (Bank r))) (log_reports boot cap lines) }
+    // A line that isn't the kernel's own tells nothing, or that it can't be read: the reports are what
+    // they are without it.
+    ensures others { (line : List ℕ) → is_own_line line ≡ false
+        → (log_line_of line ≡ Nothing) ⊎ (log_line_of line ≡ Unread) }
+    ensures alone { (boot cap : ℕ) (before after : List (List ℕ)) (line : List ℕ)
+        → is_own_line line ≡ false
+        → log_reports boot cap (before ++ line ∷ after) ≡ log_reports boot cap (before ++ after) }
     // Errors that were found by polling, and printed at other times, have other names.
     ensures names { (count next stamp other : ℕ) (first second : BankReport)
         → first.tsc ≡ 0 → second.tsc ≡ 0 → ¬ (stamp ≡ other)

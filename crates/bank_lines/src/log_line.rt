@@ -1,16 +1,20 @@
 //! What the lines of a kernel log tell of machine checks.
 
 ghost use Rattle.std.specs.Prelude.{◌≡◌, ◌≤◌, length, IfSome};
-ghost use Rattle.bank_lines.specs.LogLines.{is_of_report, log_line_after, log_line_of, log_mark};
-ghost use Rattle.bank_lines.specs.LogLines.{micros_of, log_stamp_of, line_told_by, vendor_of};
+ghost use Rattle.bank_lines.specs.LogLines.{bracket_stamp, is_cut, is_of_report, log_line_after};
+ghost use Rattle.bank_lines.specs.LogLines.{log_line_of, log_mark, log_stamp_of, micros_of};
+ghost use Rattle.bank_lines.specs.LogLines.{line_told_by, untold, vendor_of};
 
-use crate::log_heads::{cut, is_own, mark_place, without_spaces};
+use crate::log_heads::{cut, is_joined, is_own, mark_place, record_time, without_spaces};
 use ras_klog::{KlogLine, klog_line};
 use ras_script::decimal;
 
 /// The last second that a stamp may have, and the greatest time that an error without a stamp has
 /// in its counter: 12 digits.
 pub const LAST_SECOND: u64 = 999_999_999_999;
+
+/// The greatest stamp, in microseconds.
+pub const LAST_STAMP: u64 = 999_999_999_999_999_999;
 
 /// The microseconds of a second.
 pub const MICROSECONDS: u64 = 1_000_000;
@@ -21,9 +25,9 @@ const MARK: &[u8] = b"mce: [Hardware Error]: ";
 /// What a line of a kernel log tells of machine checks.
 #[derive(Clone, Copy, Debug, PartialEq, Eq)]
 pub(crate) enum LogLine {
-    // Nothing, or it isn't the kernel's own.
+    // Nothing.
     Nothing,
-    // It begins as a line of a report, and can't be read as one.
+    // It begins as a line of a report, and can't be read as one, or isn't the kernel's own.
     Unread,
     // A line of a report, the stamp before it in microseconds, and the vendor's number, which only
     // a `Processor` has.
@@ -49,8 +53,20 @@ fn log_line_after(head: &[u8], marked: &[u8]) -> LogLine
     requires { length log_mark ≤ length marked.now }
     ensures { result ≡ log_line_after head.now marked.now }
 {
+    let text = &marked[MARK.len()..];
     if is_own(head) {
-        line_told_by(log_stamp_of(head), &marked[MARK.len()..], klog_line(marked))
+        line_told_by(log_stamp_of(head), text, klog_line(marked))
+    } else {
+        untold(text)
+    }
+}
+
+// What a text after a mark is that tells nothing.
+fn untold(text: &[u8]) -> LogLine
+    ensures { result ≡ untold text.now }
+{
+    if is_of_report(text) {
+        LogLine::Unread
     } else {
         LogLine::Nothing
     }
@@ -61,8 +77,7 @@ fn line_told_by(stamp: Option<u64>, text: &[u8], line: KlogLine) -> LogLine
     ensures { result ≡ line_told_by stamp text.now line }
 {
     match line {
-        KlogLine::Other if is_of_report(text) => LogLine::Unread,
-        KlogLine::Other => LogLine::Nothing,
+        KlogLine::Other => untold(text),
         KlogLine::Processor { .. } => match vendor_of(text) {
             Some(vendor) => LogLine::Part {
                 line,
@@ -87,18 +102,42 @@ fn is_of_report(text: &[u8]) -> bool
     word == b"CPU".as_slice() || word == b"TSC".as_slice() || word == b"PROCESSOR".as_slice()
 }
 
-// The vendor's number: the second word up to its colon.
+// The vendor's number, the second word up to its colon, of a line that isn't cut.
 fn vendor_of(text: &[u8]) -> Option<u64>
     ensures { result ≡ vendor_of text.now }
 {
+    if is_cut(text) {
+        return None;
+    }
     let (_, rest) = cut(b' ', text);
     let (number, _) = cut(b':', rest);
     decimal(number, u64::MAX)
 }
 
-// The microseconds in the first brackets of a head.
+// Whether the line of a time ends with it.
+fn is_cut(text: &[u8]) -> bool
+    ensures { result ≡ is_cut text.now }
+{
+    let (_, rest) = cut(b' ', text);
+    let (_, rest) = cut(b' ', rest);
+    let (_, rest) = cut(b' ', rest);
+    is_joined(rest)
+}
+
+// The microseconds at which a line was printed, by its head.
 fn log_stamp_of(head: &[u8]) -> Option<u64>
     ensures { result ≡ log_stamp_of head.now }
+{
+    if head.ends_with(b";") {
+        let (time, _) = record_time(head);
+        return decimal(time, LAST_STAMP);
+    }
+    bracket_stamp(head)
+}
+
+// The microseconds in the first brackets of a head.
+fn bracket_stamp(head: &[u8]) -> Option<u64>
+    ensures { result ≡ bracket_stamp head.now }
 {
     let (_, rest) = cut(b'[', head);
     let (inner, _) = cut(b']', rest);

@@ -86,7 +86,7 @@ fn found_told(count: u64, stamp: Option<u64>, vendor: u64, out: &KlogOut) -> Fin
         KlogOut::Nothing => Finding::Nothing,
         KlogOut::Partial { cpu, bank } => Finding::Partial { cpu, bank },
         KlogOut::Whole(report) if vendor == 0 => {
-            Finding::of_report(with_counter(count, stamp, report))
+            Finding::of_log_report(with_counter(count, stamp, report))
         }
         KlogOut::Whole(report) => Finding::Foreign {
             vendor,

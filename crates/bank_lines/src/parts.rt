@@ -1,6 +1,7 @@
 //! The parts of a text, in turn.
 
-ghost use Rattle.std.specs.Prelude.{◌≡◌, ◌<◌, [], ◌∷◌, length, IfSome, MatchOption};
+ghost use Rattle.std.specs.Prelude.{◌≡◌, ◌<◌, [], ◌∷◌, length, IfSome, MatchOption, ◌==◌, ◌↔◌, IsTrue};
+ghost use Rattle.std.specs.List.{position};
 ghost use Rattle.std.specs.Option.{option_map, option_map_or};
 ghost use Rattle.bank_lines.specs.Parts.{after_spaces, cut_at, value_after};
 ghost use Rattle.bank_lines.specs.Steps.PartsLeft.{parts_in};
@@ -34,6 +35,13 @@ impl<'a> Parts<'a> {
         let (part, rest) = cut(self.separator, text);
         self.rest = rest;
         Some(part)
+    }
+
+    // Whether all parts are taken.
+    pub(crate) fn are_taken(&self) -> bool
+        ensures { IsTrue result ↔ (parts_in self.now ≡ []) }
+    {
+        self.rest.is_none()
     }
 }
 

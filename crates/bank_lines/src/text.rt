@@ -4,7 +4,7 @@ ghost use Rattle.std.specs.Prelude.{◌≡◌, ◌<◌, ◌≤◌, ◌∷◌, �
 ghost use Rattle.std.specs.Fmt.{decimal, digit_glyph};
 ghost use Rattle.ras_script.specs.LineLaws.{hexadecimal};
 ghost use Rattle.bank_lines.specs.declared.text.TheConstants.{WORD_BYTES};
-ghost use Rattle.bank_lines.specs.Texts.{asking_line, found_text, partial_comment, unread_line, vendor_line};
+ghost use Rattle.bank_lines.specs.Texts.{asking_line, found_text, partial_comment, unread_line, vendor_line, firmware_line, torn_line};
 
 use crate::Finding;
 use ras_base::{NoMemory, push_number};
@@ -25,8 +25,10 @@ pub(crate) fn push_found(text: &mut Vec<u8>, found: &Finding, number: u64) -> Re
     match found {
         Finding::Nothing => return Ok(()),
         Finding::Whole(report) => push_bank(text, report)?,
+        Finding::Torn(report) => push_torn(text, report, number)?,
         Finding::Partial { cpu, bank } => push_partial(text, *cpu, *bank)?,
         Finding::Foreign { vendor, cpu, bank } => push_foreign(text, *vendor, *cpu, *bank)?,
+        Finding::Firmware { cpu } => push_firmware(text, *cpu)?,
         Finding::Unread => push_named(text, b"# unread ", number)?,
     }
     text.push(b'\n')?;
@@ -49,6 +51,16 @@ fn push_bank(text: &mut Vec<u8>, report: &BankReport) -> Result<(), NoMemory>
     push_register(text, report.misc)
 }
 
+// Adds the comment that an address was torn off at the line of this number, and the report's line.
+fn push_torn(text: &mut Vec<u8>, report: &BankReport, number: u64) -> Result<(), NoMemory>
+    ensures { OnOk result
+        (text.new.items ≡ text.old.items ++ torn_line number ++ 10 ∷ asking_line report.now) }
+{
+    push_named(text, b"# torn ", number)?;
+    text.push(b'\n')?;
+    push_bank(text, report)
+}
+
 // Adds the comment of a report that isn't whole.
 fn push_partial(text: &mut Vec<u8>, cpu: u16, bank: u8) -> Result<(), NoMemory>
     ensures { OnOk result (text.new.items ≡ text.old.items ++ partial_comment cpu bank) }
@@ -64,6 +76,15 @@ fn push_foreign(text: &mut Vec<u8>, vendor: u64, cpu: u16, bank: u8) -> Result<(
     push_named(text, b"# vendor=", vendor)?;
     push_named(text, b" cpu=", u64::from(cpu))?;
     push_named(text, b" bank=", u64::from(bank))
+}
+
+// Adds the comment of what Linux makes up of the firmware's reports.
+fn push_firmware(text: &mut Vec<u8>, cpu: u16) -> Result<(), NoMemory>
+    ensures { OnOk result (text.new.items ≡ text.old.items ++ firmware_line cpu) }
+{
+    push_named(text, b"# firmware cpu=", u64::from(cpu))?;
+    text.extend_from_slice(b" bank=255")?;
+    Ok(())
 }
 
 // Adds a number in decimal after a name.

@@ -1,17 +1,17 @@
 //! What holds of the lines of a trace.
 
-ghost use Rattle.std.specs.Prelude.{◌≡◌, ℕ, ◌^◌, ◌<◌, List, length, map, Ok};
+ghost use Rattle.std.specs.Prelude.{◌≡◌, ℕ, ◌^◌, ◌<◌, ◌⊎◌, List, ◌∷◌, ◌++◌, false, length, map, Ok};
 ghost use Rattle.std.specs.List.{AllByRecursion};
 ghost use Rattle.ras_facts.specs.Facts.{bank_name};
 ghost use Rattle.ras_facts.specs.declared.bank.BankReport.{BankReport};
 ghost use Rattle.ras_script.specs.Splitting.{lines_of};
 ghost use Rattle.ras_script.specs.declared.line.ErrorReport.TheVariants.{Bank};
 ghost use Rattle.ras_script.specs.declared.line.Line.TheVariants.{Report};
-ghost use Rattle.bank_lines.specs.declared.found.Finding.TheVariants.{Whole};
+ghost use Rattle.bank_lines.specs.declared.found.Finding.TheVariants.{Nothing, Unread, Whole};
 ghost use Rattle.bank_lines.specs.Filter.{trace_filter, trace_founds};
 ghost use Rattle.bank_lines.specs.Finding.{IsFoundInRange, Numbered, reports_in};
 ghost use Rattle.bank_lines.specs.Texts.{asks_in, found_text, printed};
-ghost use Rattle.bank_lines.specs.Trace.{IsPolled, stamp_before, trace_found};
+ghost use Rattle.bank_lines.specs.Trace.{IsPolled, is_event_line, stamp_before, trace_found};
 
 /// All that is found in the lines of a trace fits its types, so it is read back: what the printed
 /// lines ask for is the whole reports of the trace, in order. The function does nothing: its
@@ -23,6 +23,14 @@ pub fn traces_are_read_back()
     // The filter prints the text of each, and refuses no line.
     ensures answers { (boot : ℕ) (lines : List (List ℕ)) → (trace_filter boot).answers lines
         ≡ map (λ (n : Numbered). Ok (found_text n.number n.found)) (trace_founds boot lines) }
+    // A line whose mark isn't where tracers print it tells nothing, or that it can't be read: the
+    // reports are what they are without it.
+    ensures others { (boot : ℕ) (line : List ℕ) → is_event_line line ≡ false
+        → (trace_found boot line ≡ Nothing) ⊎ (trace_found boot line ≡ Unread) }
+    ensures alone { (boot : ℕ) (before after : List (List ℕ)) (line : List ℕ)
+        → is_event_line line ≡ false
+        → reports_in (trace_founds boot (before ++ line ∷ after))
+        ≡ reports_in (trace_founds boot (before ++ after)) }
     ensures asks { (boot : ℕ) (lines : List (List ℕ)) → boot < 2 ^ 64 → length lines < 2 ^ 64
         → asks_in (lines_of (printed (trace_founds boot lines)))
         ≡ map (λ (r : BankReport). Ok (Report (Bank r))) (reports_in (trace_founds boot lines)) }

@@ -83,6 +83,7 @@ def klog(boot, cap, log):
 # ---- lines of a script
 
 VENDOR, PARTIAL, UNREAD = "# vendor={} cpu={} bank={}\n", "# partial cpu={} bank={}\n", "# unread {}\n"
+FIRMWARE, TORN = "# firmware cpu={} bank=255\n", "# torn {}\n"
 
 
 def bank_line(boot, seconds, cpu, bank, tsc, cap, mcg, status, addr, misc):
@@ -134,9 +135,9 @@ def bank_of(name):
 
 
 def fields_of(text):
-    """The fields of an event that are wanted: the words that each has, and the bank's number."""
+    """The fields of an event that are wanted: the words that each has, and the bank's number. The last may be cut."""
     found = {}
-    for part in text.split(b","):
+    for part in text.split(b",")[:-1]:
         name, colon, value = part.lstrip(b" ").partition(b": ")
         bank = bank_of(name)
         thing = "status" if bank is not None else NAMED.get(name)
@@ -173,7 +174,16 @@ def event_text(boot, front, text):
     tsc = tsc or microseconds(front)
     if not bit(status, reports.VAL):
         return ""
+    if found["bank"] == 255:
+        return FIRMWARE.format(cpu)
     return bank_line(boot, seconds, cpu, found["bank"], tsc, cap, mcg, status, addr, misc)
+
+
+def is_front(front):
+    """Whether a tracer prints this before an event's name: up to the first colon and space, its time at the end."""
+    head, colon, rest = front.partition(b": ")
+    is_time = re.fullmatch(rb"[0-9.]*[0-9][0-9.]*", head.rpartition(b" ")[2])
+    return bool(colon and is_time and rest.lstrip(b" ") in (b"", b"mce:"))
 
 
 def trace_text(boot, number, line):
@@ -182,6 +192,7 @@ def trace_text(boot, number, line):
     if not mark:
         return ""
     try:
+        check(is_front(front))
         return event_text(boot, front, text)
     except Unreadable:
         return UNREAD.format(number)
@@ -197,25 +208,36 @@ def lines_trace(boot, trace):
 LOG_MARK = b"mce: " + MARKER
 KINDS = (b"CPU", b"TSC", b"PROCESSOR")
 LAST_SECOND = 10**12 - 1
-TIME = rb"[0-9:.,+TZ-]+"
-BRACKETS = rb"\[(?=[^\]]*[0-9])[^\]]*\](?: | ?\[ *[TC][0-9]*\] )"
+NAME = rb"[A-Za-z0-9._-]+"
+NAMES = rb"[A-Za-z0-9._ -]*"
+TIME = rb"(?=[:.,+TZ-]*[0-9])[0-9:.,+TZ-]+"
+CLOCK = rb"(?=[^\]]*[0-9])[A-Za-z0-9._ :+<>-]+"
+BRACKETS = rb"\[%s\](?: | ?\[ *[TC][0-9]*\] )" % CLOCK
 # What may stand right before a message: nothing, brackets, a level and brackets, or a time by ISO 8601.
-ALONE = re.compile(rb"(?:(?:<[^>]*>)?%s)?|[0-9:.,+TZ-]{10}T[0-9:.,+TZ-]* ?" % BRACKETS)
+ALONE = re.compile(rb"(?:(?:<[0-9]+>)?%s)?|[0-9:.,+TZ-]{10}T[0-9:.,+TZ-]* ?" % BRACKETS)
 # What may stand before ` kernel: `, so that the line is of a log that others pass on.
-DATED = re.compile(rb"\[[^\]]*(?:\](?:.[^ ]*)?)?|(?!\[)(?:%s(?: .*)?|(?! )[^ ]* +%s(?: .*)?)" % (TIME, TIME), re.S)
+DATED = re.compile(
+    rb"\[%s\](?: %s)?|%s(?: %s)?|%s +%s %s(?: %s)?" % (CLOCK, NAME, TIME, NAMES, NAME, TIME, TIME, NAMES)
+)
+# The head of a record of /dev/kmsg: level, sequence, microseconds, flags.
+RECORD = re.compile(rb"[0-9]+,[0-9]+,([0-9]+),[A-Za-z0-9._,=+-]*;")
 
 
 def is_own(head):
     """Whether this before the mark says that the line is the kernel's own."""
     logger, colon, rest = head.partition(b": ")
     if not colon:
-        return bool(ALONE.fullmatch(head))
-    is_logger = logger.startswith(b"kern  :") or logger.endswith(b" kernel") and DATED.fullmatch(logger[:-7])
+        return bool(ALONE.fullmatch(head) or RECORD.fullmatch(head))
+    is_level = re.fullmatch(rb"kern  :" + NAMES, logger)
+    is_logger = is_level or logger.endswith(b" kernel") and DATED.fullmatch(logger[:-7])
     return bool(is_logger and ALONE.fullmatch(rest))
 
 
 def stamp_in(head):
-    """The microseconds in the first brackets of a head, or none."""
+    """The microseconds of a record's head, or in the first brackets of another, or none."""
+    if record := RECORD.fullmatch(head):
+        micros = record[1]
+        return int(micros) if len(micros) <= 20 and int(micros) < 10**18 else None
     _, _, text = head.partition(b"[")
     stamp = re.fullmatch(rb" *([0-9]{1,20})\.([0-9]{6})", text.partition(b"]")[0])
     return int(stamp[1]) * SECOND + int(stamp[2]) if stamp and int(stamp[1]) <= LAST_SECOND else None
@@ -241,17 +263,22 @@ class LogLines:
         self.counted += 1
         return seconds % (LAST_SECOND + 1) * SECOND + (self.counted - 1) % SECOND
 
-    def whole(self, vendor, seconds):
-        """What is told of a report that is whole."""
+    def whole(self, number, vendor, seconds):
+        """What is told of a report that is whole, at the line of this number."""
         (_, cpu, mcg, bank, status), (_, tsc, addr, misc) = self.start, self.tsc
         self.start, tsc = None, tsc or self.counter(seconds)
         if vendor:
             return VENDOR.format(vendor, cpu, bank)
         if not bit(status, reports.VAL):
             return ""
-        return bank_line(self.boot, seconds, cpu, bank, tsc, self.cap, mcg, status, addr, misc)
+        if bank == 255:
+            return FIRMWARE.format(cpu)
+        is_torn = bit(status, reports.ADDRV) and addr == 0
+        status ^= is_torn << reports.ADDRV
+        line = bank_line(self.boot, seconds, cpu, bank, tsc, self.cap, mcg, status, addr, misc)
+        return (TORN.format(number) if is_torn else "") + line
 
-    def take(self, told, stamp):
+    def take(self, number, told, stamp):
         """What is told as a line of a report is read; one for which the report has no place can't be read."""
         kind, *numbers = told
         if kind == "start":
@@ -260,19 +287,21 @@ class LogLines:
         if kind == "tsc":
             self.tsc = told
             return ""
-        return self.whole(*numbers)
+        return self.whole(number, *numbers)
 
     def text(self, number, line):
         """What is printed of a line, and of the log's end, which has no number."""
         if number is None:
             return self.begin(None, None)
         head, mark, text = line.partition(LOG_MARK)
-        if not mark or not is_own(head) or text.split(b" ")[0] not in KINDS:
+        words = text.split(b" ")
+        if not mark or words[0] not in KINDS:
             return ""
         told = told_by(text)
         try:
-            check(told)
-            return self.take(told, stamp_in(head))
+            check(is_own(head) and told)
+            check(words[0] != b"PROCESSOR" or len(words) > 4)
+            return self.take(number, told, stamp_in(head))
         except Unreadable:
             return UNREAD.format(number)
 

@@ -7,7 +7,7 @@ use Rattle.bank_lines.specs.LogAlong.{log_at_start}
 use Rattle.bank_lines.specs.Texts.{asks_in}
 use Rattle.bank_lines.proofs.LogFoundLemmas.{numbered, numbered_in}
 use Rattle.bank_lines.proofs.LogGroupLemmas.{groups_are}
-use Rattle.bank_lines.proofs.LogLawLemmas.{reports_are, same_stamp, script_is}
+use Rattle.bank_lines.proofs.LogLawLemmas.{not_own, reports_are, reports_without, same_stamp, script_is}
 use Rattle.bank_lines.proofs.log_laws.logs_are_made_lines.Goals as goal
 
 pub returns : goal.returns
@@ -18,5 +18,7 @@ returns c = record {
       ∙ c.printed_lines_are_read_back.ensures.asks (numbered boot cap log_at_start 0 lines)
       (numbered_in boot cap b m log_at_start 0 lines (tt, tt, omega arith) (omega (arith, few)))
       ∙ ap (map (λ (r : BankReport). Ok (Report (Bank r)))) (reports_are boot cap lines);
+  others = λ line other. not_own line other;
+  alone = λ boot cap before after line other. reports_without boot cap before after line other;
   names = λ count next stamp other first second one two differ same. differ (same_stamp count next stamp other first second one two same);
 }
