@@ -1,5 +1,5 @@
 -- What is found in a line of the text of the kernel's trace.
-use Rattle.std.specs.Prelude.{ℕ, ◌≡◌, ◌+◌, ◌==◌, ◌&&◌, ◌||◌, Bool, false, List, [], ◌∷◌, codes, drop, length, take, nat_eq, Option, None, Some, IsSomeAnd, if◌then◌else◌}
+use Rattle.std.specs.Prelude.{nat_lt, ℕ, ◌≡◌, ◌+◌, ◌==◌, ◌&&◌, ◌||◌, Bool, false, List, [], ◌∷◌, codes, drop, length, take, nat_eq, Option, None, Some, IsSomeAnd, if◌then◌else◌}
 use Rattle.std.specs.Char.{is_digit}
 use Rattle.std.specs.List.{list_all, starts_with}
 use Rattle.std.specs.Option.{option_map_or}
@@ -36,12 +36,13 @@ abbrev pub last_word : List ℕ → List (List ℕ) → List ℕ
 last_word word [] = word
 last_word word (next ∷ words) = last_word next words
 
--- what a tracer's clock shows: `12.500001`, or without microseconds
 abbrev pub are_count_signs : List ℕ → Bool
 are_count_signs word = list_all (λ b. b == 46 || is_digit b 10) word
 
+-- What a tracer's clock shows: `12.500001`, or without microseconds. It has four signs at least: the name
+-- of a process has at most 15 bytes, so none holds such a word with a colon and the mark behind it.
 abbrev pub is_count : List ℕ → Bool
-is_count word = has_digit word && are_count_signs word
+is_count word = nat_lt 3 (length word) && (has_digit word && are_count_signs word)
 
 -- what may stand between the clock's colon and the mark: spaces, and behind them `mce:`, as perf prints it
 abbrev pub is_system : List ℕ → Bool

@@ -69,7 +69,7 @@ fn last_word(text: &[u8]) -> &[u8]
 fn is_count(word: &[u8]) -> bool
     ensures { result ≡ is_count word.now }
 {
-    has_digit(word) && are_count_signs(word)
+    word.len() > 3 && has_digit(word) && are_count_signs(word)
 }
 
 // Whether a word is of digits and points alone.

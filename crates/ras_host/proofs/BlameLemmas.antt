@@ -1,7 +1,6 @@
 -- Each call of a board keeps what is said of whose fault it is that its calls failed.
 use Rattle.std.proofs.Common.{◌≡◌, ℕ, ◌+◌, ◌-◌, ◌^◌, ◌<◌, ◌≤◌, min, refl, sym, ◌∙◌, subst, inl, inr, arith, lit<}
-use Rattle.std.specs.Prelude.{◌⊎◌, ◌==◌, if◌then◌else◌, Bool, true, false, List, Result, Ok, Err, OnOk, OnErr, IsTrue}
-use Rattle.std.specs.Result.{result_or}
+use Rattle.std.specs.Prelude.{◌⊎◌, ◌==◌, if◌then◌else◌, Bool, true, false, List, Result, Ok, Err, OnOk, IsTrue}
 use Rattle.board_core.specs.Cause.{Faults, HasCause, Rose}
 use Rattle.board_core.specs.declared.board.BoardPut.{BoardPut}
 use Rattle.ras_host.specs.Blame.{AreBlamed, AreCaused, AreReports, FilesCause, IsLost}
@@ -189,21 +188,3 @@ caused_begun how n none = record {
   print = inl refl;
   lost = λ lost. absurd lost;
 }
-
--- ---- a call that failed or went well in another one
-
--- a call failed in it, or another reason came after it
-pub once_failed : {T E U F : Type 0} (n n' : ℕ) (r : Result T E) (f : F) → CountsOnce n n' r → CountsOnce {T = U} n n' (Err f)
-once_failed n n' (Ok v) f once = record { later = once.later; same = tt; failed = inl once.same }
-once_failed n n' (Err e) f once = record { later = once.later; same = tt; failed = once.failed }
-
-pub once_or : {T E F : Type 0} (n n' : ℕ) (r : Result T E) (f : F) → CountsOnce n n' r → CountsOnce n n' (result_or r (Err f))
-once_or n n' (Ok v) f once = record { later = once.later; same = once.same; failed = tt }
-once_or n n' (Err e) f once = record { later = once.later; same = tt; failed = once.failed }
-
-pub once_after : {T E : Type 0} (n n' n'' : ℕ) (r : Result T E) → n' ≡ n → CountsOnce n' n'' r → CountsOnce n n'' r
-once_after n n' n'' r same once = subst (λ (m : ℕ). CountsOnce m n'' r) same once
-
-pub once_still : {T E : Type 0} (n n' : ℕ) (r : Result T E) → n' ≡ n → CountsOnce n n' r
-once_still n n' (Ok v) same = record { later = omega arith; same = same; failed = tt }
-once_still n n' (Err e) same = record { later = omega arith; same = tt; failed = inl same }

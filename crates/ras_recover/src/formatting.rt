@@ -1,5 +1,5 @@
 //! A new generation of the journal over a file.
-ghost use Rattle.std.specs.Prelude.{◌≡◌, IfOk, IfSome};
+ghost use Rattle.std.specs.Prelude.{◌≡◌, min, length, IfOk, IfSome};
 ghost use Rattle.board_core.specs.Cause.{disk_call};
 ghost use Rattle.board_core.specs.Doing.{Does, looks, one_end};
 ghost use Rattle.board_core.specs.Told.{file_of};
@@ -9,7 +9,7 @@ ghost use Rattle.ras_journal.specs.Recovered.{is_shut};
 ghost use Rattle.ras_recover.specs.Formatting.{behind_gate, closing_acts, formatting_acts};
 
 use board_core::{Board, Failed, FileNo, write_through};
-use journal_format::{checkpoint_len, push_checkpoint};
+use journal_format::push_checkpoint;
 use ras_account::Account;
 use ras_base::NoMemory;
 use ras_base::little_endian::push_u64;
@@ -23,24 +23,26 @@ const MAGIC: &[u8; 8] = b"RASJRNL2";
 /// checkpoint's bytes, and the closed gate.
 const BYTES_BESIDE_CHECKPOINT: usize = 25;
 
-// What is written after the gate at the front of a file, with the checkpoint of this account. Room
-// for all of it is taken once.
+// What is written after the gate at the front of a file, with the checkpoint of this account, which
+// has `count` bytes. Room for all of it is taken once. The caller has that number already, and to work
+// it out again each name would be looked at.
 pub(crate) fn next_bytes(
     alloc: Global,
     generation: u64,
+    count: u64,
     account: &Account,
 ) -> Result<Vec<u8>, NoMemory>
+    requires { count ≡ min u64.MAX (length (checkpoint_bytes Two account.now.state)) }
     ensures is { IfOk result (λ bytes. bytes.items ≡ behind_gate generation
         (checkpoint_bytes Two account.now.state)) }
     ensures account { IfOk result (λ _. IsCheckpoint Two account.now.state
         (checkpoint_bytes Two account.now.state)) }
 {
-    let length = checkpoint_len(account);
-    let room = (length as usize).saturating_add(BYTES_BESIDE_CHECKPOINT);
+    let room = (count as usize).saturating_add(BYTES_BESIDE_CHECKPOINT);
     let mut bytes = Vec::with_capacity(alloc, room)?;
     bytes.extend_from_slice(MAGIC)?;
     push_u64(&mut bytes, generation)?;
-    push_u64(&mut bytes, length)?;
+    push_u64(&mut bytes, count)?;
     push_checkpoint(&mut bytes, account)?;
     bytes.push(CLOSED_GATE)?;
     Ok(bytes)

@@ -46,7 +46,8 @@ fn format_first<B: Board>(
     }) }
     ensures refuses { IfErr result (λ refused. (held : Result State Refusal) → RefusesHeld refused held) }
 {
-    let Ok(bytes) = next_bytes(alloc, 1, account) else {
+    let count = checkpoint_len(account);
+    let Ok(bytes) = next_bytes(alloc, 1, count, account) else {
         return Err(OpenRefused::NoMemory);
     };
     if let Err(Failed) = format_file(FileNo::Zero, shut.0, &bytes, board) {
@@ -56,7 +57,7 @@ fn format_first<B: Board>(
         file: FileNo::Zero,
         version: Version::Two,
         generation: 1,
-        length: (CHECKPOINT_PLACE as u64).saturating_add(checkpoint_len(account)),
+        length: (CHECKPOINT_PLACE as u64).saturating_add(count),
         links: 0,
         shut: shut.1,
     }))

@@ -90,7 +90,8 @@ pub fn switch_file<B: Board>(
     let Some(next) = switched(standing, account, link) else {
         return Err(SwitchRefused::Full);
     };
-    let Ok(bytes) = next_bytes(alloc, next.generation, account) else {
+    let count = next.length - CHECKPOINT_PLACE as u64;
+    let Ok(bytes) = next_bytes(alloc, next.generation, count, account) else {
         return Err(SwitchRefused::NoMemory);
     };
     if let Err(Failed) = format_file(next.file, standing.shut, &bytes, board) {

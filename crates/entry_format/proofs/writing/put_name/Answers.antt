@@ -1,4 +1,4 @@
-use Rattle.std.proofs.Common.{◌≡◌, ◌+◌, ◌∙◌, length, ap, arith}
+use Rattle.std.proofs.Common.{◌+◌, arith}
 use Rattle.ras_base.specs.LittleEndian.{u16_bytes, u64_bytes}
 use Rattle.entry_format.specs.Spelling.{name_bytes}
 use Rattle.entry_format.proofs.BlockLemmas.{spelled_over}

@@ -1,7 +1,6 @@
-use Rattle.std.proofs.Common.{◌++◌, ◌*◌, ap, ◌∙◌, refl, arith}
-use Rattle.std.specs.List.{flat_map}
+use Rattle.std.proofs.Common.{refl}
 use Rattle.entry_format.specs.Spelling.{name_bytes}
-use Rattle.journal_format.proofs.BlockLemmas.{blocks_read, blocks_differ, blocks_all}
+use Rattle.journal_format.proofs.BlockLemmas.{blocks_read, blocks_differ}
 use Rattle.journal_format.proofs.comparing.after_names.Goals as goal
 
 pub loop-block-preserved : goal.loop-block-preserved

@@ -20,6 +20,6 @@ returns-clause-does g c =
 pub returns-clause-journal : goal.returns-clause-journal
 returns-clause-journal g c =
     let account = c.args.account.now.state in
-    let long : c.saturating_add.result ≡ min (2 ^ 64 - 1) (25 + min (2 ^ 64 - 1) (length (checkpoint_bytes Two account))) = omega (arith, c.saturating_add.ensures, c.checkpoint_len.ensures) in
+    let long : c.saturating_add.result ≡ min (2 ^ 64 - 1) (25 + min (2 ^ 64 - 1) (length (checkpoint_bytes Two account))) = omega (arith, c.saturating_add.ensures, c.checkpoint_len-count.ensures) in
     c.at.ensures
     ∙ ap (λ (n : ℕ). record { standing = record { file = Zero; version = Two; generation = 1; length = n; links = 0; shut = c.args.shut.1 }; failed = false }) long

@@ -1,6 +1,6 @@
 use Rattle.std.proofs.Common.{ap, ◌∙◌}
 use Rattle.host_system.specs.declared.mem_files.MemEntry.{MemEntry}
-use Rattle.host_system.specs.Folder.{NameEntry, bytes_now}
+use Rattle.host_system.specs.Folder.{bytes_now}
 use Rattle.host_system.specs.FolderPast.{bytes_named}
 use Rattle.host_system.specs.MemSystem.{MemState, as_stopped, past_noted}
 use Rattle.host_system.specs.Steps.MemFiles.{entry_seen}

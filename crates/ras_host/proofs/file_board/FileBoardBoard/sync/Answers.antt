@@ -1,5 +1,5 @@
 use Rattle.host_system.specs.BoardFile.{SeesSame}
-use Rattle.std.proofs.Common.{ap, rules}
+use Rattle.std.proofs.Common.{ap}
 use Rattle.board_core.specs.Stop.{Left, Same}
 use Rattle.ras_host.specs.Steps.Listed.{accesses_noted, disk_calls_noted}
 use Rattle.ras_host.proofs.BlameLemmas.{caused_files, caused_unasked, never_saved}
