@@ -1,15 +1,18 @@
 -- What a run over a board says of the folder that the board is over.
-use Rattle.std.proofs.Common.{◌≡◌, ℕ, List, [], ◌++◌, refl, sym, ◌∙◌, ap, subst, inl, inr, None, Some}
+use Rattle.std.proofs.Common.{◌≡◌, ℕ, ◌≤◌, List, [], ◌++◌, refl, sym, ◌∙◌, ap, subst, inl, inr, None, Some}
 use Rattle.std.specs.Prelude.{◌⊎◌, Option, IfSome, IsSomeAnd}
 use Rattle.std.specs.Option.{option_map}
-use Rattle.board_core.specs.Clock.{Adds, Always, LeftNow}
+use Rattle.board_core.specs.Clock.{Adds, Always, Clock, LeftNow}
+use Rattle.board_core.specs.Device.{KeepsDevice, LeavesDevice}
 use Rattle.board_core.specs.Doing.{after_acts}
 use Rattle.board_core.specs.Stop.{Left}
 use Rattle.board_core.specs.Told.{Relates, Told}
 use Rattle.host_system.specs.FolderPast.{FolderPast}
 use Rattle.host_system.specs.View.{clock_over, seen_now, told_over}
+use Rattle.line_filters.specs.Filter.{Filter}
+use Rattle.line_filters.specs.Filters.{Filters, OfBoth}
 use Rattle.ras_account.specs.Account.{State}
-use Rattle.ras_cli.specs.OverFolder.{Ends, NeverOpened, Outlives, OutlivesOpened, OverDamaged, OverFolder, OverReport, Refuses, Reported, begun_over}
+use Rattle.ras_cli.specs.OverFolder.{Ends, NeverOpened, Outlives, OutlivesOpened, OverDamaged, OverFolder, OverOther, OverReport, PrintsAlone, Refuses, Reported, begun_over}
 use Rattle.ras_daemon.specs.Commands.{ByTask}
 use Rattle.ras_daemon.specs.Headline.{AtOpening, Headline, IsWhole, NeverOpens, OverRun, Settles, StopsRecover}
 use Rattle.ras_daemon.specs.Machine.{account_upto, change_next, store_upto}
@@ -23,7 +26,7 @@ use Rattle.ras_daemon.specs.declared.word.Task.{Task}
 use Rattle.ras_daemon.specs.declared.word.Task.TheVariants.{Run, Report, Load, Pcie, Klog, TraceLines, KlogLines, Help, Version}
 use Rattle.ras_exit.specs.Endings.{CallEnding, OnAnswer, UnlessFaulted, answered, starved, faulted, source_failed, ending_of}
 use Rattle.ras_exit.specs.StopLine.{stop_line}
-use Rattle.ras_exit.specs.Telling.{PrintsPart}
+use Rattle.ras_exit.specs.Telling.{OnlyText, PrintsPart}
 use Rattle.ras_exit.specs.declared.exit.Exit.{Exit}
 use Rattle.ras_host.specs.BoardState.{BoardState}
 use Rattle.ras_host.specs.Steps.Telling.{clock_of, told_of, told_with}
@@ -170,9 +173,14 @@ module _ (exit : Exit) (Same : Type 0) (task : Option Task) (left rest : Option 
     at_now P holds = subst (λ (o : Option FolderPast). IsSomeAnd o P) (sym the_end.over ∙ over) holds
 
     outlives : Outlives (start_of account (begun_over p)) script p the_end.now
-    outlives =
-        subst (λ (o : Option FolderPast). StopsRecover (start_of account (begun_over p)) (clock_over (Some p)) → Always (clock_over o) (clock_over (Some p)).now (Headline (run_of (start_of account (begun_over p)) script) (seen_now p))) the_end.over
-        (subst (λ (o : Option FolderPast). StopsRecover (start_of account (begun_over p)) (clock_over o) → Always (clock_of new) (clock_over o).now (Headline (run_of (start_of account (begun_over p)) script) (seen_now p))) is_old stopped.once)
+    outlives = record {
+      later =
+          subst (λ (o : Option FolderPast). (clock_over (Some p)).now ≤ (clock_over o).now) the_end.over
+          (subst (λ (o : Option FolderPast). (clock_over o).now ≤ (clock_of new).now) is_old stopped.later);
+      once =
+          subst (λ (o : Option FolderPast). StopsRecover (start_of account (begun_over p)) (clock_over (Some p)) → Always (clock_over o) (clock_over (Some p)).now (Headline (run_of (start_of account (begun_over p)) script) (seen_now p))) the_end.over
+          (subst (λ (o : Option FolderPast). StopsRecover (start_of account (begun_over p)) (clock_over o) → Always (clock_of new) (clock_over o).now (Headline (run_of (start_of account (begun_over p)) script) (seen_now p))) is_old stopped.once);
+    }
 
     pub headline : IsSomeAnd now (Outlives (start_of account (begun_over p)) script p)
     headline = at_now (Outlives (start_of account (begun_over p)) script p) outlives
@@ -233,14 +241,17 @@ module _ (exit : Exit) (Same : Type 0) (task : Option Task) (left rest : Option 
 -- ---- files that refuse a run
 
 module _ (exit : Exit) (Same : Type 0) (task : Option Task) (past now : Option FolderPast) (old new : BoardState) (begun : Begun past old) (over : new.past ≡ now) where
-  refuses : (p : FolderPast) (why : Exit) → (told : Option Told) → told ≡ told_of new → IsSomeAnd told (promises.Refuses exit Same (clock_of old) (clock_of new) why (begun_over p)) → IsSomeAnd now (Refuses exit why p)
-  refuses p why None is never = absurd never
-  refuses p why (Some t) is r = subst (λ (o : Option FolderPast). IsSomeAnd o (Refuses exit why p)) (sym the_end.over ∙ over) (record {
+  refuses : (p : FolderPast) (why : Exit) → past ≡ Some p → (told : Option Told) → told ≡ told_of new → IsSomeAnd told (promises.Refuses exit Same (clock_of old) (clock_of new) why (begun_over p)) → IsSomeAnd now (Refuses exit why p)
+  refuses p why is_past None is never = absurd never
+  refuses p why is_past (Some t) is r = subst (λ (o : Option FolderPast). IsSomeAnd o (Refuses exit why p)) (sym the_end.over ∙ over) (record {
     ends = r.ends;
     says = subst (λ (here : Left). OnAnswer exit (here.out ≡ (seen_now p).out ++ stop_line why)) the_end.here r.tells.whole;
     file0 = subst (λ (here : Left). here.file0 ≡ (seen_now p).file0) the_end.here r.files.file0;
     file1 = subst (λ (here : Left). here.file1 ≡ (seen_now p).file1) the_end.here r.files.file1;
     store = subst (λ (here : Left). here.store ≡ (seen_now p).store) the_end.here r.device.0.store;
+    stops =
+        subst (λ (o : Option FolderPast). Adds (ReportMoment (clock_over (Some p)) (stop_line why) (seen_now p)) (clock_over (Some p)) (clock_over o)) the_end.over
+        (subst (λ (o : Option FolderPast). Adds (ReportMoment (clock_over o) (stop_line why) (seen_now p)) (clock_over o) (clock_of new)) (past_begun past old p begun is_past) r.stops);
   })
     where
       the_end : Ended new t
@@ -249,11 +260,11 @@ module _ (exit : Exit) (Same : Type 0) (task : Option Task) (past now : Option F
   pub refused : OverRefused (promises.Refuses exit Same (clock_of old) (clock_of new)) task (told_of old) (told_of new) → OverDamaged (λ why p. IsSomeAnd now (Refuses exit why p)) task past
   refused all =
       over_damaged (λ why p. IsSomeAnd now (Refuses exit why p)) task past (λ p asked is_past.
-      by p (files_refusal (seen_now p)) (from_refused (promises.Refuses exit Same (clock_of old) (clock_of new)) task (told_of old) (told_of new) (begun_over p) asked (told_begun past old p begun is_past) all))
+      by p is_past (files_refusal (seen_now p)) (from_refused (promises.Refuses exit Same (clock_of old) (clock_of new)) task (told_of old) (told_of new) (begun_over p) asked (told_begun past old p begun is_past) all))
     where
-      by : (p : FolderPast) (why : Option Exit) → IfSome why (λ w. IsSomeAnd (told_of new) (promises.Refuses exit Same (clock_of old) (clock_of new) w (begun_over p))) → IfSome why (λ w. IsSomeAnd now (Refuses exit w p))
-      by p None holds = tt
-      by p (Some why) holds = refuses p why (told_of new) refl holds
+      by : (p : FolderPast) → past ≡ Some p → (why : Option Exit) → IfSome why (λ w. IsSomeAnd (told_of new) (promises.Refuses exit Same (clock_of old) (clock_of new) w (begun_over p))) → IfSome why (λ w. IsSomeAnd now (Refuses exit w p))
+      by p is_past None holds = tt
+      by p is_past (Some why) holds = refuses p why is_past (told_of new) refl holds
 
 -- ---- reports
 
@@ -303,3 +314,116 @@ module _ (exit : Exit) (task : Option Task) (left rest : Option (List ℕ)) (pas
 
   pub reports : OverReport (λ listing p. IsSomeAnd now (Reported exit listing p)) task past
   reports = over_report (λ listing p. IsSomeAnd now (Reported exit listing p)) task past reported
+
+-- ---- every other command
+
+if_told : (P : FolderPast → Type 0) (past : Option FolderPast) → ((p : FolderPast) → past ≡ Some p → P p) → IfSome past P
+if_told P None gives = tt
+if_told P (Some p) gives = gives p refl
+
+abbrev IsOther : Option Task → Type 0
+IsOther (Some Run) = ⊥
+IsOther (Some (Report listing)) = ⊥
+IsOther task = Unit {0}
+
+over_other : (P : FolderPast → Type 0) (task : Option Task) (past : Option FolderPast)
+    → ((p : FolderPast) → IsOther task → past ≡ Some p → P p)
+    → OverOther P task past
+over_other P (Some Run) past gives = tt
+over_other P (Some (Report listing)) past gives = tt
+over_other P None past gives = if_told P past (λ p is. gives p tt is)
+over_other P (Some (Load n)) past gives = if_told P past (λ p is. gives p tt is)
+over_other P (Some Pcie) past gives = if_told P past (λ p is. gives p tt is)
+over_other P (Some (Klog boot cap)) past gives = if_told P past (λ p is. gives p tt is)
+over_other P (Some (TraceLines boot)) past gives = if_told P past (λ p is. gives p tt is)
+over_other P (Some (KlogLines boot cap)) past gives = if_told P past (λ p is. gives p tt is)
+over_other P (Some Help) past gives = if_told P past (λ p is. gives p tt is)
+over_other P (Some Version) past gives = if_told P past (λ p is. gives p tt is)
+
+-- a board of which only the text changed tells what one would that begins over the folder as it now is
+begun_again : (p q : FolderPast) (t : Told) → OnlyText (begun_over p) t → t.here ≡ seen_now q → t ≡ begun_over q
+begun_again p q t only here =
+    only
+    ∙ (ap (λ (l : Left). record (begun_over p) { here = l }) (sym (ap (λ (told : Told). told.here) only))
+    ∙ ap (λ (l : Left). record (begun_over p) { here = l }) here)
+
+only_filtered : (filter : Filter) (exit : Exit) (script : List ℕ) (rest : Option (List ℕ)) (before t : Told)
+    → OfBoth (Filters filter exit) (Some script) rest (Some before) (Some t) → OnlyText before t
+only_filtered filter exit script None before t never = absurd never
+only_filtered filter exit script (Some left) before t filters = filters.only
+
+module _ (exit : Exit) (rest : Option (List ℕ)) (p q : FolderPast) (clock : Clock) where
+  abbrev ByThen : Option Task → Option (List ℕ) → Told → Type 0
+  ByThen task left t = ByTask exit task left rest (Some (begun_over p)) (Some t) (clock_over (Some p)) clock
+
+  as_begun : (task : Option Task) (left : Option (List ℕ)) (t : Told) → t.here ≡ seen_now q → OnlyText (begun_over p) t → ByThen task left t → ByThen task left (begun_over q)
+  as_begun task left t here only did = subst (ByThen task left) (begun_again p q t only here) did
+
+  device_as : (t : Told) → t.here ≡ seen_now q → LeavesDevice (Some (begun_over p)) (Some t) (clock_over (Some p)) clock → LeavesDevice (Some (begun_over p)) (Some (begun_over q)) (clock_over (Some p)) clock
+  device_as t here (kept, leaves) = (
+    record {
+      store = subst (λ (l : Left). l.store ≡ (seen_now p).store) here kept.store;
+      volatile = refl;
+      accesses = refl;
+    },
+    leaves,
+  )
+
+  by_other : (task : Option Task) (left : Option (List ℕ)) (t : Told) → IsOther task → t.here ≡ seen_now q → ByThen task left t → ByThen task left (begun_over q)
+  by_other (Some Run) left t never here did = absurd never
+  by_other (Some (Report listing)) left t never here did = absurd never
+  by_other None left t other here did = as_begun None left t here did.tells.only did
+  by_other (Some (Load n)) left t other here did = as_begun (Some (Load n)) left t here did.tells.only did
+  by_other (Some Help) left t other here did = as_begun (Some Help) left t here did.tells.only did
+  by_other (Some Version) left t other here did = as_begun (Some Version) left t here did.tells.only did
+  by_other (Some Pcie) (Some script) t other here did =
+      as_begun (Some Pcie) (Some script) t here (only_filtered _ exit script rest (begun_over p) t did.tells) did
+  by_other (Some (Klog boot cap)) (Some script) t other here did =
+      as_begun (Some (Klog boot cap)) (Some script) t here (only_filtered _ exit script rest (begun_over p) t did.tells) did
+  by_other (Some (TraceLines boot)) (Some script) t other here did =
+      as_begun (Some (TraceLines boot)) (Some script) t here (only_filtered _ exit script rest (begun_over p) t did.tells) did
+  by_other (Some (KlogLines boot cap)) (Some script) t other here did =
+      as_begun (Some (KlogLines boot cap)) (Some script) t here (only_filtered _ exit script rest (begun_over p) t did.tells) did
+  by_other (Some Pcie) None t other here did = record { tells = tt; stops = tt; device = device_as t here did.device }
+  by_other (Some (Klog boot cap)) None t other here did = record { tells = tt; stops = tt; device = device_as t here did.device }
+  by_other (Some (TraceLines boot)) None t other here did = record { tells = tt; stops = tt; device = device_as t here did.device }
+  by_other (Some (KlogLines boot cap)) None t other here did = record { tells = tt; stops = tt; device = device_as t here did.device }
+
+-- such a command goes on telling
+still_told : (exit : Exit) (task : Option Task) (left rest : Option (List ℕ)) (before : Told) (now : Option Told) (old new : Clock)
+    → IsOther task → ByTask exit task left rest (Some before) now old new → IsSomeAnd now (KeepsDevice before)
+still_told exit (Some Run) left rest before now old new never did = absurd never
+still_told exit (Some (Report listing)) left rest before now old new never did = absurd never
+still_told exit None left rest before now old new other did = did.device.0
+still_told exit (Some (Load n)) left rest before now old new other did = did.device.0
+still_told exit (Some Pcie) left rest before now old new other did = did.device.0
+still_told exit (Some (Klog boot cap)) left rest before now old new other did = did.device.0
+still_told exit (Some (TraceLines boot)) left rest before now old new other did = did.device.0
+still_told exit (Some (KlogLines boot cap)) left rest before now old new other did = did.device.0
+still_told exit (Some Help) left rest before now old new other did = did.device.0
+still_told exit (Some Version) left rest before now old new other did = did.device.0
+
+module _ (exit : Exit) (task : Option Task) (left rest : Option (List ℕ)) (past now : Option FolderPast) (old new : BoardState) (begun : Begun past old) (over : new.past ≡ now)
+    (did : ByTask exit task left rest (told_of old) (told_of new) (clock_of old) (clock_of new)) where
+  prints : (p : FolderPast) → IsOther task → past ≡ Some p → IsSomeAnd now (PrintsAlone exit task left rest p)
+  prints p other is_past = by (told_of new) refl from_p
+    where
+      from_p : ByTask exit task left rest (Some (begun_over p)) (told_of new) (clock_over (Some p)) (clock_of new)
+      from_p =
+          subst (λ (o : Option FolderPast). ByTask exit task left rest (Some (begun_over p)) (told_of new) (clock_over o) (clock_of new)) (past_begun past old p begun is_past)
+          (subst (λ (o : Option Told). ByTask exit task left rest o (told_of new) (clock_of old) (clock_of new)) (told_begun past old p begun is_past) did)
+
+      by : (told : Option Told) → told_of new ≡ told → ByTask exit task left rest (Some (begun_over p)) told (clock_over (Some p)) (clock_of new) → IsSomeAnd now (PrintsAlone exit task left rest p)
+      by None is from = absurd (still_told exit task left rest (begun_over p) None (clock_over (Some p)) (clock_of new) other from)
+      by (Some t) is from =
+          let the_end : Ended new t = ended new t is in
+          subst (λ (o : Option FolderPast). IsSomeAnd o (PrintsAlone exit task left rest p)) (sym the_end.over ∙ over)
+          (subst (λ (o : Option FolderPast). ByTask exit task left rest (Some (begun_over p)) (Some (begun_over the_end.now)) (clock_over (Some p)) (clock_over o)) the_end.over
+          (by_other exit rest p the_end.now (clock_of new) task left t other the_end.here from))
+
+  -- by what the input had left at the start and has at the end, which the source was made of and gives back
+  pub commands : (first last : Option (List ℕ)) → left ≡ first → last ≡ rest → OverOther (λ p. IsSomeAnd now (PrintsAlone exit task first last p)) task past
+  commands first last is_first is_last =
+      subst (λ (script : Option (List ℕ)). OverOther (λ p. IsSomeAnd now (PrintsAlone exit task script last p)) task past) is_first
+      (subst (λ (script : Option (List ℕ)). OverOther (λ p. IsSomeAnd now (PrintsAlone exit task left script p)) task past) (sym is_last)
+      (over_other (λ p. IsSomeAnd now (PrintsAlone exit task left rest p)) task past prints))

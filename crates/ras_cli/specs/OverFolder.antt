@@ -1,6 +1,6 @@
--- A run over a folder of files: what it promises, in the terms of what a stop of the machine leaves of
--- the folder.
-use Rattle.std.specs.Prelude.{◌≡◌, ℕ, ◌⊎◌, List, [], ◌++◌, Option, Some, IfSome, ⊤}
+-- The commands over a folder of files: what they promise, in the terms of what a crash of the machine
+-- leaves of the folder.
+use Rattle.std.specs.Prelude.{◌≡◌, ℕ, ◌≤◌, ◌⊎◌, List, [], ◌++◌, Option, Some, IfSome, ⊤}
 use Rattle.board_core.specs.Clock.{Adds, Always, LeftNow}
 use Rattle.board_core.specs.Told.{Told}
 use Rattle.erst_store.specs.Device.{new_device, volatile_of}
@@ -17,6 +17,7 @@ use Rattle.ras_listing.specs.Reporting.{ReportMoment, report_exit, report_output
 use Rattle.listing_texts.specs.declared.listing.Listing.{Listing}
 use Rattle.ras_run.specs.Files.{files_refusal}
 use Rattle.ras_run.specs.Places.{Start}
+use Rattle.ras_daemon.specs.Commands.{ByTask}
 use Rattle.ras_daemon.specs.Headline.{AtOpening, Headline, IsWhole, StopsRecover}
 use Rattle.ras_daemon.specs.Promises.{EndsRefused}
 use Rattle.ras_daemon.specs.RunOf.{run_of}
@@ -40,11 +41,13 @@ OverFolder P (Some tasks.Run) (Some script) (Some past) =
     (account : State) → Recovers account (seen_now past) → P (start_of account (begun_over past)) script past
 OverFolder P task script past = ⊤
 
--- What a stop of the machine at any moment of a run leaves of the folder. The premise is that one at the
--- run's start leaves files that give its account and its record store too.
-abbrev pub Outlives : Start → List ℕ → FolderPast → FolderPast → Type 0
-Outlives start script past now =
-    StopsRecover start (clock_over (Some past)) → Always (clock_over (Some now)) (clock_over (Some past)).now (Headline (run_of start script) (seen_now past))
+-- What a crash of the machine at any moment of a run leaves of the folder.
+pub record Outlives (start : Start) (script : List ℕ) (past now : FolderPast) : Type 0 where
+  -- Time goes on. So what the folder holds at the end is among what a crash since the start may leave.
+  pub later : (clock_over (Some past)).now ≤ (clock_over (Some now)).now
+  -- The premise is that a crash at the run's start leaves files that give its account and its record store
+  -- too.
+  pub once : StopsRecover start (clock_over (Some past)) → Always (clock_over (Some now)) (clock_over (Some past)).now (Headline (run_of start script) (seen_now past))
 
 -- Without that premise the headline holds from the moment on at which the journal was open. A stop before
 -- that leaves what one at the start may have left, or the account at the start with store and text as
@@ -79,6 +82,9 @@ pub record Refuses (exit why : Exit) (past now : FolderPast) : Type 0 where
   pub file0 : (seen_now now).file0 ≡ (seen_now past).file0
   pub file1 : (seen_now now).file1 ≡ (seen_now past).file1
   pub store : (seen_now now).store ≡ (seen_now past).store
+  -- A crash at any moment leaves what one at the start may have left, or all that was there with a
+  -- beginning of that line printed.
+  pub stops : Adds (ReportMoment (clock_over (Some past)) (stop_line why) (seen_now past)) (clock_over (Some past)) (clock_over (Some now))
 
 -- if the words ask for a report and the folder tells
 abbrev pub OverReport : (Listing → FolderPast → Type 0) → Option Task → Option FolderPast → Type 0
@@ -96,3 +102,16 @@ pub record Reported (exit : Exit) (listing : Listing) (past now : FolderPast) : 
   pub file1 : (seen_now now).file1 ≡ (seen_now past).file1
   pub store : (seen_now now).store ≡ (seen_now past).store
   pub stops : Adds (ReportMoment (clock_over (Some past)) (report_output listing (seen_now past)) (seen_now past)) (clock_over (Some past)) (clock_over (Some now))
+
+-- if the words ask for neither a run nor a report, and the folder tells
+abbrev pub OverOther : (FolderPast → Type 0) → Option Task → Option FolderPast → Type 0
+OverOther P (Some tasks.Run) past = ⊤
+OverOther P (Some (tasks.Report listing)) past = ⊤
+OverOther P task past = IfSome past P
+
+-- Such a command, or words that are none, print the text that `ByTask` names, by what was left of the
+-- input before and after. Of the folder nothing else changes, and a crash at any moment leaves no more
+-- than one at the start, with a beginning of that text printed.
+abbrev pub PrintsAlone : Exit → Option Task → Option (List ℕ) → Option (List ℕ) → FolderPast → FolderPast → Type 0
+PrintsAlone exit task script left past now =
+    ByTask exit task script left (Some (begun_over past)) (Some (begun_over now)) (clock_over (Some past)) (clock_over (Some now))

@@ -1,8 +1,10 @@
 //! The program: the daemon over standard input, standard output and the working folder's files.
 #![tactic(auto)]
 
+mod laws;
 mod over_folder;
 
+pub use laws::folder_eras;
 pub use over_folder::rasd_over;
 use ras_base::NoMemory;
 use ras_daemon::{Exit, RasWord};

@@ -1,0 +1,77 @@
+//! What holds over all runs on one folder, whenever the machine crashed.
+ghost use Rattle.std.specs.Prelude.{ℕ, ◌⊎◌, List, Some};
+ghost use Rattle.board_core.specs.Clock.{LeftNow};
+ghost use Rattle.board_core.specs.Stop.{Left};
+ghost use Rattle.era_laws.specs.Eras.{AreEras, CountsEach, IsEra, era_of, reported_in};
+ghost use Rattle.host_system.specs.Folder.{Stopped};
+ghost use Rattle.host_system.specs.FolderPast.{FolderPast, bytes_or};
+ghost use Rattle.host_system.specs.View.{MayBegin, clock_over, seen_as, seen_now};
+ghost use Rattle.ras_account.specs.Account.{State};
+ghost use Rattle.ras_account.specs.Continued.{account_after_all};
+ghost use Rattle.ras_base.specs.LittleEndian.{AreBytes};
+ghost use Rattle.ras_cli.specs.FolderEras.{AreRuns, FolderRun, eras_over, files_after};
+ghost use Rattle.ras_cli.specs.FolderEras.{started_over};
+ghost use Rattle.ras_cli.specs.OverFolder.{NeverOpened, Outlives, OutlivesOpened, begun_over};
+ghost use Rattle.ras_daemon.specs.Headline.{StopsRecover};
+ghost use Rattle.ras_daemon.specs.RunStatus.{start_of};
+ghost use Rattle.ras_exit.specs.declared.exit.Exit.{Exit};
+ghost use Rattle.ras_journal.specs.Recovered.{Recovers};
+
+use era_laws::era_laws;
+
+/// What `rasd_over` promises of a run over a folder makes an era of it, so `era_laws` speaks of the
+/// folder's files. An era is a run up to a crash of the machine at any moment of it, or up to its
+/// end.
+///
+/// The function does nothing: its clauses are what it is for.
+pub fn folder_eras()
+    // After a start of the machine all of the files is on the disk, so a crash leaves just them.
+    ensures rests { (files : Stopped) (account : State)
+        → let past = started_over files in
+        Recovers account (seen_now past)
+        → StopsRecover (start_of account (begun_over past)) (clock_over (Some past)) }
+
+    // Then what a crash at any moment of the run leaves makes an era of it, by `rasd_over/headline`;
+    // and so does what the folder holds where the run ends.
+    ensures stopped { (account : State) (script : List ℕ) (past now : FolderPast) (left : Left)
+        → let start = start_of account (begun_over past) in
+        Recovers account (seen_now past) → StopsRecover start (clock_over (Some past))
+        → Outlives start script past now
+        → (clock_over (Some now)).may_leave_since (clock_over (Some past)).now left
+        → IsEra (era_of account (begun_over past) script left) }
+    ensures ended { (account : State) (script : List ℕ) (past now : FolderPast)
+        → let start = start_of account (begun_over past) in
+        Recovers account (seen_now past) → StopsRecover start (clock_over (Some past))
+        → Outlives start script past now
+        → IsEra (era_of account (begun_over past) script (seen_now now)) }
+
+    // A process may die and the machine go on, with writes under way. What a crash during the next
+    // run leaves makes an era of that one, or is what a crash at its very start might have left, by
+    // `rasd_over/settled`.
+    ensures went_on { (exit : Exit) (account : State) (script : List ℕ) (past now : FolderPast)
+        (left : Left)
+        → let start = start_of account (begun_over past) in
+        Recovers account (seen_now past)
+        → OutlivesOpened start script past now ⊎ NeverOpened exit start past now
+        → (clock_over (Some now)).may_leave_since (clock_over (Some past)).now left
+        → LeftNow (clock_over (Some past)) left
+        ⊎ IsEra (era_of account (begun_over past) script left) }
+
+    // A run may begin over whatever files a crash has left.
+    ensures next { (files : Stopped) → AreBytes (bytes_or files.store)
+        → MayBegin (started_over files) }
+
+    // So runs one after another, each over what a crash left of the one before it, are eras. After
+    // all of them the files give the first account with what the events of each run report whose
+    // done lines it printed, or one event more of each, in order.
+    ensures eras { (files : Stopped) (runs : List FolderRun) → AreRuns files runs
+        → AreEras (seen_as files) (eras_over files runs) }
+    ensures accounts { (account : State) (files : Stopped) (runs : List FolderRun)
+        → Recovers account (seen_as files) → AreRuns files runs
+        → let eras = eras_over files runs in
+        (counts : List ℕ) × CountsEach eras counts
+        × Recovers (account_after_all account (reported_in eras counts))
+        (seen_as (files_after files runs)) }
+{
+    era_laws();
+}
