@@ -53,9 +53,9 @@ fn stands_round(place: usize, pivot: usize, text: &[u8], within: &[u8]) -> bool
     place >= pivot && within[place - pivot..].starts_with(text)
 }
 
-// A text up to the first of these bytes, and what follows that byte.
+/// A text up to the first of these bytes, the whole if there is none, and what follows that byte.
 #[tactic(auto, using(crate::proofs::LogHeadLemmas::found_front, crate::proofs::LogHeadLemmas::found_rest, crate::proofs::LogHeadLemmas::whole_front, crate::proofs::LogHeadLemmas::whole_rest))]
-pub(crate) fn cut(byte: u8, text: &[u8]) -> (&[u8], &[u8])
+pub fn cut(byte: u8, text: &[u8]) -> (&[u8], &[u8])
     ensures front { result.0.now ≡ up_to byte text.now }
     ensures rest { result.1.now ≡ after byte text.now }
 {
@@ -73,9 +73,9 @@ fn word_start(text: &[u8]) -> Option<usize>
     text.iter().position(|b| *b != b' ')
 }
 
-// A text without the spaces before it.
+/// A text without the spaces before it.
 #[tactic(auto, using(crate::proofs::LogHeadLemmas::found_text, crate::proofs::LogHeadLemmas::only_spaces))]
-pub(crate) fn without_spaces(text: &[u8]) -> &[u8]
+pub fn without_spaces(text: &[u8]) -> &[u8]
     ensures { result.now ≡ without_spaces text.now }
 {
     match word_start(text) {
@@ -164,8 +164,8 @@ pub(crate) fn is_joined(text: &[u8]) -> bool
     text.iter().all(|b| *b != b' ')
 }
 
-// Whether a line is the kernel's own whose head this is.
-pub(crate) fn is_own(head: &[u8]) -> bool
+/// Whether a line of a kernel log is the kernel's own whose head this is: what stands before the mark.
+pub fn is_own(head: &[u8]) -> bool
     ensures { result ≡ is_own head.now }
 {
     match mark_place(b": ", head) {

@@ -124,8 +124,9 @@ fn is_cut(text: &[u8]) -> bool
     is_joined(rest)
 }
 
-// The microseconds at which a line was printed, by its head.
-fn log_stamp_of(head: &[u8]) -> Option<u64>
+/// The microseconds at which a line was printed, by its head, if that has them: from the kernel's
+/// start on, in the first brackets or in the third field of a record's head.
+pub fn log_stamp_of(head: &[u8]) -> Option<u64>
     ensures { result ≡ log_stamp_of head.now }
 {
     if head.ends_with(b";") {

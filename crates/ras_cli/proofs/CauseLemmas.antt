@@ -47,7 +47,6 @@ once_print count d r p each no_d no_r one_p (inr some) = omega arith
 
 -- ---- causes
 
-
 module _ (how count : ℕ) (files : JournalFiles) (kept : Kept) (faults : Faults) (caused : AreCaused how files kept faults count) where
   -- of which two counts stayed 0
   by_disk : (task : Option Task) → (task ≡ Some Run → how ≡ 1) → faults.disk ≡ 1 → faults.registers ≡ 0 → faults.prints ≡ 0 → SystemCauseBy (faulted disk_call) task count

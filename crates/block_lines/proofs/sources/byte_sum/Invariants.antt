@@ -1,0 +1,7 @@
+-- The sum of the bytes so far.
+use Rattle.std.proofs.Common.{◌≡◌, ◌%◌, take}
+use Rattle.std.specs.Prelude.{sum}
+use Rattle.block_lines.proofs.sources.byte_sum.Given as goal
+
+abbrev pub invariant-loop-byte : goal.invariant-loop-byte
+invariant-loop-byte l = l.sum ≡ sum (take l.byte-index l.bytes) % 256

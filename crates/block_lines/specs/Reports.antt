@@ -1,0 +1,231 @@
+-- A report while its lines are read, and what a line changes.
+use Rattle.std.specs.Prelude.{ℕ, ◌+◌, ◌-◌, ◌≤◌, ◌==◌, ◌||◌, Bool, true, false, not, List, [], ◌∷◌, ◌++◌, length, nat_lt, Option, None, Some, unwrap_or, if◌then◌else◌}
+use Rattle.std.specs.Option.{option_map_or}
+use Rattle.bank_lines.specs.declared.log_line.TheConstants.{LAST_SECOND}
+use Rattle.block_lines.specs.Sources.{sources_with}
+use Rattle.block_lines.specs.declared.log_line.ReportLogLine.{ReportLogLine}
+use Rattle.block_lines.specs.declared.log_line.OwnLine.{OwnLine}
+use Rattle.block_lines.specs.declared.memory.MemoryError.{MemoryError}
+use Rattle.block_lines.specs.declared.memory.MemoryField.{MemoryField}
+use Rattle.block_lines.specs.declared.memory.MemoryField.TheVariants.{Physical, Mask, At, Kind}
+use Rattle.block_lines.specs.declared.report.Remark.{Remark}
+use Rattle.block_lines.specs.declared.report.Remark.TheVariants as remarks
+use Rattle.block_lines.specs.declared.report.OpenReport.{OpenReport}
+use Rattle.block_lines.specs.declared.report.OpenSection.{OpenSection}
+use Rattle.block_lines.specs.declared.report.OpenSection.TheVariants.{Absent, Begun, Memory, LeftOut}
+use Rattle.block_lines.specs.declared.report.TheConstants.{LONGEST_PAUSE, MOST_ERRORS}
+use Rattle.block_lines.specs.declared.report_line.ReportLine.{ReportLine}
+use Rattle.block_lines.specs.declared.report_line.ReportLine.TheVariants as lines
+use Rattle.block_lines.specs.declared.sources.TheConstants.{MOST_SOURCES}
+
+-- ---- a section
+
+-- an error of which nothing but its severity is told
+abbrev pub blank_error : ℕ → MemoryError
+blank_error severity = record {
+  severity = severity;
+  physical = None;
+  mask = None;
+  location = record { node = None; card = None; «module» = None };
+  kind = None;
+}
+
+abbrev pub error_with : MemoryError → MemoryField → MemoryError
+error_with error (Physical address) = record error { physical = Some address }
+error_with error (Mask mask) = record error { mask = Some mask }
+error_with error (At location) = record error { location = location }
+error_with error (Kind kind) = record error { kind = Some kind }
+
+abbrev pub section_with : OpenSection → MemoryField → OpenSection
+section_with (Memory error) field = Memory (error_with error field)
+section_with section field = section
+
+-- a section whose type is told after so many errors: a report keeps 12
+abbrev pub typed_section : ℕ → OpenSection → OpenSection
+typed_section count (Begun severity) =
+    if nat_lt count MOST_ERRORS then Memory (blank_error severity) else LeftOut
+typed_section count section = section
+
+-- the section after a line of its report, of which so many errors ended
+abbrev pub section_after : ℕ → OpenSection → ReportLine → OpenSection
+section_after count section (lines.Error severity) = Begun severity
+section_after count section lines.MemoryType = typed_section count section
+section_after count section lines.OtherType = LeftOut
+section_after count section (lines.Field (Some field)) = section_with section field
+section_after count section line = section
+
+-- the error of a section that ends
+abbrev pub section_errors : OpenSection → List MemoryError
+section_errors (Memory error) = error ∷ []
+section_errors section = []
+
+-- whether a section ends before its type is told, or none began
+abbrev pub is_cut : OpenSection → Bool
+is_cut Absent = true
+is_cut (Begun severity) = true
+is_cut section = false
+
+-- ---- a report
+
+abbrev pub severity_after : ℕ → ReportLine → ℕ
+severity_after severity (lines.Event told) = told
+severity_after severity line = severity
+
+-- a report after a line of it, with this stamp, if so many errors ended
+abbrev pub report_after : ℕ → OpenReport → Option ℕ → ReportLine → OpenReport
+report_after count report stamp line = record report {
+  last = unwrap_or stamp report.last;
+  severity = severity_after report.severity line;
+  section = section_after count report.section line;
+}
+
+-- the errors that ended with a line
+abbrev pub errors_after : List MemoryError → OpenSection → ReportLine → List MemoryError
+errors_after errors section (lines.Error severity) = errors ++ section_errors section
+errors_after errors section line = errors
+
+-- what begins with a report's first line. A report whose severity isn't told has that of no word.
+abbrev pub report_from : ℕ → ℕ → ℕ → OpenReport
+report_from number source stamp = record {
+  number = number;
+  source = source;
+  begun = stamp;
+  last = stamp;
+  severity = 3;
+  section = Absent;
+}
+
+-- ---- where a report ends
+
+-- Another line may stand among those of a report, but not a tenth of a second later.
+abbrev pub is_late : OpenReport → Option ℕ → Bool
+is_late report None = false
+is_late report (Some stamp) = nat_lt LONGEST_PAUSE (stamp - report.last)
+
+abbrev pub is_start : ReportLine → Bool
+is_start (lines.Start source) = true
+is_start line = false
+
+-- a line ends a report before it: of its own number only one that begins a report
+abbrev pub is_ended_by : OpenReport → Option ℕ → Option OwnLine → Bool
+is_ended_by report stamp None = is_late report stamp
+is_ended_by report stamp (Some own) = not (own.report == report.number) || is_start own.line
+
+-- ---- what is said of a line
+
+-- of a line that begins a section, if the one before it is cut
+abbrev pub begun_remark : ℕ → ℕ → OpenSection → Remark
+begun_remark source begun (Begun severity) = remarks.Partial source begun
+begun_remark source begun section = remarks.Nothing
+
+abbrev pub type_remark : ℕ → OpenSection → Remark
+type_remark count (Begun severity) =
+    if nat_lt count MOST_ERRORS then remarks.Nothing else remarks.LeftOut
+type_remark count section = remarks.Unread
+
+-- of a field that can't be read; sections that are left out have fields of these names too
+abbrev pub field_remark : OpenSection → Remark
+field_remark (Memory error) = remarks.Unread
+field_remark section = remarks.Nothing
+
+abbrev pub remark_in : ℕ → OpenReport → ReportLine → Remark
+remark_in count report (lines.Error severity) = begun_remark report.source report.begun report.section
+remark_in count report lines.MemoryType = type_remark count report.section
+remark_in count report lines.OtherType = remarks.LeftOut
+remark_in count report (lines.Field None) = field_remark report.section
+remark_in count report lines.Unread = remarks.Unread
+remark_in count report line = remarks.Nothing
+
+-- ---- the state of a filter
+
+-- the boot and the second at which it began; the report in work, its errors that ended; and the sources
+-- of the table that was printed last
+pub record Reporting : Type 0 where
+  pub boot : ℕ
+  pub began : ℕ
+  pub work : Option OpenReport
+  pub errors : List MemoryError
+  pub sources : List ℕ
+
+abbrev pub no_reports : ℕ → ℕ → Reporting
+no_reports boot began =
+    record { boot = boot; began = began; work = None; errors = []; sources = [] }
+
+-- a report that begins; without a stamp it has no name
+abbrev pub begun_work : ℕ → ℕ → Option ℕ → Option OpenReport
+begun_work number source None = None
+begun_work number source (Some stamp) = Some (report_from number source stamp)
+
+abbrev pub begun_at : Reporting → ℕ → ℕ → Option ℕ → Reporting
+begun_at r number source stamp = record r { work = begun_work number source stamp; errors = [] }
+
+-- after a line that begins none, if one is in work or not
+abbrev pub gone_on : Reporting → Option OpenReport → Option ℕ → ReportLine → Reporting
+gone_on r None stamp line = r
+gone_on r (Some report) stamp line = record r {
+  work = Some (report_after (length r.errors) report stamp line);
+  errors = errors_after r.errors report.section line;
+}
+
+-- after a line of the kernel's own
+abbrev pub own_taken : Reporting → ℕ → Option ℕ → ReportLine → Reporting
+own_taken r number stamp (lines.Start source) = begun_at r number source stamp
+own_taken r number stamp line = gone_on r r.work stamp line
+
+abbrev pub line_taken : Reporting → ReportLogLine → Reporting
+line_taken r line =
+    option_map_or (λ (own : OwnLine). own_taken r own.report line.stamp own.line) line.own r
+
+-- what is said of a line that begins a report: without a stamp it can't
+abbrev pub start_remark : Option ℕ → Remark
+start_remark None = remarks.Unread
+start_remark (Some stamp) = remarks.Nothing
+
+-- what is said of another one, if a report is in work or not
+abbrev pub going_remark : ℕ → Option OpenReport → ReportLine → Remark
+going_remark count None line = remarks.Unread
+going_remark count (Some report) line = remark_in count report line
+
+-- what is said of a line of the kernel's own
+abbrev pub own_remark : Reporting → Option ℕ → ReportLine → Remark
+own_remark r stamp (lines.Start source) = start_remark stamp
+own_remark r stamp line = going_remark (length r.errors) r.work line
+
+abbrev pub line_remark : Reporting → ReportLogLine → Remark
+line_remark r line =
+    option_map_or (λ (own : OwnLine). own_remark r line.stamp own.line) line.own remarks.Nothing
+
+-- ---- the end of a report
+
+abbrev pub has_error : List MemoryError → OpenSection → Bool
+has_error errors (Memory error) = true
+has_error errors section = not (length errors == 0)
+
+abbrev pub sources_after : Reporting → OpenReport → List ℕ
+sources_after r report =
+    if has_error r.errors report.section then sources_with r.sources report.source else r.sources
+
+abbrev pub after_report : Reporting → Option OpenReport → Reporting
+after_report r None = r
+after_report r (Some report) =
+    record r { work = None; errors = []; sources = sources_after r report }
+
+-- whether a line ends the report in work, if there is one
+abbrev pub is_end : Reporting → ReportLogLine → Bool
+is_end r line = option_map_or (λ report. is_ended_by report line.stamp line.own) r.work false
+
+abbrev pub ended_at : Reporting → ReportLogLine → Reporting
+ended_at r line = if is_end r line then after_report r r.work else r
+
+abbrev pub reporting_after : Reporting → ReportLogLine → Reporting
+reporting_after r line = line_taken (ended_at r line) line
+
+-- ---- what always holds
+
+abbrev pub work_errors : Option OpenReport → List MemoryError
+work_errors work = option_map_or (λ (report : OpenReport). section_errors report.section) work []
+
+pub record IsReporting (r : Reporting) : Type 0 where
+  pub errors : length (r.errors ++ work_errors r.work) ≤ MOST_ERRORS
+  pub sources : length r.sources ≤ MOST_SOURCES
+  pub began : r.began ≤ LAST_SECOND

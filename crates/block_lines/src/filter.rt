@@ -1,0 +1,78 @@
+//! The command `lines ghes` as a filter of lines.
+
+ghost use Rattle.std.specs.Prelude.{◌≡◌, ◌≤◌};
+ghost use Rattle.bank_lines.specs.declared.log_line.TheConstants.{LAST_SECOND};
+ghost use Rattle.block_lines.specs.Filter.{block_filter, blocks_make};
+
+use crate::log_line::log_line;
+use crate::reports::Reports;
+use line_filters::LineFilter;
+use ras_base::NoMemory;
+use ras_script::LineRefused;
+use std::alloc::Global;
+use std::marker::Model;
+
+/// Makes of the lines of a kernel log lines of script: a line `ghes` of each report of the firmware
+/// with errors of memory, and a line `hest` before the first report of a source.
+///
+/// A report is told at the line that ends it: one of another report, or one of something else that
+/// the kernel printed more than a tenth of a second later; or after all lines. Sections about
+/// something else than memory, a thirteenth error of a report, a report that is cut, and each line
+/// that begins as one of a report and is in none, are told by comments. Only lines that are the
+/// kernel's own count. No line is refused.
+#[derive(Drop)]
+pub struct BlockFilter {
+    reports: Reports,
+    taken: u64,
+}
+
+impl Model for BlockFilter {
+    ghost use Rattle.block_lines.specs.Filter.{BlockProgress};
+
+    ghost Value = { BlockProgress };
+
+    ghost view = { λ f. record { reports = f.reports; taken = f.taken } };
+}
+
+impl BlockFilter {
+    /// Before the first line of the log of a boot that began at this second since 1970.
+    pub fn new(alloc: Global, boot: u64, began: u64) -> BlockFilter
+        requires { began ≤ LAST_SECOND }
+        ensures makes { blocks_make result ≡ block_filter boot began }
+        ensures taken { result.taken ≡ 0 }
+    {
+        BlockFilter {
+            reports: Reports::new(alloc, boot, began),
+            taken: 0,
+        }
+    }
+}
+
+impl LineFilter for BlockFilter {
+    ghost use Rattle.std.specs.Prelude.{refl};
+
+    ghost makes = { λ f. blocks_make f };
+
+    ghost taken = { λ f. f.taken };
+
+    ghost none = { λ _. refl };
+
+    fn take(&mut self, alloc: Global, line: &[u8], text: &mut Vec<u8>) -> Result<(), LineRefused> {
+        let told = log_line(line);
+        match self.reports.take_line(alloc, &told, self.taken + 1, text) {
+            Ok(()) => {
+                self.taken += 1;
+                Ok(())
+            }
+            Err(NoMemory) => Err(LineRefused::NoMemory),
+        }
+    }
+
+    fn push_rest(&self, alloc: Global, text: &mut Vec<u8>) -> Result<(), NoMemory> {
+        self.reports.push_end(alloc, text)
+    }
+
+    fn push_last(&self, _: Global, _: &mut Vec<u8>) -> Result<(), NoMemory> {
+        Ok(())
+    }
+}

@@ -1,0 +1,15 @@
+//! Lines of script of the errors that the firmware reported, as a kernel log tells them: the lines
+//! of a report, the generic error status block that is made of them, and the table of its source.
+#![tactic(auto)]
+
+mod blocks;
+mod filter;
+mod log_line;
+mod memory;
+mod report;
+mod report_line;
+mod reports;
+mod sources;
+mod text;
+
+pub use filter::BlockFilter;

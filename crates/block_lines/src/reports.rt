@@ -1,0 +1,310 @@
+//! The report in work, its errors, and the sources that were seen.
+
+ghost use Rattle.std.specs.Prelude.{◌≡◌, ◌≤◌, [], ◌∷◌, ◌++◌, length, Some, OnErr, OnOk};
+ghost use Rattle.bank_lines.specs.declared.log_line.TheConstants.{LAST_SECOND};
+ghost use Rattle.block_lines.specs.Reports.{after_report, begun_at, begun_work, errors_after};
+ghost use Rattle.block_lines.specs.Reports.{going_remark, gone_on, has_error, is_end, line_remark};
+ghost use Rattle.block_lines.specs.Reports.{line_taken, no_reports, own_remark, own_taken};
+ghost use Rattle.block_lines.specs.Reports.{reporting_after, start_remark};
+ghost use Rattle.block_lines.specs.Texts.{end_text, ghes_line, report_text, table_text, blocks_text_at};
+
+use crate::blocks::push_block;
+use crate::log_line::ReportLogLine;
+use crate::memory::MemoryError;
+use crate::report::{OpenReport, OpenSection, Remark};
+use crate::report_line::ReportLine;
+use crate::sources::{MOST_SOURCES, keep_source, table_with};
+use crate::text::{BlockName, push_ghes, push_partial, push_remark, push_table};
+use bank_lines::MICROSECONDS;
+use ras_base::NoMemory;
+use std::alloc::Global;
+use std::marker::Model;
+
+// The reports of the log of a boot: the one in work, its errors whose sections ended, and the
+// sources of the table that was printed last. It keeps 12 errors and 28 sources at most.
+#[derive(Drop)]
+pub(crate) struct Reports {
+    boot: u64,
+    began: u64,
+    work: Option<OpenReport>,
+    errors: Vec<MemoryError>,
+    sources: Vec<u16>,
+}
+
+impl Model for Reports {
+    ghost use Rattle.block_lines.specs.Reports.{Reporting, IsReporting};
+
+    ghost Value = { Reporting };
+
+    ghost view = { λ r. record {
+      boot = r.boot;
+      began = r.began;
+      work = r.work;
+      errors = r.errors.items;
+      sources = r.sources.items;
+    } };
+
+    ghost invariant = { λ r. IsReporting (record {
+      boot = r.boot;
+      began = r.began;
+      work = r.work;
+      errors = r.errors.items;
+      sources = r.sources.items;
+    }) };
+}
+
+impl Reports {
+    // Before the first line of the log of a boot that began at this second.
+    pub(crate) fn new(alloc: Global, boot: u64, began: u64) -> Reports
+        requires { began ≤ LAST_SECOND }
+        ensures { result ≡ no_reports boot began }
+    {
+        Reports {
+            boot,
+            began,
+            work: None,
+            errors: Vec::new(alloc),
+            sources: Vec::new(alloc),
+        }
+    }
+
+    // Takes a line, and adds the text of the report that it ends and what is said of the line.
+    pub(crate) fn take_line(
+        &mut self,
+        alloc: Global,
+        line: &ReportLogLine,
+        number: u64,
+        text: &mut Vec<u8>,
+    ) -> Result<(), NoMemory>
+        ensures text { OnOk result (text.new.items
+            ≡ text.old.items ++ blocks_text_at self.old number line.now) }
+        ensures state { OnOk result (self.new ≡ reporting_after self.old line.now) }
+    {
+        if self.is_end(line) {
+            self.push_end(alloc, text)?;
+            self.end()?;
+        }
+        let remark = self.remark(line);
+        self.take(line)?;
+        push_remark(text, remark, number)
+    }
+
+    // Whether a line ends the report in work.
+    fn is_end(&self, line: &ReportLogLine) -> bool
+        ensures { result ≡ is_end self.now line.now }
+    {
+        match self.work {
+            Some(report) => report.is_ended_by(line.stamp, line.own),
+            None => false,
+        }
+    }
+
+    // What is said of a line that ends no report.
+    fn remark(&self, line: &ReportLogLine) -> Remark
+        ensures { result ≡ line_remark self.now line.now }
+    {
+        match line.own {
+            Some(own) => self.own_remark(line.stamp, own.line),
+            None => Remark::Nothing,
+        }
+    }
+
+    // What is said of a line of the kernel's own.
+    fn own_remark(&self, stamp: Option<u64>, line: ReportLine) -> Remark
+        ensures { result ≡ own_remark self.now stamp line }
+    {
+        match line {
+            ReportLine::Start { .. } => start_remark(stamp),
+            _ => self.going_remark(line),
+        }
+    }
+
+    // What is said of a line that begins no report.
+    fn going_remark(&self, line: ReportLine) -> Remark
+        ensures { result ≡ going_remark (length self.now.errors) self.now.work line }
+    {
+        match self.work {
+            Some(report) => report.remark(self.errors.len(), line),
+            None => Remark::Unread,
+        }
+    }
+
+    // Takes a line that ends no report.
+    fn take(&mut self, line: &ReportLogLine) -> Result<(), NoMemory>
+        ensures { OnOk result (self.new ≡ line_taken self.old line.now) }
+    {
+        match line.own {
+            Some(own) => self.take_own(own.report, line.stamp, own.line),
+            None => Ok(()),
+        }
+    }
+
+    // Takes a line of the kernel's own.
+    fn take_own(
+        &mut self,
+        number: u64,
+        stamp: Option<u64>,
+        line: ReportLine,
+    ) -> Result<(), NoMemory>
+        ensures { OnOk result (self.new ≡ own_taken self.old number stamp line) }
+    {
+        match line {
+            ReportLine::Start { source } => {
+                self.begin(number, source, stamp);
+                Ok(())
+            }
+            _ => self.go_on(stamp, line),
+        }
+    }
+
+    // Begins a report, if it has a stamp.
+    fn begin(&mut self, number: u64, source: u16, stamp: Option<u64>)
+        ensures { self.new ≡ begun_at self.old number source stamp }
+    {
+        self.errors.clear();
+        self.work = begun_work(number, source, stamp);
+    }
+
+    // Takes a line that begins no report.
+    fn go_on(&mut self, stamp: Option<u64>, line: ReportLine) -> Result<(), NoMemory>
+        ensures { OnOk result (self.new ≡ gone_on self.old self.old.work stamp line) }
+    {
+        let Some(report) = self.work else {
+            return Ok(());
+        };
+        let after = report.after(self.errors.len(), stamp, line);
+        push_ended(&mut self.errors, report.section, line)?;
+        self.work = Some(after);
+        Ok(())
+    }
+
+    // Ends the report in work.
+    fn end(&mut self) -> Result<(), NoMemory>
+        ensures { OnOk result (self.new ≡ after_report self.old self.old.work) }
+    {
+        let Some(report) = self.work else {
+            return Ok(());
+        };
+        if self.has_error(&report) {
+            keep_source(&mut self.sources, report.source)?;
+        }
+        self.errors.clear();
+        self.work = None;
+        Ok(())
+    }
+
+    // Adds the text of the report in work, as if it ended here.
+    pub(crate) fn push_end(&self, alloc: Global, text: &mut Vec<u8>) -> Result<(), NoMemory>
+        ensures { OnOk result (text.new.items ≡ text.old.items ++ end_text self.now) }
+    {
+        match self.work {
+            Some(report) => self.push_report(alloc, &report, text),
+            None => Ok(()),
+        }
+    }
+
+    // Whether the report in work has an error.
+    fn has_error(&self, report: &OpenReport) -> bool
+        ensures { result ≡ has_error self.now.errors report.now.section }
+    {
+        matches!(report.section, OpenSection::Memory(_)) || !self.errors.is_empty()
+    }
+
+    // Adds the text of the report in work.
+    fn push_report(
+        &self,
+        alloc: Global,
+        report: &OpenReport,
+        text: &mut Vec<u8>,
+    ) -> Result<(), NoMemory>
+        requires { self.now.work ≡ Some report.now }
+        ensures { OnOk result (text.new.items ≡ text.old.items ++ report_text self.now report.now) }
+    {
+        if self.has_error(report) {
+            self.push_source(alloc, report.source, text)?;
+            self.push_block(alloc, report, text)?;
+        }
+        if report.section.is_cut() {
+            push_partial(text, report.source, report.begun)?;
+            text.push(b'\n')?;
+        }
+        Ok(())
+    }
+
+    // Adds the line of a table, if the last one hasn't this source.
+    fn push_source(&self, alloc: Global, source: u16, text: &mut Vec<u8>) -> Result<(), NoMemory>
+        ensures { OnOk result (text.new.items
+            ≡ text.old.items ++ table_text self.now.sources source) }
+    {
+        if self.sources.contains(&source) {
+            return Ok(());
+        }
+        let kept = if self.sources.len() < MOST_SOURCES {
+            self.sources.as_slice()
+        } else {
+            &[]
+        };
+        let table = table_with(alloc, kept, source)?;
+        push_table(alloc, text, &table)
+    }
+
+    // Adds the line of the block of the report in work.
+    fn push_block(
+        &self,
+        alloc: Global,
+        report: &OpenReport,
+        text: &mut Vec<u8>,
+    ) -> Result<(), NoMemory>
+        requires { self.now.work ≡ Some report.now }
+        ensures { OnOk result (text.new.items
+            ≡ text.old.items ++ ghes_line self.now report.now ++ 10 ∷ []) }
+    {
+        let mut block = Vec::new(alloc);
+        push_block(&mut block, report.severity, &self.errors, report.section)?;
+        let name = BlockName {
+            boot: self.boot,
+            seconds: self.began + report.begun / MICROSECONDS,
+            source: report.source,
+            number: report.begun,
+        };
+        push_ghes(alloc, text, name, &block)
+    }
+}
+
+// What is said of a line that begins a report.
+fn start_remark(stamp: Option<u64>) -> Remark
+    ensures { result ≡ start_remark stamp }
+{
+    match stamp {
+        Some(_) => Remark::Nothing,
+        None => Remark::Unread,
+    }
+}
+
+// A report that begins, if it has a stamp.
+fn begun_work(number: u64, source: u16, stamp: Option<u64>) -> Option<OpenReport>
+    ensures { result ≡ begun_work number source stamp }
+{
+    match stamp {
+        Some(stamp) => Some(OpenReport::new(number, source, stamp)),
+        None => None,
+    }
+}
+
+// Adds the error of a section, if a line ends it.
+fn push_ended(
+    errors: &mut Vec<MemoryError>,
+    section: OpenSection,
+    line: ReportLine,
+) -> Result<(), NoMemory>
+    ensures ok { OnOk result (errors.new.items ≡ errors_after errors.old.items section line) }
+    ensures err { OnErr result (errors.new.items ≡ errors.old.items) }
+{
+    match (line, section) {
+        (ReportLine::Error { .. }, OpenSection::Memory(error)) => {
+            errors.push(error)?;
+            Ok(())
+        }
+        _ => Ok(()),
+    }
+}
