@@ -1,12 +1,12 @@
 #!/usr/bin/env bash
-# The commands that make lines for rasd of the kernel's log and trace.
+# The commands that convert the kernel's log and trace to lines for rasd.
 #
 # usage: source filters.bash, as service/feed and service/earlier-lines do, with the folder of the scripts in `here`
 # shellcheck disable=SC2034
 here=${here:-$(dirname -- "$(readlink -f -- "${BASH_SOURCE[0]}")")}
 program=${RASD:-/usr/libexec/rasd/rasd}
 traces=${RASD_TRACE:-/var/lib/rasd-trace}
-# A filter takes 64 MB at most, so a longer log or trace is given to several, one behind the other.
+# A filter takes at most 64 MB, so a longer log or trace goes to several, one after the other.
 piece=${RASD_PIECE:-50000000}
 # A command that ends with the process that begins it, whose number it gets as TIED_TO.
 tied=("$here/tied")

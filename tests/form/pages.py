@@ -5,7 +5,7 @@ from rattle import NO_TEXT, TOP, USE, meanings, text_of
 
 FOLDER = TOP / "docs" / "promises"
 COMMENT = re.compile(r" *(--|//)")
-# a heading within a file, which is no comment of the definition behind it
+# a heading within a file, which isn't a comment of the definition after it
 HEADING = re.compile(r" *(-- -|//!)")
 
 

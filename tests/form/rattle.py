@@ -60,7 +60,7 @@ def files_of(crate, folder, ending):
     return [file for file in found if "/tests" not in file]
 
 
-# ---- what stands in a file
+# ---- what a file contains
 
 
 @functools.cache

@@ -213,7 +213,7 @@ def before(it):
     it.correct(3, address=0x25678040)
     took = it.guest.awaits("journalctl -k -b -o cat | grep 'Bank 3:'", "Bank 3", SOON)
     yield "the kernel told of an error while the service was down", took is not None
-    # Told is what journald has on the disk.
+    # Only what journald has on the disk counts.
     it.text("journalctl --sync")
     it.guest.reboot()
     yield "after a reboot the unit runs", it.comes_up()

@@ -1,4 +1,4 @@
-// Stands between a program and the C library: it refuses calls for memory, and makes reads and writes shorter.
+// Sits between a program and the C library: it refuses allocations, and makes reads and writes shorter.
 //
 // The file that BETWEEN names has two numbers of 8 bytes, which it counts up: the calls for memory, and the reads and writes
 // that could move more than one byte. Of the first kind those from REFUSED_FROM to REFUSED_TO fail, counted from 1, and of

@@ -2,7 +2,7 @@
 # shellcheck shell=bash
 passed=0 failed=0
 
-# Whether a command ends well; else what it printed is told.
+# Whether a command succeeds; otherwise prints what it printed.
 check() {
     local what=$1 told
     shift
