@@ -197,7 +197,7 @@ def offline(it):
 def shown(it):
     """what systemd shows of the service is short, and says why it ended"""
     longest = max(map(len, it.text("systemctl status rasd --no-pager -l").splitlines()), default=0)
-    yield f"no line of systemctl status is longer than 200 characters: {longest}", 0 < longest <= 200
+    yield f"no line of systemctl status is longer than 400 characters: {longest}", 0 < longest <= 400
     tasks = int(it.text("systemctl show -p TasksCurrent --value rasd"))
     yield f"the service has room for its processes: {tasks} of 32", 0 < tasks <= 24
     lines = it.text("journalctl -u rasd -o cat | grep -cE '^(done|repeat) '")
