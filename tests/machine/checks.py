@@ -247,11 +247,14 @@ def cut(it):
     """a cut of the power loses nothing that was acknowledged"""
     boot, cap = it.boot(), it.text("modprobe msr; rdmsr 0x179")
     line = f"bank {boot} $((1700000000 + n)) 0 2 $n {cap} 0 8c00004000010090 $((n + 10))000 86"
+    # Else the lines would go into a file of that name, where the pipe has to come.
+    took = it.guest.awaits("stat -c %F /run/rasd/lines", "fifo", SOON)
+    yield "the service has its pipe", took is not None
     it.text(f"(for n in $(seq 3000); do echo \"{line}\"; done > /run/rasd/lines) > /dev/null 2>&1 &")
     it.polls()
     it.correct(6, address=0x26789040)
     counted = {}
-    for _ in range(20):
+    for _ in range(40):
         counted, _ = it.account()
         if counted[boot, 2] > 50 and counted[boot, 6] > it.wanted[boot, 6] - 1:
             break
