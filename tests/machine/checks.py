@@ -194,8 +194,31 @@ def offline(it):
     it.text("systemctl disable --now rasd-offline")
 
 
+def shown(it):
+    """what systemd shows of the service is short, and says why it ended"""
+    longest = max(map(len, it.text("systemctl status rasd --no-pager -l").splitlines()), default=0)
+    yield f"no line of systemctl status is longer than 400 characters: {longest}", 0 < longest <= 400
+    tasks = int(it.text("systemctl show -p TasksCurrent --value rasd"))
+    yield f"the service has room for its processes: {tasks} of 32", 0 < tasks <= 24
+    lines = it.text("journalctl -u rasd -o cat | grep -cE '^(done|repeat) '")
+    yield f"the journal has no line that tells nothing new: {lines}", lines == "0"
+    it.text("cp -p /etc/rasd/machine.script /root/; echo refused >> /etc/rasd/machine.script; systemctl restart rasd")
+    took = it.guest.awaits("systemctl is-active rasd", "failed", SOON)
+    text = it.text("systemctl status rasd --no-pager -n 0 | grep Status:")
+    yield f"systemctl status says why a service has ended: {text[:120]}", took is not None and "status 2: " in text
+    said = "rasd.service has ended, so no error is counted: status 2: "
+    took = it.guest.awaits("journalctl -b -p crit -t rasd -o cat", said, SOON)
+    yield "the journal has it as critical, and the console has it", took is not None and said in it.guest.console()
+    metrics = "grep '^rasd_active ' /var/lib/prometheus/node-exporter/rasd.prom"
+    yield "the metrics say that it isn't active", it.guest.awaits(metrics, "rasd_active 0", LATER) is not None
+    it.text("cp -p /root/machine.script /etc/rasd/; systemctl reset-failed rasd; systemctl start rasd")
+    yield "it runs again without the refused row", it.comes_up()
+    yield "and the metrics say so", it.guest.awaits(metrics, "rasd_active 1", LATER) is not None
+
+
 def kills(it):
     """a process that is killed costs nothing"""
+    it.polls()
     for what, find in (("rasd", "systemctl show -p MainPID --value rasd"), ("a filter", FILTER)):
         restarts = int(it.text("systemctl show -p NRestarts --value rasd") or 0)
         status, text = it.run(f"kill -9 $({find})")
@@ -224,11 +247,14 @@ def cut(it):
     """a cut of the power loses nothing that was acknowledged"""
     boot, cap = it.boot(), it.text("modprobe msr; rdmsr 0x179")
     line = f"bank {boot} $((1700000000 + n)) 0 2 $n {cap} 0 8c00004000010090 $((n + 10))000 86"
+    # Else the lines would go into a file of that name, where the pipe has to come.
+    took = it.guest.awaits("stat -c %F /run/rasd/lines", "fifo", SOON)
+    yield "the service has its pipe", took is not None
     it.text(f"(for n in $(seq 3000); do echo \"{line}\"; done > /run/rasd/lines) > /dev/null 2>&1 &")
     it.polls()
     it.correct(6, address=0x26789040)
     counted = {}
-    for _ in range(20):
+    for _ in range(40):
         counted, _ = it.account()
         if counted[boot, 2] > 50 and counted[boot, 6] > it.wanted[boot, 6] - 1:
             break
@@ -245,8 +271,15 @@ def cut(it):
 
 
 def panic(it):
-    """the machine check that ends the machine is counted in the next boot"""
+    """the machine check that ends the machine is counted in the next boot, and so is what came shortly before"""
     boot = it.boot()
+    it.text("systemctl stop rasd")
+    it.polls()
+    it.correct(3, address=0x278AB040)
+    took = it.guest.awaits("journalctl -k -b -o cat | grep 'Bank 3:'", "Bank 3", SOON)
+    yield "the kernel told of an error while the service was down", took is not None
+    # The trace is synced each second.
+    it.text("sleep 3")
     it.guest.inject(4, FATAL, EXCEPTION, 0, 0)
     yield "the machine dies of it", it.guest.ends()
     it.guest.start()
@@ -254,7 +287,7 @@ def panic(it):
     yield "the kernel kept its machine check in the ERST", "mce-erst-" in kept
     yield "after a panic the unit runs", it.comes_up()
     it.wanted[boot, 4] += 1
-    yield it.agrees("the machine check that ended the machine is counted")
+    yield it.agrees("the machine check that ended the machine is counted, and the error before it")
 
 
 def source(it):
@@ -286,5 +319,5 @@ def purge(it):
 
 
 GROUPS = {
-    group.__name__: group for group in (install, start, errors, trial, offline, kills, before, cut, panic, source, purge)
+    group.__name__: group for group in (install, start, errors, trial, offline, shown, kills, before, cut, panic, source, purge)
 }

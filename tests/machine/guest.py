@@ -145,6 +145,10 @@ class Guest:
         with open(self.path("journal"), "a") as journal:
             print(f"==== {what}", self.text("journalctl -b -o short-monotonic -n 150 --no-pager"), sep="\n", file=journal)
 
+    def console(self):
+        """What its console printed."""
+        return pathlib.Path(self.path("console")).read_text(errors="replace")
+
     def awaits(self, command, text, seconds=120):
         """Within how many of the guest's seconds a command printed this, or nothing if it didn't."""
         begun = self.now()
