@@ -1,5 +1,4 @@
--- What a system in memory keeps: what it began with, and what was done, by numbers and bytes; and how
--- often its calls have failed.
+-- What a system in memory keeps: what it began with, and what was done, by numbers and bytes.
 use Rattle.std.specs.Prelude.{ℕ, zero, suc, List, [], ◌∷◌, Option, None, Vec}
 use Rattle.std.specs.Option.{option_map}
 use Rattle.std.specs.declared.alloc.Global.{Global}
@@ -8,7 +7,7 @@ use Rattle.host_system.specs.declared.left_folder.LeftFolder.{LeftFolder}
 use Rattle.host_system.specs.declared.system.FileName.{FileName}
 use Rattle.host_system.specs.declared.system.FileName.TheVariants.{Journal, Store, New}
 use Rattle.host_system.specs.Folder.{FolderChange, wrote, synced, made, opens, locks, loses, removed, renamed, synced_names, printed, Stopped}
-use Rattle.host_system.specs.FolderPast.{FolderPast, changed_by}
+use Rattle.host_system.specs.FolderPast.{FolderPast}
 
 -- the bytes of a file that may be missing
 abbrev pub items_in : Option (Vec ℕ Global) → Option (List ℕ)
@@ -26,20 +25,9 @@ as_stopped left = record {
 abbrev pub nothing_there : Stopped
 nothing_there = record { zero = None; one = None; store = None; new = None; out = [] }
 
--- what was done to the folder, and how often a call has failed
-pub record MemState : Type 0 where
-  pub past : FolderPast
-  pub faults : ℕ
-
-abbrev pub with_change : FolderChange → MemState → MemState
-with_change change s = record s { past = changed_by change s.past }
-
-abbrev pub faulted_to : ℕ → FolderPast → MemState
-faulted_to count past = record { past = past; faults = count }
-
--- a system that begins over these files, with nothing printed and no faults
-abbrev pub begun_over : Stopped → MemState
-begun_over start = record { past = record { first = record start { out = [] }; changes = [] }; faults = 0 }
+-- a system that begins over these files, with nothing printed
+abbrev pub begun_over : Stopped → FolderPast
+begun_over start = record { first = record start { out = [] }; changes = [] }
 
 -- ---- what was done, as it is noted
 

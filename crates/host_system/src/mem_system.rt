@@ -1,13 +1,11 @@
 //! A system in memory.
 ghost use Rattle.std.specs.Prelude.{◌≡◌, ◌+◌, ◌^◌, ◌<◌, ◌≤◌, [], ◌∷◌, ◌++◌, length, Some, IfSome, IfOk, OnOk, OnErr};
-ghost use Rattle.board_core.specs.Cause.{HasCause};
 ghost use Rattle.host_system.specs.Folder.{MayLeaveFolder, settled_folder, made, removed, renamed, synced, loses, wrote, printed};
 ghost use Rattle.host_system.specs.FolderPast.{MayLeaveFolderSince, HasFile, MayWrite, MayPrint, changed_by, file_bytes, folder_of};
-ghost use Rattle.host_system.specs.MemSystem.{as_stopped, nothing_there, begun_over, with_change};
+ghost use Rattle.host_system.specs.MemSystem.{as_stopped, nothing_there, begun_over};
 ghost use Rattle.host_system.specs.Steps.Kept.{IsCopied};
 ghost use Rattle.host_system.specs.Steps.MemFiles.{number_of};
 
-use crate::faults::counted;
 use crate::left_folder::{LeftFolder, StopPick, left_of_folder};
 use crate::mem_files::{MemEntry, MemFile, MemFiles};
 use crate::notes::Notes;
@@ -32,7 +30,6 @@ pub struct MemSystem {
     stop: u64,
     kept: Kept,
     notes: Notes,
-    faults: u64,
 }
 
 /// What there was before a call.
@@ -67,15 +64,13 @@ pub enum Effect {
 }
 
 impl Model for MemSystem {
-    ghost use Rattle.host_system.specs.MemSystem.{MemState, as_stopped, past_noted};
+    ghost use Rattle.host_system.specs.FolderPast.{FolderPast};
+    ghost use Rattle.host_system.specs.MemSystem.{as_stopped, past_noted};
     ghost use Rattle.host_system.specs.Steps.Kept.{Holds};
 
-    ghost Value = { MemState };
+    ghost Value = { FolderPast };
 
-    ghost view = { λ s. record {
-      past = past_noted (as_stopped s.first) s.notes.calls;
-      faults = s.faults;
-    } };
+    ghost view = { λ s. past_noted (as_stopped s.first) s.notes.calls };
 
     ghost invariant = { λ s.
         Holds (past_noted (as_stopped s.first) s.notes.calls) s.files s.out.items s.kept };
@@ -154,7 +149,6 @@ impl MemSystem {
             stop: 0,
             kept: Kept::Nothing,
             notes: Notes::new(),
-            faults: 0,
         }
     }
 
@@ -169,7 +163,7 @@ impl MemSystem {
 
     /// What a stop now leaves, by this choice.
     pub fn left(&self, pick: &StopPick) -> Result<LeftFolder, NoMemory>
-        ensures { IfOk result (λ left. MayLeaveFolder (folder_of self.now.past) (as_stopped left)) }
+        ensures { IfOk result (λ left. MayLeaveFolder (folder_of self.now) (as_stopped left)) }
     {
         left_of_folder(self.alloc, &self.files, &self.out, pick)
     }
@@ -185,7 +179,7 @@ impl MemSystem {
     /// What a stop at the chosen moment left, by this choice: none if it hasn't come.
     pub fn left_before(&self, pick: &StopPick) -> Result<Option<LeftFolder>, NoMemory>
         ensures { IfOk result (λ found. IfSome found (λ left.
-            MayLeaveFolderSince (settled_folder self.now.past.first) self.now.past.changes 0
+            MayLeaveFolderSince (settled_folder self.now.first) self.now.changes 0
             (as_stopped left))) }
     {
         match &self.kept {
@@ -229,18 +223,16 @@ impl MemSystem {
 
     // Counts a call, and fails if it was chosen to.
     fn begin(&mut self) -> Result<(), Failed>
-        ensures past { self.new.past ≡ self.old.past }
-        ensures cause { HasCause self.old.faults self.new.faults result }
+        ensures { self.new ≡ self.old }
     {
-        let answer = match self.fault() {
+        match self.fault() {
             Some(_) => Err(Failed),
             None => Ok(()),
-        };
-        counted(answer, &mut self.faults)
+        }
     }
 
     fn make_file(&mut self, name: FileName) -> Result<(), Failed>
-        ensures ok { OnOk result (self.new ≡ with_change (made name) self.old) }
+        ensures ok { OnOk result (self.new ≡ changed_by (made name) self.old) }
         ensures err { OnErr result (self.new ≡ self.old) }
     {
         let file = MemFile::empty(self.alloc);
@@ -252,7 +244,7 @@ impl MemSystem {
     }
 
     fn remove_file(&mut self, name: FileName) -> Result<(), Failed>
-        ensures ok { OnOk result (self.new ≡ with_change (removed name) self.old) }
+        ensures ok { OnOk result (self.new ≡ changed_by (removed name) self.old) }
         ensures err { OnErr result (self.new ≡ self.old) }
     {
         let Ok(()) = self.files.renew(name, None) else {
@@ -263,7 +255,7 @@ impl MemSystem {
     }
 
     fn rename_file(&mut self) -> Result<(), Failed>
-        ensures ok { OnOk result (self.new ≡ with_change renamed self.old) }
+        ensures ok { OnOk result (self.new ≡ changed_by renamed self.old) }
         ensures err { OnErr result (self.new ≡ self.old) }
     {
         let Ok(()) = self.files.rename(self.alloc) else {
@@ -275,9 +267,8 @@ impl MemSystem {
 
     // Brings a file to the disk, or loses it if the call fails.
     fn sync_file(&mut self, name: FileName) -> Result<(), Failed>
-        ensures ok { OnOk result (self.new.past ≡ changed_by (synced name) self.old.past) }
-        ensures err { OnErr result (self.new.past ≡ changed_by (loses name) self.old.past) }
-        ensures cause { HasCause self.old.faults self.new.faults result }
+        ensures ok { OnOk result (self.new ≡ changed_by (synced name) self.old) }
+        ensures err { OnErr result (self.new ≡ changed_by (loses name) self.old) }
     {
         if self.begin().is_err() {
             note(&mut self.notes, 5, name, 0, 0, &[]);
@@ -296,10 +287,10 @@ impl MemSystem {
         bytes: &[u8],
         missing: u64,
     ) -> Result<(), Failed>
-        requires there { HasFile name self.old.past }
-        requires within { place ≤ length (file_bytes name self.old.past) }
+        requires there { HasFile name self.old }
+        requires within { place ≤ length (file_bytes name self.old) }
         requires fits { length bytes.now + missing < 2 ^ 64 }
-        ensures ok { OnOk result (self.new ≡ with_change
+        ensures ok { OnOk result (self.new ≡ changed_by
             (wrote name place (length bytes.now + missing) bytes.now) self.old) }
         ensures err { OnErr result (self.new ≡ self.old) }
     {
@@ -319,10 +310,9 @@ impl MemSystem {
         place: u64,
         bytes: &[u8],
     ) -> Result<(), Failed>
-        requires there { HasFile name self.old.past }
-        requires within { place ≤ length (file_bytes name self.old.past) }
-        ensures may { MayWrite name place (length bytes.now) self.old.past self.new.past }
-        ensures faults { self.new.faults ≡ self.old.faults }
+        requires there { HasFile name self.old }
+        requires within { place ≤ length (file_bytes name self.old) }
+        ensures { MayWrite name place (length bytes.now) self.old self.new }
     {
         match effect {
             Effect::Nothing => Ok(()),
@@ -343,8 +333,8 @@ impl MemSystem {
 
     // Appends to the output. If memory runs out, nothing is appended.
     fn append(&mut self, bytes: &[u8]) -> Result<(), Failed>
-        ensures ok { OnOk result (self.new ≡ with_change (printed bytes.now) self.old) }
-        ensures err { OnErr result (self.new ≡ with_change (printed []) self.old) }
+        ensures ok { OnOk result (self.new ≡ changed_by (printed bytes.now) self.old) }
+        ensures err { OnErr result (self.new ≡ changed_by (printed []) self.old) }
     {
         if self.out.extend_from_slice(bytes).is_err() {
             note(&mut self.notes, 9, FileName::New, 0, 0, &[]);
@@ -356,8 +346,7 @@ impl MemSystem {
 
     // A print that fails.
     fn print_badly(&mut self, effect: Effect, bytes: &[u8]) -> Result<(), Failed>
-        ensures may { MayPrint bytes.now self.old.past self.new.past }
-        ensures faults { self.new.faults ≡ self.old.faults }
+        ensures { MayPrint bytes.now self.old self.new }
     {
         match effect {
             Effect::Nothing | Effect::Other(_) => self.append(&[]),
@@ -371,9 +360,7 @@ impl MemSystem {
 }
 
 impl System for MemSystem {
-    ghost told = { λ s. Some s.past };
-
-    ghost faults = { λ s. s.faults };
+    ghost told = { λ s. Some s };
 
     fn find(&mut self, name: FileName) -> Result<Option<u64>, Failed> {
         self.begin()?;
@@ -387,12 +374,14 @@ impl System for MemSystem {
     }
 
     fn make(&mut self, name: FileName) -> Result<(), Failed> {
-        let answer = match self.fault() {
+        match self.fault() {
             None => self.make_file(name),
-            Some(Effect::All) => self.make_file(name).and(Err(Failed)),
+            Some(Effect::All) => {
+                self.make_file(name)?;
+                Err(Failed)
+            }
             Some(_) => Err(Failed),
-        };
-        counted(answer, &mut self.faults)
+        }
     }
 
     fn lock(&mut self, name: FileName) -> Result<(), Failed> {
@@ -403,8 +392,10 @@ impl System for MemSystem {
 
     fn read(&mut self, name: FileName, most: u64) -> Result<Option<Vec<u8>>, Failed> {
         self.begin()?;
-        let answer = self.files.get(name).front(self.alloc, most);
-        counted(answer, &mut self.faults)
+        let Ok(front) = self.files.get(name).front(self.alloc, most) else {
+            return Err(Failed);
+        };
+        Ok(front)
     }
 
     fn read_at(&mut self, name: FileName, place: u64, buf: &mut [u8]) -> Result<(), Failed> {
@@ -416,13 +407,13 @@ impl System for MemSystem {
     }
 
     fn write_at(&mut self, name: FileName, place: u64, bytes: &[u8]) -> Result<(), Failed> {
-        let answer = match self.fault() {
+        match self.fault() {
             None => self.write(name, place, bytes, 0),
-            Some(effect) => self
-                .write_badly(effect, name, place, bytes)
-                .and(Err(Failed)),
-        };
-        counted(answer, &mut self.faults)
+            Some(effect) => {
+                self.write_badly(effect, name, place, bytes)?;
+                Err(Failed)
+            }
+        }
     }
 
     fn sync(&mut self, name: FileName) -> Result<(), Failed> {
@@ -434,21 +425,25 @@ impl System for MemSystem {
     }
 
     fn remove(&mut self, name: FileName) -> Result<(), Failed> {
-        let answer = match self.fault() {
+        match self.fault() {
             None => self.remove_file(name),
-            Some(Effect::All) => self.remove_file(name).and(Err(Failed)),
+            Some(Effect::All) => {
+                self.remove_file(name)?;
+                Err(Failed)
+            }
             Some(_) => Err(Failed),
-        };
-        counted(answer, &mut self.faults)
+        }
     }
 
     fn rename(&mut self) -> Result<(), Failed> {
-        let answer = match self.fault() {
+        match self.fault() {
             None => self.rename_file(),
-            Some(Effect::All) => self.rename_file().and(Err(Failed)),
+            Some(Effect::All) => {
+                self.rename_file()?;
+                Err(Failed)
+            }
             Some(_) => Err(Failed),
-        };
-        counted(answer, &mut self.faults)
+        }
     }
 
     fn sync_names(&mut self) -> Result<(), Failed> {
@@ -459,10 +454,12 @@ impl System for MemSystem {
     }
 
     fn print(&mut self, bytes: &[u8]) -> Result<(), Failed> {
-        let answer = match self.fault() {
+        match self.fault() {
             None => self.append(bytes),
-            Some(effect) => self.print_badly(effect, bytes).and(Err(Failed)),
-        };
-        counted(answer, &mut self.faults)
+            Some(effect) => {
+                self.print_badly(effect, bytes)?;
+                Err(Failed)
+            }
+        }
     }
 }

@@ -1,3 +1,2 @@
-pub mod CauseLemmas
 pub mod FolderLemmas
 pub mod OverLemmas

@@ -1,3 +1,2 @@
 pub mod FolderEras
-pub mod OverCauses
 pub mod OverFolder

@@ -1,4 +1,3 @@
-pub mod BlameLemmas
 pub mod JournalLemmas
 pub mod KeptLemmas
 mod ReadLemmas

@@ -1,4 +1,3 @@
-pub mod Blame
 pub mod BoardState
 pub mod JournalFiles
 pub mod SourceState

@@ -2,7 +2,6 @@
 pub mod BoardLaws
 pub mod KeptDevice
 pub mod Listed
-pub mod Once
 pub mod Settled
 pub mod Telling
 pub mod Written

@@ -4,28 +4,26 @@ ghost use Rattle.board_core.specs.Clock.{LeftNow};
 ghost use Rattle.board_core.specs.Stop.{Left};
 ghost use Rattle.host_system.specs.View.{MayBegin};
 ghost use Rattle.ras_host.specs.Steps.Telling.{clock_of, told_of};
-ghost use Rattle.ras_host.specs.Blame.{AreCaused};
 ghost use Rattle.ras_host.specs.JournalFiles.{files_for};
 ghost use Rattle.ras_host.specs.Steps.BoardLaws.{board_told_left, board_text_left, board_earlier_left};
 
-use crate::faults::count_put;
-use crate::journal::JournalFiles;
+use crate::faults::{count_put, counted};
+use crate::journal::{JournalFiles, Use};
 use crate::kept::Kept;
 use crate::listed::{list_access, list_disk_call};
 use board_core::{Access, Board, BoardPut, DiskCall, Failed, FileNo, Reg};
 use erst_store::file_laws;
-use host_system::{Notes, System, counted, print};
+use host_system::{Notes, System, print};
 use std::alloc::Global;
 use std::marker::Model;
 
 /// The files `rasd.0`, `rasd.1` and `rasd.store` of the working folder, and standard output, of which
-/// it tells what the system tells. Each call that fails is counted, by its kind. `HOW` is `ALONE` or
-/// `READING`: what the board does with the journal's files.
+/// it tells what the system tells. Each call that fails is counted, by its kind.
 ///
 /// The record store is read at the device's first use, and empty if its file is missing. Each
 /// change of it is brought into its file before the call answers.
 #[derive(Drop)]
-pub struct FileBoard<S: System + Drop, const HOW: u8> {
+pub struct FileBoard<S: System + Drop> {
     alloc: Global,
     system: S,
     files: JournalFiles,
@@ -37,9 +35,8 @@ pub struct FileBoard<S: System + Drop, const HOW: u8> {
     accesses: Notes,
 }
 
-impl<S: System + Drop, const HOW: u8> Model for FileBoard<S, HOW> {
+impl<S: System + Drop> Model for FileBoard<S> {
     ghost use Rattle.std.specs.Prelude.{IfSome};
-    ghost use Rattle.ras_host.specs.Blame.{AreCaused};
     ghost use Rattle.ras_host.specs.BoardState.{BoardState};
     ghost use Rattle.ras_host.specs.JournalFiles.{AreHeld};
     ghost use Rattle.ras_host.specs.Steps.KeptDevice.{IsInStep};
@@ -56,28 +53,21 @@ impl<S: System + Drop, const HOW: u8> Model for FileBoard<S, HOW> {
         registers = b.register_faults;
         prints = b.print_faults;
       };
-      count = S.faults b.system;
       disk_calls = b.disk_calls.calls;
       accesses = b.accesses.calls;
     } };
 
     ghost invariant = { λ b. IfSome (S.told b.system) (AreHeld b.files)
         × IfSome (S.told b.system) (IsInStep b.kept)
-        × IfSome (S.told b.system) (IsSettledBy b.files b.kept)
-        × AreCaused HOW b.files b.kept (record {
-          disk = b.disk_faults;
-          registers = b.register_faults;
-          prints = b.print_faults;
-        }) (S.faults b.system) };
+        × IfSome (S.told b.system) (IsSettledBy b.files b.kept) };
 }
 
-impl<S: System + Drop, const HOW: u8> FileBoard<S, HOW> {
+impl<S: System + Drop> FileBoard<S> {
     /// The board over a system, with no faults. No file is opened yet.
-    pub fn new(alloc: Global, system: S) -> FileBoard<S, HOW>
-        requires begins { IfSome (S.told system) MayBegin }
-        requires quiet { S.faults system ≡ 0 }
+    pub fn new(alloc: Global, how: Use, system: S) -> FileBoard<S>
+        requires { IfSome (S.told system) MayBegin }
         ensures past { result.past ≡ S.told system }
-        ensures files { result.files ≡ files_for HOW }
+        ensures files { result.files ≡ files_for how }
         ensures faults { result.faults ≡ record { disk = 0; registers = 0; prints = 0 } }
         ensures unread { result.kept ≡ Kept.Unread }
         ensures unlisted { (result.disk_calls ≡ []) × (result.accesses ≡ []) }
@@ -86,7 +76,7 @@ impl<S: System + Drop, const HOW: u8> FileBoard<S, HOW> {
         FileBoard {
             alloc,
             system,
-            files: JournalFiles::new(HOW),
+            files: JournalFiles::new(how),
             kept: Kept::Unread,
             disk_faults: 0,
             register_faults: 0,
@@ -98,15 +88,13 @@ impl<S: System + Drop, const HOW: u8> FileBoard<S, HOW> {
 
     /// The system that the board is over.
     pub fn into_system(self) -> S
-        ensures past { S.told result ≡ self.past }
-        ensures count { S.faults result ≡ self.count }
-        ensures caused { AreCaused HOW self.files self.kept self.faults self.count }
+        ensures { S.told result ≡ self.past }
     {
         self.system
     }
 }
 
-impl<S: System + Drop, const HOW: u8> Board for FileBoard<S, HOW> {
+impl<S: System + Drop> Board for FileBoard<S> {
     ghost told = { λ b. told_of b };
 
     ghost clock = { λ b. clock_of b };

@@ -10,7 +10,7 @@ use super::{ANOTHER, EVERYDAY, MODULE, joined};
 use board_core::MemSource;
 use host_system::{Effect, LeftFolder, MemSystem, NamePick, StopPick, WriteLeft, system_laws};
 use ras_daemon::{Exit, RasWord, rasd};
-use ras_host::{ALONE, FileBoard, READING};
+use ras_host::{FileBoard, Use};
 use std::alloc::Global;
 use std::test::Fail;
 
@@ -64,10 +64,11 @@ enum Trouble {
 }
 
 // A call of the daemon over a folder, and what befalls it.
-fn call_over<const HOW: u8>(
+fn call_over(
     alloc: Global,
     words: &[RasWord],
     script: Vec<u8>,
+    how: Use,
     start: &LeftFolder,
     trouble: Trouble,
 ) -> Result<(Exit, MemSystem), Fail> {
@@ -82,7 +83,7 @@ fn call_over<const HOW: u8>(
         Trouble::Failure(call, effect) => system.fail_at(call, effect)?,
     }
     let mut source = MemSource::new(script, 7, Vec::new(alloc));
-    let mut board: FileBoard<MemSystem, HOW> = FileBoard::new(alloc, system);
+    let mut board = FileBoard::new(alloc, how, system);
     let exit = rasd(alloc, words, &mut source, &mut board);
     Ok((exit, board.into_system()))
 }
@@ -95,7 +96,14 @@ fn run_over(
     trouble: Trouble,
 ) -> Result<(Exit, MemSystem), Fail> {
     let words = vec![in alloc; RasWord::new(alloc, b"run")?]?;
-    call_over::<ALONE>(alloc, &words, joined(alloc, script)?, start, trouble)
+    call_over(
+        alloc,
+        &words,
+        joined(alloc, script)?,
+        Use::Alone,
+        start,
+        trouble,
+    )
 }
 
 // The names of the account that a folder has.
@@ -104,8 +112,14 @@ fn names_in(alloc: Global, start: &LeftFolder) -> Result<Vec<u8>, Fail> {
         RasWord::new(alloc, b"report")?,
         RasWord::new(alloc, b"names")?,
     ]?;
-    let nothing = Trouble::Nothing;
-    let (_, system) = call_over::<READING>(alloc, &words, Vec::new(alloc), start, nothing)?;
+    let (_, system) = call_over(
+        alloc,
+        &words,
+        Vec::new(alloc),
+        Use::Reading,
+        start,
+        Trouble::Nothing,
+    )?;
     Ok(now(&system)?.out)
 }
 
