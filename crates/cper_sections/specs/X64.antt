@@ -9,7 +9,7 @@ use Rattle.cper_sections.specs.declared.x64.TheConstants.{FIXED_LENGTH, STRUCTUR
 use Rattle.cper_sections.specs.declared.x64.X64Section.{X64Section}
 use Rattle.cper_sections.specs.declared.x64.Context.{Context}
 
--- the validation bits, which hold the two counts
+-- the validation bits, which contain the two counts
 abbrev pub x64_validation : List ℕ → ℕ
 x64_validation bytes = number_at 0 8 bytes
 

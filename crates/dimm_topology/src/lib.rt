@@ -1,4 +1,4 @@
-//! Which memory module an error belongs to, by rows that tell how a machine is built.
+//! Which memory module an error belongs to, by rows that describe how the machine is built.
 //!
 //! A topology is the list of its rows in the order in which they were added: the sockets of CPUs,
 //! the modules behind the memory channels, ranges of physical addresses, and the places that

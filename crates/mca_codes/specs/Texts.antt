@@ -40,7 +40,7 @@ target_words = codes "M" ∷ codes "RES" ∷ codes "IO" ∷ codes "OTHER" ∷ []
 abbrev pub memory_words : List (List ℕ)
 memory_words = codes "GEN" ∷ codes "RD" ∷ codes "WR" ∷ codes "AC" ∷ codes "SCRUB" ∷ []
 
--- CCCC, the channel, 15 if it isn't told
+-- CCCC, the channel; 15 is an unspecified channel
 abbrev pub channel_word : ℕ → List ℕ
 channel_word channel = if channel == 15 then codes "-" else decimal channel
 
