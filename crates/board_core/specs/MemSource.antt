@@ -9,7 +9,7 @@ pub record Reading : Type 0 where
   pub made : ℕ
   pub faults : ℕ
 
--- a number of calls or faults, one greater, which ends at 2^64 - 1
+-- a number of calls or faults, greater by one, which stops at 2^64 - 1
 abbrev pub next_count : ℕ → ℕ
 next_count n = min (n + 1) (2 ^ 64 - 1)
 
@@ -21,7 +21,7 @@ is_chosen call fails = list_any (λ fail. nat_eq fail call) fails
 abbrev pub read_fails_next : Reading → Bool
 read_fails_next s = is_chosen (next_count s.made) s.fails
 
--- The reads are numbered on, and the chosen ones and the pieces stay.
+-- The numbering of reads goes on, and the chosen reads and the length of pieces stay.
 pub record CountsRead (old new : Reading) : Type 0 where
   pub made : new.made ≡ next_count old.made
   pub fails : new.fails ≡ old.fails
