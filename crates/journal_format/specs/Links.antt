@@ -1,5 +1,5 @@
--- How a link of the journal is spelled: entries that are kept or lost together. Each number of
--- several bytes stands from its low byte on.
+-- How a link of the journal is spelled: entries that are stored or lost together. Each number of several bytes begins
+-- with its low byte.
 use Rattle.std.specs.Prelude.{◌≡◌, ℕ, ◌+◌, ◌<◌, ◌≤◌, ◌^◌, Bool, nat_lt, List, ◌++◌, length, take, drop, All}
 use Rattle.ras_base.specs.LittleEndian.{u32_bytes, number_at}
 use Rattle.ras_facts.specs.declared.entry.Entry.{Entry}
