@@ -34,7 +34,7 @@ line_of_words (kind ∷ words) =
 abbrev pub line_of : List ℕ → Result Line LineRefused
 line_of bytes = line_of_words (words_of bytes)
 
--- Reading gave what a line asks for, or memory ran out.
+-- What was read is what a line asks for, or memory ran out.
 abbrev pub GivesLine : {A : Type 0} → Result A LineRefused → Result A LineRefused → Type 0
 GivesLine (Err NoMemory) line = ⊤
 GivesLine read line = line ≡ read

@@ -70,8 +70,8 @@ Ends see exit result text old new =
 
 -- ---- how far the lines were taken
 
--- Of a text so much was printed, and so much behind it waits. A stop now leaves what one before the
--- call may have left, with all that was printed.
+-- Of a text so much was printed, and so much behind it waits. A crash now leaves what one before the call may have
+-- left, with all that was printed.
 pub record Said (text : List ℕ) (before : Told) (old : Clock) (printed waiting : List ℕ) (now : Told) (new : Clock) : Type 0 where
   pub is : now ≡ after_print printed before
   pub begins : IsPrefixOf (printed ++ waiting) text
