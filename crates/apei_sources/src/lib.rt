@@ -2,7 +2,6 @@
 //! table (BERT), and generic error status blocks, as views of the bytes that contain them. It
 //! follows ACPI 6.5, section 18.3, "Error Source Discovery".
 //!
-//!
 //! A public function with an empty body is a law: its clauses are the point.
 #![tactic(auto)]
 

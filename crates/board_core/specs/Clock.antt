@@ -7,7 +7,8 @@ use Rattle.erst_store.specs.Store.{Stored}
 use Rattle.board_core.specs.Stop.{Left, Same, file_in}
 use Rattle.board_core.specs.Told.{Told}
 
--- A clock, which never goes back: the number of calls made so far, and what a crash at or after the point t may leave.
+-- A clock, which never goes back: the number of the present moment, and what a crash at or after the moment t may
+-- leave.
 pub record Clock : Type 1 where
   pub now : ℕ
   pub may_leave_since : ℕ → Left → Type 0
@@ -66,6 +67,6 @@ pub record Rests (t : Told) (told : Option Told) (clock : Clock) : Type 0 where
   pub is : told ≡ Some t
   pub only : (left : Left) → LeftNow clock left → left ≡ t.here
 
--- Whatever a crash at or after the point t may leave has this property.
+-- Whatever a crash at or after the moment t may leave has this property.
 abbrev pub Always : Clock → ℕ → (Left → Type 0) → Type 0
 Always clock t P = (left : Left) → clock.may_leave_since t left → P left

@@ -66,19 +66,17 @@ pub enum BoardPut {
 /// store, and a print only the printed text. A call returns `Failed` only if the count of its kind
 /// of fault rose, and no call raises a count of another kind.
 pub trait Board {
-    /// The model of the board's contents, if it is modelled. Contracts can refer to nothing else of
-    /// it.
+    /// The board's contents, if the board is modelled.
     ghost told: { Self → Option Told };
 
-    /// The number of calls made so far, and what a crash at any point may leave. A board that isn't
-    /// modelled has an empty clock.
+    /// The number of the present moment, and what a crash at any moment may leave. Says nothing of a
+    /// board that isn't modelled.
     ghost clock: { Self → Clock };
 
     /// How many calls have failed, by their kinds.
     ghost faults: { Self → Faults };
 
     /// Returns the file's length in bytes.
-    ///
     ///
     /// `Failed`: only if the count of failed disk calls rose.
     fn size(&mut self, file: FileNo) -> Result<u64, Failed>

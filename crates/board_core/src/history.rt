@@ -20,8 +20,8 @@ use std::marker::Model;
 /// Two files, a device and an output in memory, with a record of all that was done to them.
 ///
 /// A write is done in place, and its bytes are recorded as well. The first contents of a file are
-/// kept apart at its first write. Of the record store only the first state is kept: what is done to
-/// the device is recorded as the calls that asked for it.
+/// kept apart at its first write. The record store's first state is kept, and no other earlier one:
+/// what is done to the device is recorded as the calls that asked for it.
 #[derive(Drop)]
 pub struct History {
     alloc: Global,

@@ -6,7 +6,6 @@
 //! don't apply to it; the versions in memory are. Code that is generic over the traits can't find
 //! out which it was given.
 //!
-//!
 //! A public function with an empty body is a law: its clauses are the point.
 #![tactic(auto)]
 

@@ -120,7 +120,6 @@ impl PcieCounts {
 
     /// Counts a section.
     ///
-    ///
     /// `NoMemory`: only if memory runs out; the counts are then unchanged.
     pub fn add(&mut self, section: &PcieSection) -> Result<(), NoMemory>
         ensures ok { OnOk result (self.new ≡ pcie_counts_with self.old section.now) }

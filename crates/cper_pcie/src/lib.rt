@@ -2,7 +2,6 @@
 //! that prints them for a script. It follows the UEFI specification, appendix N, "PCI Express Error
 //! Section".
 //!
-//!
 //! A public function with an empty body is a law: its clauses are the point.
 #![tactic(auto)]
 

@@ -2,7 +2,6 @@
 //! IA32/X64 sections. It follows the UEFI specification, appendix N, "Common Platform Error
 //! Record".
 //!
-//!
 //! A public function with an empty body is a law: its clauses are the point.
 #![tactic(auto)]
 

@@ -87,7 +87,6 @@ impl Label {
 
     /// Returns an equal label.
     ///
-    ///
     /// `NoMemory`: only if memory runs out.
     pub fn copy(&self, _alloc: Global) -> Result<Label, NoMemory>
         ensures { IfOk result (λ copy. copy ≡ self.now) }

@@ -3,6 +3,8 @@
 //! A topology is the list of its rows in the order in which they were added: the sockets of CPUs,
 //! the modules behind the memory channels, ranges of physical addresses, and the places that
 //! firmware names. The owner of an error is a function of that list, which `specs/` defines.
+//!
+//! A public function with an empty body is a law: its clauses are the point.
 #![tactic(auto)]
 
 mod label;

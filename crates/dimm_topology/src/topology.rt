@@ -122,7 +122,6 @@ impl Topology {
     ///
     /// A module may be named by `Label::none()`, which is then a label like any other.
     ///
-    ///
     /// `Full`: if and only if there are `MOST_ROWS` rows already. After an error the rows are
     /// unchanged.
     pub fn add_module(

@@ -22,7 +22,6 @@ pub(crate) fn u16_at(bytes: &[u8]) -> Result<(u16, &[u8]), EntryRefused>
 
 /// Returns a number of 4 bytes at the front, the lowest byte first, and the bytes after it.
 ///
-///
 /// `Bad`: if and only if there are fewer bytes. `NoMemory`: never.
 #[tactic(auto, unfolding(crate::specs::Reading::u32_at))]
 pub fn u32_at(bytes: &[u8]) -> Result<(u32, &[u8]), EntryRefused>
@@ -36,7 +35,6 @@ pub fn u32_at(bytes: &[u8]) -> Result<(u32, &[u8]), EntryRefused>
 
 /// Returns a number of 8 bytes at the front, the lowest byte first, and the bytes after it.
 ///
-///
 /// `Bad`: if and only if there are fewer bytes. `NoMemory`: never.
 #[tactic(auto, unfolding(crate::specs::Reading::u64_at))]
 pub fn u64_at(bytes: &[u8]) -> Result<(u64, &[u8]), EntryRefused>
@@ -49,7 +47,6 @@ pub fn u64_at(bytes: &[u8]) -> Result<(u64, &[u8]), EntryRefused>
 }
 
 /// Returns the first byte, and the bytes after it.
-///
 ///
 /// `Bad`: if and only if there is no byte. `NoMemory`: never.
 #[tactic(auto, unfolding(crate::specs::Reading::byte_at))]

@@ -59,7 +59,6 @@ fn label_of(alloc: Global, text: &[u8]) -> Result<Label, EntryRefused>
 /// Returns the label at the front, or no label, and the bytes after it. The number of its bytes
 /// comes before it.
 ///
-///
 /// `Bad`: if and only if the bytes don't begin with one. `NoMemory`: only if memory runs out.
 #[tactic(auto, unfolding(crate::specs::Reading::label_at))]
 pub fn label_at(alloc: Global, bytes: &[u8]) -> Result<(Label, &[u8]), EntryRefused>
@@ -72,7 +71,6 @@ pub fn label_at(alloc: Global, bytes: &[u8]) -> Result<(Label, &[u8]), EntryRefu
 }
 
 /// Returns the number of a page at the front, and the bytes after it.
-///
 ///
 /// `Bad`: if and only if the bytes don't begin with one. `NoMemory`: never.
 #[tactic(auto, unfolding(crate::specs::Reading::page_number_at))]

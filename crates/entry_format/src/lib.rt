@@ -3,7 +3,6 @@
 //! Each valid entry has one spelling, which `specs/Spelling.antt` defines. A spelling is read back
 //! whatever follows it, and bytes that aren't a spelling are refused.
 //!
-//!
 //! A public function with an empty body is a law: its clauses are the point.
 #![tactic(auto)]
 

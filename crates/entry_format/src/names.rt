@@ -69,7 +69,6 @@ fn boot_name_at(bytes: &[u8]) -> Result<(Name, &[u8]), EntryRefused>
 
 /// Returns the name of a report at the front, and the bytes after it.
 ///
-///
 /// `Bad`: if and only if the bytes don't begin with one. `NoMemory`: never.
 #[tactic(auto, unfolding(crate::specs::Reading::name_at))]
 pub fn name_at(bytes: &[u8]) -> Result<(Name, &[u8]), EntryRefused>

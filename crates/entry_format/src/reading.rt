@@ -37,7 +37,6 @@ fn fact_at(alloc: Global, bytes: &[u8]) -> Result<(Fact, &[u8]), EntryRefused>
 
 /// Returns a limit at the front, and the bytes after it.
 ///
-///
 /// `Bad`: if and only if the bytes don't begin with a limit in its ranges. `NoMemory`: never.
 #[tactic(auto, unfolding(crate::specs::Reading::limit_at))]
 pub fn limit_at(bytes: &[u8]) -> Result<(Limit, &[u8]), EntryRefused>

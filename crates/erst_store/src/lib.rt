@@ -4,7 +4,6 @@
 //! device has the state that its two registers and its address range show, and does the actions of
 //! ACPI 6.5, section 18.5, "Error Serialization".
 //!
-//!
 //! A public function with an empty body is a law: its clauses are the point.
 #![tactic(auto)]
 

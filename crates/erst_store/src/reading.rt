@@ -43,7 +43,6 @@ impl Store {
 
     /// Appends the bytes of the store's file, as `to_bytes` returns them.
     ///
-    ///
     /// `NoMemory`: only if memory runs out.
     pub fn push_bytes(&self, out: &mut Vec<u8>) -> Result<(), NoMemory>
         ensures { OnOk result (out.new.items ≡ out.old.items ++ store_bytes self.now) }

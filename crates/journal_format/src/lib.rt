@@ -4,7 +4,6 @@
 //! Each has one spelling, which `specs/` defines. A spelling is read back, and bytes that aren't
 //! one are refused.
 //!
-//!
 //! A public function with an empty body is a law: its clauses are the point.
 #![tactic(auto)]
 

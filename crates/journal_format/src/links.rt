@@ -59,7 +59,6 @@ fn entries_len(entries: &[Entry]) -> usize
 /// Returns the link of these entries. Requires 1 to 2,000 valid entries whose payload has at most
 /// 67,108,864 bytes.
 ///
-///
 /// `NoMemory`: only if memory runs out.
 #[tactic(auto, unfolding(crate::specs::Links::link_bytes, crate::specs::Links::payload_bytes))]
 pub fn encode_link(alloc: Global, entries: &[Entry]) -> Result<Link, NoMemory>

@@ -5,7 +5,6 @@
 //! depends only on the reports of that page. The definitions in `specs/` say how, and the contracts
 //! of `Pages` say that each call keeps to them.
 //!
-//!
 //! A public function with an empty body is a law: its clauses are the point.
 #![tactic(auto)]
 

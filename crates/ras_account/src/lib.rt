@@ -5,7 +5,6 @@
 //! definitions in `specs/` say which function, and the contracts of `Account` say that each call
 //! keeps to it.
 //!
-//!
 //! A public function with an empty body is a law: its clauses are the point.
 #![tactic(auto)]
 

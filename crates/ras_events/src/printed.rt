@@ -13,7 +13,7 @@ ghost use Rattle.ras_events.specs.QuietLines.{AreQuietLines};
 
 /// What holds of printed texts.
 pub fn printed_lines_are_quiet()
-    // No line of an event but its last is a done line, whatever the event counts.
+    // No line of an event's text is a done line, whatever the event makes that can be counted.
     ensures event { (history : History) (made : List Piece) → IsAccount (account_of history)
         → IsFit made → AreQuietLines (event_text history made) }
 

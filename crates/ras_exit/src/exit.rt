@@ -9,7 +9,7 @@ use ras_script::LineRefused;
 /// How a call ends.
 #[derive(Clone, Copy, Debug, PartialEq, Eq)]
 pub enum Exit {
-    /// The input was read to its end.
+    /// The call came to its end.
     Done,
     /// The arguments aren't a command.
     Usage,

@@ -106,7 +106,6 @@ pub fn name_of_bank(bank: BankReport) -> Option<Name>
 /// bank has no error (VAL is 0), and then nothing is allocated. (Intel SDM, volume 3, chapter
 /// "Machine-Check Architecture".)
 ///
-///
 /// `NoMemory`: only if memory runs out.
 pub fn fact_of_bank(
     alloc: Global,

@@ -17,7 +17,6 @@ use std::alloc::Global;
 /// the block status is 0, and then nothing is allocated. (ACPI 6.5, section 18.3.2.7.1, "Generic
 /// Error Data".)
 ///
-///
 /// `NoMemory`: only if memory runs out.
 pub fn fact_of_block(
     alloc: Global,

@@ -2,7 +2,6 @@
 //!
 //! The definitions in `specs/` say which fact a report gives, and what a valid fact is.
 //!
-//!
 //! A public function with an empty body is a law: its clauses are the point.
 #![tactic(auto)]
 

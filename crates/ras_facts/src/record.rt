@@ -15,7 +15,6 @@ use std::alloc::Global;
 /// the class of the section's own severity and, for a memory section, the label by the topology and
 /// the page of its physical address. (UEFI, appendix N, "Section Descriptor".)
 ///
-///
 /// `NoMemory`: only if memory runs out.
 pub fn fact_of_record(
     alloc: Global,

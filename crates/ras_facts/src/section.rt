@@ -19,7 +19,6 @@ const PAGE_BITS: u32 = 12;
 /// severity and, for a memory section, the label by the topology and the page of its physical
 /// address.
 ///
-///
 /// `NoMemory`: only if memory runs out.
 pub fn section_item(
     alloc: Global,

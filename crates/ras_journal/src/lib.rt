@@ -1,7 +1,6 @@
 //! The journal: what its two files contain, and appending to it so that a crash at any point leaves
 //! the account without a link or with it.
 //!
-//!
 //! A public function with an empty body is a law: its clauses are the point.
 #![tactic(auto)]
 

@@ -2,7 +2,6 @@
 //! lines that prints these reports. The form of the lines is this project's own, after what Linux
 //! prints.
 //!
-//!
 //! A public function with an empty body is a law: its clauses are the point.
 #![tactic(auto)]
 

@@ -4,7 +4,6 @@
 //! A panic record's fact is the bank's own, so an error that is reported both by its bank and by a
 //! panic record has one name.
 //!
-//!
 //! A public function with an empty body is a law: its clauses are the point.
 #![tactic(auto)]
 

@@ -15,7 +15,6 @@ use std::alloc::Global;
 /// the bank's own, with the seconds of the report; for every other record it is the fact that
 /// `fact_of_record` returns.
 ///
-///
 /// `NoMemory`: only if memory runs out.
 pub fn fact_of_stored(
     alloc: Global,

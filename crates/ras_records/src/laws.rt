@@ -37,8 +37,8 @@ pub fn looks_leave_the_store()
         → IsDevice (device_of t) → IsDevice (device_of (after_calls (look_calls lists t) t)) }
 {}
 
-/// Clearing the readable records of a store, over a device that is fast enough, always succeeds,
-/// and leaves the other records. A crash meanwhile leaves a store that lacks some of these records,
+/// Clearing the readable records of a store, over a device that is fast enough, succeeds, and
+/// leaves the other records. A crash meanwhile leaves a store that lacks some of these records,
 /// from the first on, and all else unchanged.
 pub fn clears_take_the_readable_records()
     ensures answer { (lists : List (List InstructionEntry)) (t : Told) → IsAdmittedTable lists

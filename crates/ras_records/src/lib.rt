@@ -1,7 +1,6 @@
 //! Polls of the record store over a driver: the records are listed and read, and the readable ones
 //! are cleared.
 //!
-//!
 //! A public function with an empty body is a law: its clauses are the point.
 #![tactic(auto)]
 

@@ -4,7 +4,6 @@
 //! A detail is what a log line prints besides the item. It keeps what was read rather than a text,
 //! so that no text is made of a repeated report.
 //!
-//!
 //! A public function with an empty body is a law: its clauses are the point.
 #![tactic(auto)]
 

@@ -14,7 +14,6 @@ use std::alloc::Global;
 /// Returns the bytes that a word writes, each with two hexadecimal digits of either case. It is
 /// `None` if the word is empty, has an odd number of bytes, or has a byte that isn't such a digit.
 ///
-///
 /// `NoMemory`: only if memory runs out.
 pub fn bytes_of(alloc: Global, word: &[u8]) -> Result<Option<Text>, NoMemory>
     ensures { IfOk result (λ bytes. bytes ≡ bytes_of word.now) }

@@ -11,7 +11,6 @@ use ras_facts::BankReport;
 
 /// Appends what a bank's registers say besides the class, the weight and the page.
 ///
-///
 /// `NoMemory`: only if memory runs out.
 pub fn push_bank(text: &mut Vec<u8>, bank: &BankReport) -> Result<(), NoMemory>
     ensures { OnOk result (text.new.items ≡ text.old.items ++ bank_detail bank.now) }

@@ -27,7 +27,6 @@ pub const CLASSES: [ItemClass; CLASS_COUNT] = [
 
 /// Appends the name of a report, as lines print it.
 ///
-///
 /// `NoMemory`: only if memory runs out.
 pub fn push_name(text: &mut Vec<u8>, name: &Name) -> Result<(), NoMemory>
     ensures { OnOk result (text.new.items ≡ text.old.items ++ name_text name.now) }
@@ -122,7 +121,6 @@ pub fn hexadecimal_digits(number: u64) -> [u8; 16]
 
 /// Appends a page as the address of its first byte, or `-` if there is none.
 ///
-///
 /// `NoMemory`: only if memory runs out.
 pub fn push_page(text: &mut Vec<u8>, page: Option<u64>) -> Result<(), NoMemory>
     ensures { OnOk result (text.new.items ≡ text.old.items ++ page_text page) }
@@ -138,7 +136,6 @@ pub fn push_page(text: &mut Vec<u8>, page: Option<u64>) -> Result<(), NoMemory>
 }
 
 /// Appends the label of a module, or `-` if there is none.
-///
 ///
 /// `NoMemory`: only if memory runs out.
 pub fn push_label(text: &mut Vec<u8>, label: &Label) -> Result<(), NoMemory>

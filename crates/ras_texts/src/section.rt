@@ -11,7 +11,6 @@ use uuid::Uuid;
 
 /// Appends what a memory section says: the type of the error, where it is, and the address's mask.
 ///
-///
 /// `NoMemory`: only if memory runs out.
 #[tactic(auto, unfolding(crate::specs::Sections::memory_text))]
 pub fn push_memory(text: &mut Vec<u8>, memory: &MemSection) -> Result<(), NoMemory>
@@ -28,7 +27,6 @@ pub fn push_memory(text: &mut Vec<u8>, memory: &MemSection) -> Result<(), NoMemo
 
 /// Appends what a processor section says.
 ///
-///
 /// `NoMemory`: only if memory runs out.
 #[tactic(auto, unfolding(crate::specs::Sections::processor_text))]
 pub fn push_processor(text: &mut Vec<u8>, processor: &ProcSection) -> Result<(), NoMemory>
@@ -44,7 +42,6 @@ pub fn push_processor(text: &mut Vec<u8>, processor: &ProcSection) -> Result<(),
 
 /// Appends what an IA32/X64 section says.
 ///
-///
 /// `NoMemory`: only if memory runs out.
 #[tactic(auto, unfolding(crate::specs::Sections::x64_text))]
 pub fn push_x64(text: &mut Vec<u8>, x64: &X64Section) -> Result<(), NoMemory>
@@ -56,7 +53,6 @@ pub fn push_x64(text: &mut Vec<u8>, x64: &X64Section) -> Result<(), NoMemory>
 }
 
 /// Appends the type of a section of another type.
-///
 ///
 /// `NoMemory`: only if memory runs out.
 #[tactic(auto, unfolding(crate::specs::Sections::other_text))]
