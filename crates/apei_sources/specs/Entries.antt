@@ -40,10 +40,11 @@ is_refused entry = is_err (section_of (entry_guid entry) (entry_data entry))
 abbrev pub has_entry : List ℕ → Bool
 has_entry bytes = nat_le ENTRY_HEADER_LENGTH (length bytes) && nat_le (entry_length bytes) (length bytes)
 
--- the entry at the front, and the bytes after it
+-- the entry at the front
 abbrev pub first_of : List ℕ → List ℕ
 first_of bytes = take (entry_length bytes) bytes
 
+-- the bytes after the entry at the front
 abbrev pub rest_of : List ℕ → List ℕ
 rest_of bytes = drop (entry_length bytes) bytes
 

@@ -60,6 +60,7 @@ abbrev pub piece_of : Call → List ℕ
 piece_of (prints piece part) = piece
 piece_of call = []
 
+-- the store that a call would make; only a call of the device makes another one
 abbrev pub store_made : Call → List Stored → List Stored
 store_made (stores made store) old = made
 store_made call old = old

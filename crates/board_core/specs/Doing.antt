@@ -22,6 +22,7 @@ pub record Seen : Type 1 where
   pub clock : Clock
   pub faults : Faults
 
+-- what contracts see of a board, by its three ghosts
 abbrev pub looks : {X : Type 0} → (X → Option Told) → (X → Clock) → (X → Faults) → X → Seen
 looks told clock faults x = record { told = told x; clock = clock x; faults = faults x }
 
@@ -44,6 +45,7 @@ pub data Act : Type 0 where
   calls : DiskCall → Act
   device : DeviceCall → Act
 
+-- the kind of fault that a failed call of this act raises
 abbrev pub kind_of : Act → Kind
 kind_of (through file place bytes) = disk_call
 kind_of (prints bytes) = print_call
@@ -52,6 +54,7 @@ kind_of (device call) = device_call
 
 -- ---- a call of the device: done, failed, torn by a crash
 
+-- the model after a device call that succeeded
 abbrev pub after_device : DeviceCall → Told → Told
 after_device (reg_read reg) t = with_access (Read reg (register_in reg (device_of t))) t
 after_device (reg_write reg value) t = with_access (Write reg value) (on_device (after_reg_write reg value) t)
@@ -87,18 +90,21 @@ accesses_by (put id bytes) d = []
 
 -- ---- one act: done, failed, torn by a crash
 
+-- the model after an act that is done
 abbrev pub after_act : Act → Told → Told
 after_act (through file place bytes) t = after_write_through file place bytes t
 after_act (prints bytes) t = after_print bytes t
 after_act (calls call) t = with_call call t
 after_act (device call) t = after_device call t
 
+-- how the model may change if a call of this act fails
 abbrev pub FailsAct : Act → Told → Told → Type 0
 FailsAct (through file place bytes) old new = FailsThrough file place bytes old new
 FailsAct (prints bytes) old new = FailsPrint bytes old new
 FailsAct (calls call) old new = MayList call old new
 FailsAct (device call) old new = FailsDevice call old new
 
+-- what a crash during this act may leave
 abbrev pub TornAct : Act → Told → Left → Type 0
 TornAct (through file place bytes) t left = InFile file (Torn place (length bytes)) t.here left
 TornAct (prints bytes) t left = InOut (Begins bytes) t.here left
@@ -167,12 +173,14 @@ pub record Raises (kind : Kind) (old new : Faults) : Type 0 where
   pub own : Rose (count_of kind old) (count_of kind new)
   pub others : new ≡ with_count kind (count_of kind new) old
 
+-- All acts are done: the model has changed by them, a crash meanwhile leaves a moment of them, and no fault is counted.
 pub record GoesWell (acts : List Act) (old new : Seen) : Type 0 where
   pub told : Steps (after_acts acts) old.told new.told
   pub stops : (t : Told) → Rests t old.told old.clock → Adds (Moment acts t) old.clock new.clock
   pub rests : (t : Told) → Rests t old.told old.clock → Rests (after_acts acts t) new.told new.clock
   pub faults : new.faults ≡ old.faults
 
+-- A call of this kind failed in one of the acts: the fault is counted, and the acts before it are done.
 pub record Breaks (kind : Kind) (acts : List Act) (old new : Seen) : Type 0 where
   pub told : Relates (FailsActs kind acts) old.told new.told
   pub stops : (t : Told) → Rests t old.told old.clock → Adds (Moment acts t) old.clock new.clock
@@ -198,6 +206,7 @@ IsBad gave_up = Unit {0}
 
 -- ---- acts of one sort
 
+-- an act of the disk: neither a print nor a call of the device
 abbrev pub IsOnDisk : Act → Type 0
 IsOnDisk (through file place bytes) = Unit {0}
 IsOnDisk (prints bytes) = ⊥

@@ -33,6 +33,7 @@ pub data DeviceChange : Type 0 where
   wrote_range : ℕ → List ℕ → DeviceChange
   put_record : ℕ → List ℕ → DeviceChange
 
+-- the device after a change of it
 abbrev pub device_step : DeviceChange → Device → Device
 device_step (wrote_register reg value) d = after_reg_write reg value d
 device_step (wrote_range place bytes) d = after_range_write place bytes d
@@ -118,6 +119,7 @@ pub record State : Type 0 where
   pub starved : ℕ
   pub faults : Faults
 
+-- the model of a board in memory, which has all of it
 abbrev pub told_of : State → Told
 told_of s = record {
   here = (held_of s.past).here;
@@ -155,6 +157,7 @@ new_board file0 file1 store slow = record {
 abbrev pub fails_next : State → Bool
 fails_next s = is_chosen (next_count s.made) s.fails || ltb s.allowed (next_count s.made)
 
+-- the kind of fault that a call raises if it fails
 abbrev pub call_kind : BoardCall → Kind
 call_kind (OnDisk call) = disk_call
 call_kind (OnDevice access) = device_call

@@ -2,6 +2,8 @@
 use Rattle.std.specs.Prelude.{◌≡◌, ℕ, ◌+◌, ◌-◌, ◌^◌, min, Bool, List, nat_eq}
 use Rattle.std.specs.List.{list_any}
 
+-- the bytes left, the most bytes of a read, the numbers of the reads that fail, how many reads were made, and the
+-- faults
 pub record Reading : Type 0 where
   pub left : List ℕ
   pub piece : ℕ

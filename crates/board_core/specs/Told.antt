@@ -127,6 +127,7 @@ pub record Torn (place n : ℕ) (old new : List ℕ) : Type 0 where
   pub longer : length old ≤ length new
   pub within : length new ≤ max (length old) (place + n)
 
+-- A failed write of n bytes: it was torn, and may or may not be listed.
 abbrev pub FailsWrite : FileNo → ℕ → ℕ → Told → Told → Type 0
 FailsWrite file place n old new =
     (bytes : List ℕ) × Torn place n (file_of file old) bytes

@@ -69,8 +69,8 @@ pub trait Board {
     /// The board's contents, if the board is modelled.
     ghost told: { Self → Option Told };
 
-    /// The number of the present moment, and what a crash at any moment may leave. Says nothing of a
-    /// board that isn't modelled.
+    /// The number of the present moment, and what a crash at any moment may leave. Says nothing of
+    /// a board that isn't modelled.
     ghost clock: { Self → Clock };
 
     /// How many calls have failed, by their kinds.

@@ -19,6 +19,7 @@ abbrev pub text_or_refusal : LinePlace → Result Line LineRefused → Result (L
 text_or_refusal place (Ok line) = Ok (pcie_text place)
 text_or_refusal place (Err why) = Err why
 
+-- the text or the refusal of a line after all lines before it
 abbrev pub place_answer : LinePlace → Result (List ℕ) LineRefused
 place_answer place = text_or_refusal place (line_of place.1)
 
@@ -28,6 +29,7 @@ to_first_refusal [] = []
 to_first_refusal (Ok text ∷ answers) = Ok text ∷ to_first_refusal answers
 to_first_refusal (Err why ∷ answers) = Err why ∷ []
 
+-- the texts of lines, up to the first refusal
 abbrev pub pcie_answers : List (List ℕ) → List (Result (List ℕ) LineRefused)
 pcie_answers lines = to_first_refusal (map place_answer (places lines))
 

@@ -111,6 +111,7 @@ pcie_sections report = filter_map (pcie_section report.name) report.sections
 abbrev pub pcie_name : FirmwareReport → Option Name
 pcie_name report = if list_any is_pcie report.sections then Some report.name else None
 
+-- the name of a line's report, if that has a PCI Express section
 abbrev pub line_name : List ℕ → Option Name
 line_name line = option_and_then pcie_name (line_report_in line)
 
@@ -127,6 +128,7 @@ is_known lines name = list_any (same_name name) (filter_map line_name lines)
 abbrev pub first_sections : List (List ℕ) → FirmwareReport → List Taken
 first_sections before report = if is_known before report.name then [] else pcie_sections report
 
+-- the sections that are taken of a line after all lines before it
 abbrev pub taken_at : LinePlace → List Taken
 taken_at place = option_map_or (first_sections place.0) (line_report_in place.1) []
 

@@ -30,6 +30,7 @@ abbrev pub FailsUnlessMemory : {Y : Type 0} → EntryRefused → Result Y EntryR
 FailsUnlessMemory NoMemory read = Unit {0}
 FailsUnlessMemory Bad read = read ≡ Err Bad
 
+-- a function that succeeds returns what reading gives, seen by view; it may run out of memory instead
 abbrev pub ReadsUnlessMemory : {X Y : Type 0} → (X → Y) → Result X EntryRefused → Result Y EntryRefused → Type 0
 ReadsUnlessMemory view (Ok x) read = read ≡ Ok (view x)
 ReadsUnlessMemory view (Err e) read = FailsUnlessMemory e read
@@ -39,6 +40,7 @@ abbrev pub RefusesExactly : {Y : Type 0} → EntryRefused → Result Y EntryRefu
 RefusesExactly NoMemory read = ⊥
 RefusesExactly Bad read = read ≡ Err Bad
 
+-- a function returns exactly what reading gives, seen by view
 abbrev pub ReadsExactly : {X Y : Type 0} → (X → Y) → Result X EntryRefused → Result Y EntryRefused → Type 0
 ReadsExactly view (Ok x) read = read ≡ Ok (view x)
 ReadsExactly view (Err e) read = RefusesExactly e read

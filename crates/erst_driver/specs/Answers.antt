@@ -35,6 +35,7 @@ answer_within busy = if is_free_in_time busy then Ok tt else Err Busy
 abbrev pub answer_at : Device → Answer
 answer_at d = if is_free_in_time d.busy then by_status d.status else Err Busy
 
+-- the result of an operation with these steps, over a device
 abbrev pub answer_of : List Step → Device → Answer
 answer_of steps d = answer_at (after_steps steps d)
 
@@ -63,6 +64,7 @@ written_id bytes = number_at id_place 8 bytes
 abbrev pub is_put_refused : ℕ → List Stored → Bool
 is_put_refused id store = is_reserved id || is_full_for id store
 
+-- the status of a write of a record under this identifier
 abbrev pub put_status : ℕ → List Stored → CommandStatus
 put_status id store = if is_put_refused id store then NotEnoughSpace else Success
 
@@ -71,6 +73,7 @@ store_after_write bytes store =
     if is_put_refused (written_id bytes) store then store
     else with_record (written_id bytes) bytes store
 
+-- the result of a write of a record under this identifier, over a device
 abbrev pub answer_on_put : ℕ → Device → Answer
 answer_on_put id d =
     if is_free_in_time d.slow then by_status (put_status id d.store) else Err Busy
@@ -94,6 +97,7 @@ pub record DoesSome {X : Type 0} (see : X → Seen) (calls : List DeviceCall) (o
   pub splits : done ++ later ≡ calls
   pub does : Does see (acts_of done) went_well old new
 
+-- A listing does these calls, or the first of them until memory ran out.
 abbrev pub DoesListing : {X T : Type 0} → (X → Seen) → List DeviceCall → Result T DriverRefused → X → X → Type 0
 DoesListing see calls (Err NoMemory) old new = DoesSome see calls old new
 DoesListing see calls result old new = Does see (acts_of calls) (ended_by driver_end result) old new

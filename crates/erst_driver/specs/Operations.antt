@@ -54,9 +54,11 @@ checks count = replicate count (without_input check_busy_status)
 abbrev pub most_checks : ℕ
 most_checks = 1000
 
+-- whether a device that gives this many busy answers is free within the most checks
 abbrev pub is_free_in_time : ℕ → Bool
 is_free_in_time busy = nat_lt busy most_checks
 
+-- the checks of a device that gives this many busy answers
 abbrev pub asks : ℕ → List Step
 asks busy = if is_free_in_time busy then checks (busy + 1) else checks most_checks
 
@@ -65,6 +67,7 @@ abbrev pub ends : ℕ → List Step
 ends busy =
     if is_free_in_time busy then without_input get_command_status ∷ without_input end_operation ∷ [] else []
 
+-- the steps after the execution: the checks, then the status and the end
 abbrev pub finishes : ℕ → List Step
 finishes busy = asks busy ++ ends busy
 
@@ -99,6 +102,7 @@ device_calls lists (s ∷ steps) d = (end_by lists s d).state.calls ++ device_ca
 abbrev pub told_by_step : List (List InstructionEntry) → Step → Told → Told
 told_by_step lists s t = told_after (end_by lists s (device_of t)).state t
 
+-- the model of a board after these steps, by the lists of a table
 abbrev pub told_by : List (List InstructionEntry) → List Step → Told → Told
 told_by lists steps t = after_acts (acts_of (device_calls lists steps (device_of t))) t
 

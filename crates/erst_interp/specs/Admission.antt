@@ -128,6 +128,7 @@ abbrev pub BeginsBy : Bool → ℕ → List InstructionEntry → Type 0
 BeginsBy true action entries = HoldsOne (is_input action) entries
 BeginsBy false action entries = IsTrue (list_all (λ e. is_idle e || is_free action e) entries)
 
+-- what comes before the write to Action in a list of this action
 abbrev pub IsBeginning : ℕ → List InstructionEntry → Type 0
 IsBeginning action entries = BeginsBy (takes_input action) action entries
 
@@ -144,6 +145,7 @@ abbrev pub EndsBy : Bool → ℕ → List InstructionEntry → Type 0
 EndsBy true action entries = EndsWithAnswer action entries
 EndsBy false action entries = AreIdle entries
 
+-- what comes after the write to Action in a list of this action
 abbrev pub IsEnding : ℕ → List InstructionEntry → Type 0
 IsEnding action entries = EndsBy (gives_answer action) action entries
 

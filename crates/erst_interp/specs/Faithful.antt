@@ -26,6 +26,7 @@ with_input action input d = if takes_input action then record d { value = input 
 abbrev pub device_after : ℕ → ℕ → Device → Device
 device_after action input d = act action (with_input action input d)
 
+-- the value that the action returns, or the input if it returns nothing
 abbrev pub answer_after : ℕ → ℕ → Device → ℕ
 answer_after action input d = if gives_answer action then (device_after action input d).value else input
 
@@ -46,6 +47,7 @@ pub record ActsOn (action input value : ℕ) (t : Told) (new : Option Told) : Ty
   pub device : device_of after ≡ device_after action input (device_of t)
   pub answer : value ≡ answer_after action input (device_of t)
 
+-- a run that does the action, or fails because a call of the board failed
 abbrev pub DoesRun : ℕ → ℕ → Result ℕ RunRefused → Told → Option Told → Type 0
 DoesRun action input (Ok answer) t new = ActsOn action input answer t new
 DoesRun action input (Err Register) t new = Unit {0}

@@ -63,9 +63,11 @@ in_place e number = wrapped (number * 2 ^ e.offset)
 abbrev pub cleared : InstructionEntry → ℕ → ℕ
 cleared e number = bit_and number (2 ^ 64 - 1 - in_place e e.mask)
 
+-- what is written with preserve: the number in the field, and the register's other bits
 abbrev pub with_field : InstructionEntry → ℕ → ℕ → ℕ
 with_field e x number = bit_or (in_place e (bit_and x e.mask)) (cleared e number)
 
+-- what is written without preserve: the number in the field, and 0 in all other bits
 abbrev pub alone : InstructionEntry → ℕ → ℕ
 alone e x = in_place e (bit_and x e.mask)
 
@@ -110,6 +112,7 @@ is_inside address count = nat_le range_address address && nat_le (address + coun
 
 -- ---- instructions
 
+-- the variables with the index of the entry after this one
 abbrev pub next : Variables → Variables
 next v = record v { index = v.index + 1 }
 
@@ -126,6 +129,7 @@ abbrev pub with_register : Option Reg → MachineState → (Reg → Outcome) →
 with_register None s go_on = stops BadRegister s
 with_register (Some reg) s go_on = go_on reg
 
+-- an instruction that uses the register of its entry
 abbrev pub uses : InstructionEntry → MachineState → (Reg → Outcome) → Outcome
 uses e s go_on = with_register e.register s go_on
 
@@ -150,6 +154,7 @@ moved offset s =
     (s.variables.dst + offset - range_address) s.variables.var2 s))
     else stops BadRange s
 
+-- the instruction that moves bytes, whose offset is in its entry's field
 abbrev pub moves : InstructionEntry → MachineState → Outcome
 moves e s = uses e s (λ reg. moved (field_in e reg s) (after_register_read reg s))
 
@@ -193,6 +198,7 @@ abbrev pub at_entry : (InstructionEntry → End) → MachineState → Option Ins
 at_entry go_on s None = record { answer = Ok s.variables.value; state = s }
 at_entry go_on s (Some e) = go_on e
 
+-- the end of a run after a turn: of the rest of the run, or the turn's error
 abbrev pub after_turn : (MachineState → End) → Outcome → End
 after_turn go_on (goes s) = go_on s
 after_turn go_on (stops why s) = record { answer = Err why; state = s }

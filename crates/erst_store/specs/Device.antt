@@ -117,6 +117,7 @@ length_at range offset = number_at (offset + length_place) 4 range
 abbrev pub id_at : List ℕ → ℕ → ℕ
 id_at range offset = number_at (offset + id_place) 8 range
 
+-- the bytes of the record in the range at the offset
 abbrev pub record_at : List ℕ → ℕ → List ℕ
 record_at range offset = take (length_at range offset) (drop offset range)
 
@@ -149,6 +150,7 @@ abbrev pub range_with_record : List ℕ → ℕ → List ℕ → List ℕ
 range_with_record range offset bytes =
     take offset range ++ bytes ++ replicate (range_length - (offset + length bytes)) 0
 
+-- the device after a read, given the bytes of the record under the identifier, if there is one
 abbrev pub after_read_of : Device → Option (List ℕ) → Device
 after_read_of d None = record d { status = NotFound }
 after_read_of d (Some bytes) =
@@ -168,6 +170,7 @@ after_clear d =
     else (if holds d.id d.store then record d { store = without d.id d.store; cursor = 0; status = Success }
     else record d { status = NotFound })
 
+-- the device after the command begun; without one, there is nothing to carry out
 abbrev pub after_command : Option Command → Device → Device
 after_command (Some Write) d = after_write_command d
 after_command (Some Read) d = after_read d
@@ -194,6 +197,7 @@ abbrev pub after_id : Device → Option ℕ → Device
 after_id d (Some id) = record d { value = id; cursor = d.cursor + 1 }
 after_id d None = record d { value = all_ones; cursor = 0 }
 
+-- the device after GET_RECORD_IDENTIFIER
 abbrev pub after_listing : Device → Device
 after_listing d = after_id d (slice_get (ids d.store) d.cursor)
 
@@ -217,6 +221,7 @@ effects =
     ∷ (get_error_log_address_range_attributes, λ d. record d { value = range_attributes })
     ∷ []
 
+-- the device after the action of this number, if it has a row; other actions do nothing
 abbrev pub effect_in : List (ℕ × (Device → Device)) → ℕ → Device → Device
 effect_in [] action d = d
 effect_in (row ∷ rows) action d = if nat_eq action row.0 then row.1 d else effect_in rows action d

@@ -36,6 +36,7 @@ abbrev pub listing : ℕ → Device → List ℕ
 listing zero d = []
 listing (suc count) d = (act get_record_identifier d).value ∷ listing count (act get_record_identifier d)
 
+-- the device after n GET_RECORD_IDENTIFIER
 abbrev pub after_listings : ℕ → Device → Device
 after_listings zero d = d
 after_listings (suc count) d = after_listings count (act get_record_identifier d)

@@ -28,6 +28,7 @@ is_reserved id = nat_eq id 0 || nat_eq id all_ones
 abbrev pub ids : List Stored → List ℕ
 ids records = map (λ r. r.id) records
 
+-- the bytes of each record, in order
 abbrev pub contents : List Stored → List (List ℕ)
 contents records = map (λ r. r.bytes) records
 

@@ -14,6 +14,7 @@ abbrev pub FailsStore : {Y : Type 0} → StoreRefused → Result Y StoreRefused 
 FailsStore Malformed read = read ≡ Err Malformed
 FailsStore NoMemory read = Unit {0}
 
+-- a function that succeeds returns what reading gives, seen by view
 abbrev pub GivesStore : {X Y : Type 0} → (X → Y) → Result X StoreRefused → Result Y StoreRefused → Type 0
 GivesStore view (Ok x) read = read ≡ Ok (view x)
 GivesStore view (Err e) read = FailsStore e read

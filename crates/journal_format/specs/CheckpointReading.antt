@@ -132,6 +132,7 @@ is_sound a =
     && (are_once same_name a.names
     && (are_once same_label (keys_of a.modules) && are_once nat_eq (keys_of a.pages))))
 
+-- the account of what was read: the front, the names, the rows of modules and of pages, and the floor
 abbrev pub state_with : CheckpointFront → List Name → List (Bytes × Module) → List (ℕ × PageRow) → ℕ → State
 state_with front names modules pages floor = record {
   names = names;

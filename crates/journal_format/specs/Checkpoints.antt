@@ -76,6 +76,7 @@ pub record HasNoBuckets (a : State) : Type 0 where
   pub limit : a.module_limit ≡ FIRST_MODULE_LIMIT
   pub modules : All (λ row. row.1.bucket ≡ None) a.modules
 
+-- a checkpoint of this version can spell this account
 abbrev pub CanTell : Version → State → Type 0
 CanTell One a = HasNoBuckets a
 CanTell Two a = Unit {0}

@@ -16,12 +16,13 @@ use Rattle.ras_exit.specs.StopLine.{stop_line}
 use Rattle.ras_exit.specs.Telling.{OnlyText, PrintMoment, Tells}
 use Rattle.line_filters.specs.Filter.{Filter}
 
--- the texts before the first refused line, and why that line is refused
+-- the texts before the first refused line
 abbrev pub texts_in : List (Result (List ℕ) LineRefused) → List (List ℕ)
 texts_in [] = []
 texts_in (Ok text ∷ answers) = text ∷ texts_in answers
 texts_in (Err why ∷ answers) = []
 
+-- the first refusal among the answers
 abbrev pub refusal_in : List (Result (List ℕ) LineRefused) → Option LineRefused
 refusal_in [] = None
 refusal_in (Ok text ∷ answers) = refusal_in answers
@@ -59,6 +60,7 @@ output_among count filter lines =
     let taken = take (length texts) lines.whole in
     flat_map (λ text. text) texts ++ closing_text filter taken (exit_among count filter lines)
 
+-- all that a filter prints for a script
 abbrev pub filter_output : Filter → List ℕ → List ℕ
 filter_output filter script = output_among 0 filter (script_lines script)
 

@@ -72,12 +72,13 @@ order_in history r = order_behind r.page (page_history history r.page) r
 abbrev pub orders_of : List PageReport → ℕ → List Order
 orders_of history page = filter_map (λ p. order_behind page p.0 p.1) (places (page_history history page))
 
--- the state that an order asks for, and the highest one that orders ask for
+-- the state that an order asks for
 abbrev pub state_asked : Order → PageState
 state_asked (Soft page) = state.Soft
 state_asked (Hard page) = state.Hard
 state_asked (Module place) = Kept
 
+-- the highest state that these orders ask for
 abbrev pub state_under : List Order → PageState
 state_under [] = Kept
 state_under (order ∷ orders) = higher (state_asked order) (state_under orders)

@@ -88,10 +88,11 @@ account_of history = record {
 abbrev pub weight_in : List (Bytes × Module) → ℕ
 weight_in modules = sum_by (λ row. sum row.1.sums) modules
 
--- an account is the account of a history, and two histories have the same account
+-- an account is the account of a history
 abbrev pub IsAccountOf : History → State → Type 0
 IsAccountOf history a = a ≡ account_of history
 
+-- two histories have the same account
 abbrev pub AreSame : History → History → Type 0
 AreSame one other = account_of one ≡ account_of other
 
@@ -108,6 +109,7 @@ IsKeptAfter history name =
 abbrev pub is_seen : History → Bytes → Bool
 is_seen history label = list_any (same_label label) (map label_of (sightings history))
 
+-- what is counted of the module with this label
 abbrev pub module_of : History → Bytes → Module
 module_of history label =
     module_by_items (sightings history) (sightings_since_mark history) label

@@ -20,6 +20,7 @@ pub record AreWithin (numbers : Numbers) : Type 0 where
   pub entries : numbers.entries ≤ MOST_ENTRIES
   pub total : numbers.total ≤ MOST_TOTAL
 
+-- whether one of the numbers is above its bound
 abbrev pub are_past : Numbers → Bool
 are_past numbers =
     nat_lt MOST_NAMES numbers.names || (nat_lt MOST_ENTRIES numbers.entries || nat_lt MOST_TOTAL numbers.total)
@@ -28,10 +29,11 @@ are_past numbers =
 abbrev pub numbers_of : State → Numbers
 numbers_of a = record { names = length a.names; entries = a.entries; total = a.total }
 
--- an account within its numbers, and an account that stays within them after each entry of a list
+-- an account within its numbers
 abbrev pub IsWithin : State → Type 0
 IsWithin a = AreWithin (numbers_of a)
 
+-- the account is within its numbers after each entry of the list
 abbrev pub StaysWithin : State → List Entry → Type 0
 StaysWithin a [] = Unit {0}
 StaysWithin a (entry ∷ entries) = IsWithin (account_after a entry) × StaysWithin (account_after a entry) entries

@@ -64,6 +64,7 @@ pub record CanTake (account : View) (news : News) : Type 0 where
   pub none : news.orders.orders ≡ []
   pub room : sum_by most_orders news.entries.items ≤ news.orders.room
 
+-- the account can take the event's new entries, and its text has room for the lines of their orders
 pub record IsReady (account : View) (event : Prepared) : Type 0 where
   pub news : IfSome event.news (CanTake account)
   pub room : IfSome event.news (λ news. HasOrderRoom news.orders.room event.text)

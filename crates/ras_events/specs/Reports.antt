@@ -82,5 +82,6 @@ pieces_at store place = made_in (settings_told place.0).topology (laid store pla
 abbrev pub entries_at : List Stored → Place → List Entry
 entries_at store place = entries_in (pieces_at store place)
 
+-- the entries that lines report, in order, from this record store on
 abbrev pub reports : List Stored → List NumberedLine → List Entry
 reports store reads = flat_map (entries_at store) (places reads)

@@ -40,6 +40,7 @@ put_by (Put id bytes) = Some (record { id = id; bytes = bytes })
 put_by (Panic id bank) = Some (record { id = id; bytes = panic_bytes id bank })
 put_by line = None
 
+-- the store after the put of a line, if it puts a record
 abbrev pub with_put_by : Line → List Stored → List Stored
 with_put_by line store =
     option_map_or (λ (r : Stored). store_with r.id r.bytes store) (put_by line) store
@@ -54,6 +55,7 @@ abbrev pub store_after : List Stored → NumberedLine → List Stored
 store_after store (number, Ok line) = store_by store line
 store_after store (number, Err why) = store
 
+-- the record store after these lines
 abbrev pub laid : List Stored → List NumberedLine → List Stored
 laid store lines = fold store_after store lines
 
@@ -64,6 +66,7 @@ found_after id found (number, Ok line) =
     option_map_or (λ (r : Stored). if nat_eq r.id id then Some r.bytes else found) (put_by line) found
 found_after id found (number, Err why) = found
 
+-- the bytes that were last stored under an identifier, by these lines or in the store before them
 abbrev pub last_laid : List Stored → List NumberedLine → ℕ → Option (List ℕ)
 last_laid store lines id = fold (found_after id) (bytes_under id store) lines
 

@@ -13,6 +13,7 @@ print_acts (byte ∷ bytes) = prints (byte ∷ bytes) ∷ []
 
 -- ---- a part that is refused, or runs out of memory, before its first act
 
+-- how a part ends that wasn't done
 abbrev pub end_of : CallEnding → Ended
 end_of (faulted kind) = broke kind
 end_of ending = gave_up

@@ -15,6 +15,7 @@ pub data CallEnding : Type 0 where
   source_failed : CallEnding
   starved : CallEnding
 
+-- the ending of a call, by its exit
 abbrev pub ending_of : Exit → CallEnding
 ending_of SourceFault = source_failed
 ending_of DiskFault = faulted disk_call
@@ -38,14 +39,14 @@ IsAnswer exit = is_answer exit ≡ true
 abbrev pub IsCut : Exit → Type 0
 IsCut exit = is_answer exit ≡ false
 
--- An exit that ends a run among its lines, and an exit that ends it at a line whose source isn't read. A status of the
--- device is an exit only if it isn't 0.
+-- An exit that ends a run among its lines. A status of the device is an exit only if it isn't 0.
 abbrev pub IsLineExit : Exit → Type 0
 IsLineExit Done = ⊥
 IsLineExit Usage = ⊥
 IsLineExit (ErstStatus code) = code ≢ 0
 IsLineExit exit = ⊤
 
+-- such an exit of a part of a run that doesn't read the source
 abbrev pub IsStop : Exit → Type 0
 IsStop Done = ⊥
 IsStop Usage = ⊥

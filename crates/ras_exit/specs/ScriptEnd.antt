@@ -12,5 +12,6 @@ ending_exit count script_ended = Done
 ending_exit count line_too_long = BadLine (count + 1) LongLine
 ending_exit count script_too_long = TooLong
 
+-- how a call ends that takes all lines of this script
 abbrev pub script_exit : List ℕ → Exit
 script_exit script = ending_exit (length (script_lines script).whole) (script_lines script).ending

@@ -46,6 +46,7 @@ abbrev pub append_refused_end : AppendRefused → Ended
 append_refused_end Full = gave_up
 append_refused_end Disk = broke disk_call
 
+-- how an append ends
 abbrev pub append_end : Result (Unit {0}) AppendRefused → Ended
 append_end result = ended_by append_refused_end result
 
@@ -60,12 +61,13 @@ abbrev pub IsFullBy : Result (Unit {0}) AppendRefused → ℕ → Type 0
 IsFullBy (Err Full) count = LONGEST_FILE < count
 IsFullBy result count = count ≤ LONGEST_FILE
 
--- whether the journal has to be switched before an append: its chain has 256 or more links, its file would be too long,
--- or the file is of version 1
+-- whether a file is of version 1
 abbrev pub is_first_version : Version → Bool
 is_first_version One = true
 is_first_version Two = false
 
+-- whether the journal has to be switched before this link is appended: its chain has 256 or more links, its file would
+-- be too long, or the file is of version 1
 abbrev pub needs_switch : Standing → List ℕ → Bool
 needs_switch standing link =
     nat_le MOST_LINKS standing.links || nat_lt LONGEST_FILE (length_with standing link)

@@ -17,6 +17,7 @@ unfoldable pub part : ℕ → ℕ → List ℕ → Option (List ℕ)
 part place count file =
     if nat_le (place + count) (length file) then Some (take count (drop place file)) else None
 
+-- the value, or this error if there is none
 abbrev pub some_or : {A E : Type 0} → E → Option A → Result A E
 some_or why None = Err why
 some_or why (Some x) = Ok x
@@ -43,9 +44,11 @@ number_of width bytes = Some (number_at 0 width bytes)
 abbrev pub is_taken : Option ℕ → ℕ → Bool
 is_taken taken generation = option_map_or (λ other. nat_eq other generation) taken false
 
+-- whether a number is a generation that the other file doesn't have
 abbrev pub is_generation : Option ℕ → ℕ → Bool
 is_generation taken n = nat_le 1 n && nat_le n LAST_GENERATION && not (is_taken taken n)
 
+-- the generation in these bytes, if it is one that the other file doesn't have
 abbrev pub generation_of : Option ℕ → List ℕ → Option ℕ
 generation_of taken bytes =
     if is_generation taken (number_at 0 8 bytes) then Some (number_at 0 8 bytes) else None

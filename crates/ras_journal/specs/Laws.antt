@@ -23,6 +23,7 @@ magic Two = codes "RASJRNL2"
 abbrev pub IsRead : Option ℕ → List ℕ → FileFront → Type 0
 IsRead taken file front = front_of taken file ≡ Ok (Some front)
 
+-- a file is damaged at this offset, given the generation that the other file has, if it has one
 abbrev pub IsDamaged : Option ℕ → List ℕ → ℕ → Type 0
 IsDamaged taken file place = front_of taken file ≡ Err place
 
@@ -59,6 +60,7 @@ pub record CanFollow (front : FileFront) (entries : List Entry) : Type 0 where
   pub link : CanLink front.version entries
   pub within : StaysWithin front.account entries
 
+-- a front with a link of these entries after it
 abbrev pub followed : FileFront → List Entry → FileFront
 followed front entries = with_link front (length (payload_bytes entries)) entries
 

@@ -16,6 +16,7 @@ pub data Refusal : Type 0 where
   too_long : Refusal
   damaged : FileNo → ℕ → Refusal
 
+-- damage at an offset, as damage of this file
 abbrev pub in_file : {A : Type 0} → FileNo → Result A ℕ → Result A Refusal
 in_file file (Ok x) = Ok x
 in_file file (Err place) = Err (damaged file place)
@@ -89,6 +90,7 @@ abbrev pub standing_in : List ℕ → List ℕ → Result (Option JournalFile) R
 standing_in file0 file1 (Ok journal) = option_map (standing_of file0 file1) journal
 standing_in file0 file1 (Err why) = None
 
+-- the position of the journal of these two files, if they have one
 unfoldable pub position_of : List ℕ → List ℕ → Option Standing
 position_of file0 file1 = standing_in file0 file1 (journal_of file0 file1)
 

@@ -46,6 +46,7 @@ pub record Progress : Type 0 where
   pub counts : Counts
   pub taken : ℕ
 
+-- what a filter prints for the lines to come, by how far it is
 abbrev pub makes_of : Progress → Filter
 makes_of log = record {
   answers = answers_along log.boot log.cap log.stage;

@@ -12,6 +12,7 @@ use Rattle.ras_klog.specs.declared.state.Stage.TheVariants.{Idle, Begun, Timed}
 abbrev pub at_start : Stage
 at_start = Idle
 
+-- how far the report has come after a line
 abbrev pub stage_after : Stage → KlogLine → Stage
 stage_after stage (Start cpu mcg bank status) = Begun (record { cpu = cpu; mcg = mcg; bank = bank; status = status })
 stage_after (Begun head) (Tsc tsc addr misc) = Timed head tsc addr misc
@@ -32,6 +33,7 @@ out_at_end Idle = Nothing
 out_at_end (Begun head) = Partial head.cpu head.bank
 out_at_end (Timed head tsc addr misc) = Partial head.cpu head.bank
 
+-- what is printed at a line
 abbrev pub out_at : ℕ → ℕ → Stage → KlogLine → KlogOut
 out_at boot cap stage (Start cpu mcg bank status) = out_at_end stage
 out_at boot cap (Timed head tsc addr misc) (Processor seconds) = Whole (bank_of_group boot cap head tsc addr misc seconds)

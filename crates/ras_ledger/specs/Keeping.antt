@@ -21,11 +21,12 @@ use Rattle.ras_ledger.specs.declared.refused.KeepRefused.TheVariants.{Full, Disk
 abbrev pub Stands : Standing → State → Option Told → Clock → Type 0
 Stands standing account told clock = IfSome told (λ t. Before standing account t told clock)
 
--- the journal's position once there is room for a link in its file, and once the link is appended
+-- the journal's position once there is room for a link in its file
 abbrev pub standing_roomy : Standing → State → List ℕ → Standing
 standing_roomy standing account link =
     if needs_switch standing link then switched standing account else standing
 
+-- the journal's position once the link is appended
 abbrev pub standing_kept : Standing → State → List ℕ → Standing
 standing_kept standing account link = standing_with (standing_roomy standing account link) link
 
@@ -33,10 +34,11 @@ standing_kept standing account link = standing_with (standing_roomy standing acc
 abbrev pub lacks_room : Standing → State → List ℕ → Bool
 lacks_room standing account link = needs_switch standing link && has_no_room standing account link
 
--- The acts that keep a link: the acts of the switch, if one is due, and then the acts of the append.
+-- the acts of the switch that makes room for a link, if one is due
 abbrev pub room_acts : Standing → State → List ℕ → List Act
 room_acts standing account link = if needs_switch standing link then switch_acts standing account else []
 
+-- The acts that keep a link: the acts of the switch, if one is due, and then the acts of the append.
 abbrev pub keeping_acts : Standing → State → List ℕ → List Act
 keeping_acts standing account link =
     room_acts standing account link ++ append_acts (standing_roomy standing account link) link
@@ -51,6 +53,7 @@ keep_refused_end Full = gave_up
 keep_refused_end Disk = broke disk_call
 keep_refused_end NoMemory = gave_up
 
+-- how keeping a link ends
 abbrev pub keep_end : Result (Unit {0}) KeepRefused → Ended
 keep_end result = ended_by keep_refused_end result
 

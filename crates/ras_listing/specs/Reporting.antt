@@ -33,10 +33,11 @@ output_by Metrics (Err why) = codes "# " ++ stop_line (exit_by (Err why))
 output_by listing (Ok account) = listing_lines listing account ++ end_line account
 output_by listing (Err why) = stop_line (exit_by (Err why))
 
--- the exit and the text of a report over the files of a board
+-- the exit of a report over the files of a board
 abbrev pub report_exit : Left → Exit
 report_exit here = exit_by (recovered here.file0 here.file1)
 
+-- the text of a report over the files of a board
 abbrev pub report_output : Listing → Left → List ℕ
 report_output listing here = output_by listing (recovered here.file0 here.file1)
 

@@ -10,10 +10,11 @@ use Rattle.ras_script.specs.declared.line.Line.{Line}
 use Rattle.ras_script.specs.declared.line.Line.TheVariants.{Row, Report}
 use Rattle.ras_script.specs.declared.line.ErrorReport.TheVariants.{Bank}
 
--- the next number of the generator, of 64 bits, and its number at an index, from 1 at index 0
+-- the next number of the generator, of 64 bits
 abbrev pub next_number : ℕ → ℕ
 next_number x = (x * 6364136223846793005 + 1442695040888963407) % 2 ^ 64
 
+-- the number of the generator at this index, which is 1 at index 0
 unfoldable pub generated : ℕ → ℕ
 generated zero = 1
 generated (suc i) = next_number (generated i)

@@ -29,6 +29,7 @@ abbrev pub after_answer : Answer → Answer → Answer
 after_answer (Ok done) later = later
 after_answer (Err why) later = Err why
 
+-- the result of the operations on these identifiers, one after another
 abbrev pub each_answer : Operation → List ℕ → Told → Answer
 each_answer operation [] t = Ok tt
 each_answer operation (id ∷ ids) t =

@@ -17,6 +17,7 @@ use Rattle.ras_records.specs.Each.{after_calls, each_calls}
 
 -- ---- a look: the store's records are listed, and then each is read
 
+-- the calls of the device by which its store's records are listed and read
 abbrev pub look_calls : List (List InstructionEntry) → Told → List DeviceCall
 look_calls lists t =
     list_calls lists (device_of t)
