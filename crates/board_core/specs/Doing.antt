@@ -167,7 +167,7 @@ abbrev pub put_acts : ℕ → List ℕ → Result (Unit {0}) BoardPut → List A
 put_acts id bytes (Err (Refused cause)) = []
 put_acts id bytes result = device (put id bytes) ∷ []
 
--- one count of faults rose by one, that of this kind, and the others are as they were
+-- the count of this kind of fault rose by one, and the other counts are unchanged
 pub record Raises (kind : Kind) (old new : Faults) : Type 0 where
   pub later : count_of kind old ≤ count_of kind new
   pub own : Rose (count_of kind old) (count_of kind new)

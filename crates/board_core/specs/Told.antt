@@ -158,7 +158,7 @@ pub record FailsAccess (access : Access) (step : Device → Device) (old new : T
   pub acted : MayAct step old told
   pub listed : MayListAccess access told new
 
--- ---- what holds if a board tells
+-- ---- what holds if a board is modelled
 
 -- if a board is modelled, its model changes by this step
 abbrev pub Steps : (Told → Told) → Option Told → Option Told → Type 0

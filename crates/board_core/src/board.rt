@@ -27,7 +27,7 @@ pub enum FileNo {
 pub enum Reg {
     /// A number that is written here is an action, which the device then does.
     Action,
-    /// What an action takes and answers.
+    /// The number that an action takes or returns.
     Value,
 }
 

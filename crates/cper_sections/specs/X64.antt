@@ -40,7 +40,7 @@ parts_of context = record { kind = context.kind; msr = context.msr; mapped = con
 abbrev pub bytes_taken : ContextParts → ℕ
 bytes_taken context = CONTEXT_HEADER_LENGTH + length context.array
 
--- the bytes of the context at the front: a header and an array, whose size stands at 2
+-- the bytes of the context at the front: a header, with the size of the array at byte 2, and the array
 abbrev pub context_length : List ℕ → ℕ
 context_length bytes = CONTEXT_HEADER_LENGTH + number_at 2 2 bytes
 

@@ -12,7 +12,7 @@ Bytes = List ℕ
 abbrev pub same_label : Bytes → Bytes → Bool
 same_label one other = pointwise nat_eq one other
 
--- a byte that may stand in a label: a printable one of ASCII, and no space
+-- a byte that may be in a label: a printable byte of ASCII other than the space
 abbrev pub is_label_byte : ℕ → Bool
 is_label_byte byte = nat_le 0x21 byte && nat_le byte 0x7e
 

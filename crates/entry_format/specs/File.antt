@@ -20,7 +20,7 @@ pub record IsEntryOf (version : Version) (entry : Entry) : Type 0 where
   pub valid : IsValidEntry entry
   pub held : CanHold version entry
 
--- the bytes are the spelling of these entries, which are those of a version
+-- the bytes are the spelling of these entries, which a file of this version can have
 pub record AreEntriesOf (version : Version) (entries : List Entry) (bytes : List ℕ) : Type 0 where
   pub each : All (IsEntryOf version) entries
   pub spelled : bytes ≡ entries_bytes entries

@@ -107,7 +107,7 @@ unfoldable pub byte_at : Reader ℕ
 byte_at [] = Err Bad
 byte_at (byte ∷ rest) = Ok (byte, rest)
 
--- what stands after a kind of one byte
+-- what follows a kind of one byte, by the kind
 abbrev pub by_kind : {A : Type 0} → (ℕ → Reader A) → Reader A
 by_kind read bytes = do
   kind ← byte_at bytes

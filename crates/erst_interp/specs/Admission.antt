@@ -19,7 +19,7 @@ use Rattle.erst_interp.specs.Table.{list_of}
 
 -- ---- the actions
 
--- the actions that take the input, and those that answer
+-- the actions that take the input, and the actions that return something
 abbrev pub takes_input : ℕ → Bool
 takes_input action = nat_eq action set_record_offset || nat_eq action set_record_identifier
 

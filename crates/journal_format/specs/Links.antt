@@ -16,7 +16,7 @@ payload_bytes entries = u32_bytes (length entries) ++ entries_bytes entries
 unfoldable pub link_bytes : List Entry → List ℕ
 link_bytes entries = u32_bytes (length (payload_bytes entries)) ++ payload_bytes entries
 
--- the bytes are the payload of these entries, which are those of a version
+-- the bytes are the payload of these entries, which a link of this version can have
 pub record IsPayload (version : Version) (entries : List Entry) (bytes : List ℕ) : Type 0 where
   pub some : 1 ≤ length entries
   pub few : length entries ≤ MOST_LINK_ENTRIES

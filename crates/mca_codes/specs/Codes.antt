@@ -19,7 +19,7 @@ pub data CodeRow : Type 0 where
   plain : ℕ → Code → CodeRow
   -- the numbers from low to high
   numbers : (low high : ℕ) → Code → CodeRow
-  -- a pattern with letters: the mask has the bits that no letter takes, the value what stands there
+  -- a pattern with letters: the mask has the bits that no letter takes, and the value says what they are
   pattern : (mask value : ℕ) → (ℕ → Code) → CodeRow
 
 -- whether a code fits a row

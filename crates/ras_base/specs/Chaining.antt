@@ -1,4 +1,4 @@
--- One reading after another; the first error is the answer.
+-- One reading after another; the first error is returned.
 use Rattle.std.specs.Prelude.{Result, Ok, Err}
 
 infixl 10 ◌>>=◌

@@ -1,16 +1,15 @@
--- What one journal file holds. Its fields are read in order, each at its place in the whole file,
--- and the file is damaged at the place of the first one that can't be read: what was read before
--- doesn't count then.
+-- What one journal file contains. Its fields are read in order, each at its offset in the whole file. If a field can't
+-- be read, the file is damaged at that field's offset, and what was read before doesn't count.
 --
---   place 0        gate (1 byte)                          whether the file stands
---         1        magic (8)                              it is one of the two
+--   offset 0       gate (1 byte)                          whether the file is valid
+--         1        magic (8)                              it is the magic of a version
 --         9        generation (8)                         from 1 to 2^63 - 1, and not file 0's
 --        17        number of the checkpoint's bytes (8)
 --        25        checkpoint                             it is a checkpoint, all of it
 --   and then, until a gate is closed:
 --         p        gate (1)                               open or closed
 --         p + 1    number of the payload's bytes (4)      only after an open gate
---         p + 5    payload                                it is one, and the account can take it
+--         p + 5    payload                                it is a payload, and the account can take it
 use Rattle.std.specs.Prelude.{◌≡◌, ℕ, zero, suc, ◌+◌, ◌≤◌, Bool, nat_lt, nat_eq, ◌&&◌, if◌then◌else◌, List, length, slice_index, Option, None, Some, Result, Ok, Err}
 use Rattle.ras_base.specs.Chaining.{◌>>=◌}
 use Rattle.ras_account.specs.Account.{State}

@@ -50,7 +50,7 @@ journal_of file0 file1 =
       one ← in_file One (front_of (generation_in zero) file1)
       Ok (greater zero one))
 
--- the account of a journal, the empty one if there is none
+-- the account of a journal, or the empty account if there is no journal
 abbrev pub account_of_journal : Option JournalFile → State
 account_of_journal None = account_of empty
 account_of_journal (Some journal) = account_by journal.front.version journal.front.account

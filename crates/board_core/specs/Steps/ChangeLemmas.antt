@@ -1,4 +1,4 @@
--- That what a board in memory tells, and its clock, keep the laws of a board.
+-- The model and the clock of a board in memory keep the laws of a board.
 use Rattle.std.specs.Prelude.{◌≡◌, ℕ, ◌≤◌, List, [], ◌∷◌, ◌++◌, length, Some, refl}
 use Rattle.std.proofs.Common.{sym, ◌∙◌, ap, subst, inl, inr, arith}
 use Rattle.erst_store.specs.Store.{Stored}

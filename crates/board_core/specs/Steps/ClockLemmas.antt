@@ -10,7 +10,7 @@ use Rattle.board_core.specs.Clock.{Clock, LeftNow, After, Passes, Leads, IsSynce
 use Rattle.board_core.specs.Stop.{Left, file_in, with_file_in, Same, InFile, InStore, InOut, Appends}
 use Rattle.board_core.specs.Told.{Told, file_of, with_call, after_print, Steps}
 
--- a board that isn't modelled tells not this
+-- a board that isn't modelled has no model
 pub not_told : (t : Told) → None ≡ Some t → ⊥
 not_told t e = cc
 

@@ -17,7 +17,7 @@ use Rattle.erst_driver.specs.declared.step.Step.{Step}
 use Rattle.erst_driver.specs.Operations.{after_step, after_steps, actions_of, write_steps, checks, listings, ids_steps, told_by, device_calls, put_in_range, fetch_calls, write_calls}
 use Rattle.erst_driver.specs.Answers.{answer_of}
 
--- if a board tells a device
+-- if a board's model has a device
 abbrev pub Over : (Told → Type 0) → Option Told → Type 0
 Over P None = Unit {0}
 Over P (Some t) = IsDevice (device_of t) → P t
@@ -46,7 +46,7 @@ pub record Begins (calls : List DeviceCall) (old : Told) (new : Option Told) : T
   pub some : HasCall done
   pub told : new ≡ Some (after_acts (acts_of done) old)
 
--- A board that told this did these calls. If a call failed, it did them up to this call, and if
+-- A board with this model did these calls. If a call failed, it did them up to this call, and if
 -- memory ran out, some of them.
 abbrev pub Leaves : {T : Type 0} → Result T DriverRefused → Told → Option Told → List DeviceCall → Type 0
 Leaves (Err Register) old new calls = IsCutShort calls old new

@@ -116,7 +116,7 @@ Gathers whole script before old exit filter waiting reader left now new =
     Waits whole script before old exit filter waiting reader left now new
     ⊎ ((exit ≡ PrintFault) × LinesEnd whole script before old exit filter reader left now new)
 
--- the same if source and board tell at the end
+-- the same if source and board are modelled at the end
 abbrev pub GathersBoth : Filter → List ℕ → Told → Clock → Exit → Filter → List ℕ → Reader → Option (List ℕ) → Option Told → Clock → Type 0
 GathersBoth whole script before old exit filter waiting reader left told new =
     IsSomeAnd left (λ rest. IsSomeAnd told (λ now. Gathers whole script before old exit filter waiting reader rest now new))
