@@ -125,8 +125,9 @@ fn read_payload(alloc: Global, version: Version, bytes: &[u8]) -> Result<Vec<Ent
 /// read once, and none after the link.
 ///
 /// `Cut`: if and only if the bytes end before the link does, within the length of its payload or
-/// within that many bytes after it. `Bad`: if and only if they don't and the payload isn't that of
-/// 1 to 2,000 valid entries of the version. `NoMemory`: only if memory runs out.
+/// within that many bytes after it. `Bad`: if they don't and the payload isn't that of 1 to 2,000
+/// valid entries of the version, unless memory runs out; never otherwise. `NoMemory`: only if
+/// memory runs out.
 pub fn read_link(
     alloc: Global,
     version: Version,

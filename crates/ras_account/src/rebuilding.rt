@@ -117,8 +117,8 @@ impl Rebuilt {
     /// Appends a name. Requires that its boot isn't retired. After an error the account is
     /// unchanged.
     ///
-    /// `Repeated`: if and only if the name is there already. `Full`: if and only if it isn't and
-    /// there are `MOST_NAMES` names.
+    /// `Repeated`: if and only if the name is there already. `Full`: if it isn't and there are
+    /// `MOST_NAMES` names, unless memory runs out; never otherwise.
     pub fn push_name(&mut self, name: Name) -> Result<(), PushRefused>
         requires { IsFalse (is_retired self.old.floor name) }
         ensures ok { OnOk result (self.new ≡ with_name self.old name) }
@@ -143,8 +143,8 @@ impl Rebuilt {
     /// at most 999,999 errors, no bucket in a row without a label, and nothing to replace in a row
     /// without a bucket. After an error the account is unchanged.
     ///
-    /// `Repeated`: if and only if the label has a row. `Full`: if and only if it hasn't and the
-    /// total weight would exceed `MOST_TOTAL`.
+    /// `Repeated`: if and only if the label has a row. `Full`: if it hasn't and the total weight
+    /// would exceed `MOST_TOTAL`, unless memory runs out; never otherwise.
     pub fn push_module(&mut self, row: ModuleRow) -> Result<(), PushRefused>
         requires count { IfSome row.bucket (λ bucket. bucket.count ≤ most_count) }
         requires replace { row.bucket ≡ None → IsFalse row.replace }

@@ -67,12 +67,12 @@ impl From<NoMemory> for PrepareRefused {
 
 /// Allocates everything that an event needs, and returns it: memory for its entries in the account,
 /// the link of its new entries, and its texts, which end with the done line of its number. The
-/// account doesn't change.
+/// account doesn't change. Requires pieces that can be one link.
 ///
 /// # Errors
 ///
-/// `Full`: if and only if the account has no room for all new entries. `NoMemory`: only if memory
-/// runs out.
+/// `Full`: if the account has no room for all new entries, unless memory runs out; never otherwise.
+/// `NoMemory`: only if memory runs out.
 pub fn prepare(
     alloc: Global,
     number: u64,
