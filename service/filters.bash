@@ -6,23 +6,23 @@
 here=${here:-$(dirname -- "$(readlink -f -- "${BASH_SOURCE[0]}")")}
 program=${RASD:-/usr/libexec/rasd/rasd}
 traces=${RASD_TRACE:-/var/lib/rasd-trace}
-# A filter takes at most 64 MB, so a longer log or trace goes to several, one after the other.
+# A filter takes at most 64 MB, so a longer log or trace is cut into pieces for several, one after the other.
 piece=${RASD_PIECE:-50000000}
-# A command that ends with the process that begins it, whose number it gets as TIED_TO.
+# Makes a command end with the process TIED_TO, which starts it.
 tied=("$here/tied")
-# Each line for rasd is passed on whole, or not at all.
+# Passes on each line whole, or not at all.
 whole=("$here/whole-lines" --most 4096)
 
-# Comments, of what a filter left out, do nothing in a run, so they are told.
+# A run ignores comments. They say what a filter left out, so standard error gets them too.
 pass_on=("${whole[@]}" --tell '^#' "feed: left out")
 
-# Sets make_lines to the command that makes lines of this boot's log. A piece ends before a report.
+# Sets make_lines to the command that converts a boot's log: BOOT MCG_CAP. A piece ends before a report.
 log_filter() {
     make_lines=("${whole[@]}" --only 'mce: \[Hardware Error\]: ' --piece "$piece" --at 'CPU [0-9]+: Machine Check'
         -- "${tied[@]}" "$program" lines klog "$1" "$2")
 }
 
-# The same of this boot's trace. An error that somebody injected has no MCG_CAP, so the machine's own counts.
+# Sets make_lines to the command that converts a boot's trace: BOOT MCG_CAP. An injected error has no MCG_CAP, and gets this.
 trace_filter() {
     make_lines=("${whole[@]}" --tell '^CPU:[0-9]+ \[LOST' "feed: the trace has a gap" --only 'mce_record: '
         --replace 'MCGc/s: 0/' "MCGc/s: $2/" --piece "$piece" -- "${tied[@]}" "$program" lines trace "$1")

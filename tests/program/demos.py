@@ -1,10 +1,8 @@
-"""Checks of what the filters in service/ make of the program's lines; tests/program/examples runs them.
+"""Checks of the filters in service/ and of monitor/write-metrics; tests/program/examples runs them.
 
-service/json is tried on every line that tests/program/rows.txt and the cases say is printed, what
-monitor/write-metrics writes of `report metrics` by a parser that refuses what the rules of Prometheus' text
-format (version 0.0.4) don't allow,
-service/ghes-lines on the forms in which a kernel's log is printed, and service/put-lines on records that are
-whole or cut.
+service/json gets every line that tests/program/rows.txt and the cases say is printed, service/ghes-lines the forms in
+which a kernel's log is printed, service/put-lines whole and truncated records. A parser of Prometheus' text format (version
+0.0.4), which rejects everything that the format doesn't allow, reads what monitor/write-metrics writes.
 """
 import datetime
 import json

@@ -1,4 +1,4 @@
-"""Random histories that mean no good: lines of every kind, half of the scripts changed, kills, and damage between runs."""
+"""Random hostile histories: lines of every kind, half of the scripts changed, kills, and damage between runs."""
 import dataclasses
 import re
 import struct
