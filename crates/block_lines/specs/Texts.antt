@@ -69,6 +69,12 @@ report_text r report = block_text r report ++ cut_text report
 abbrev pub end_text : Reporting → List ℕ
 end_text r = option_map_or (report_text r) r.work []
 
+-- The text after all lines: the log may hold less of the report in work than the kernel printed of it, so
+-- no block is made of it.
+abbrev pub rest_text : Reporting → List ℕ
+rest_text r =
+    option_map_or (λ (report : OpenReport). cut_report_line report.source report.begun ++ 10 ∷ []) r.work []
+
 -- the text of the line of this number: of the report that it ends, and of the line itself
 abbrev pub blocks_text_at : Reporting → ℕ → ReportLogLine → List ℕ
 blocks_text_at r number line =
