@@ -23,7 +23,7 @@ use Rattle.ras_daemon.specs.RunOutput.{run_output}
 use Rattle.ras_daemon.specs.RunStatus.{start_of}
 use Rattle.ras_daemon.specs.StoreDuring.{store_at_end}
 use Rattle.ras_daemon.specs.declared.word.Task.{Task}
-use Rattle.ras_daemon.specs.declared.word.Task.TheVariants.{Run, Report, Load, Pcie, Klog, TraceLines, KlogLines, Help, Version}
+use Rattle.ras_daemon.specs.declared.word.Task.TheVariants.{Run, Report, Load, Pcie, Klog, TraceLines, KlogLines, GhesLines, Help, Version}
 use Rattle.ras_exit.specs.Endings.{CallEnding, OnAnswer, UnlessFaulted, answered, starved, faulted, source_failed, ending_of}
 use Rattle.ras_exit.specs.StopLine.{stop_line}
 use Rattle.ras_exit.specs.Telling.{OnlyText, PrintsPart}
@@ -51,6 +51,7 @@ over_folder P (Some Pcie) left past gives = tt
 over_folder P (Some (Klog boot cap)) left past gives = tt
 over_folder P (Some (TraceLines boot)) left past gives = tt
 over_folder P (Some (KlogLines boot cap)) left past gives = tt
+over_folder P (Some (GhesLines boot began)) left past gives = tt
 over_folder P (Some Help) left past gives = tt
 over_folder P (Some Version) left past gives = tt
 over_folder P None left past gives = tt
@@ -66,6 +67,7 @@ over_damaged P (Some Pcie) past gives = tt
 over_damaged P (Some (Klog boot cap)) past gives = tt
 over_damaged P (Some (TraceLines boot)) past gives = tt
 over_damaged P (Some (KlogLines boot cap)) past gives = tt
+over_damaged P (Some (GhesLines boot began)) past gives = tt
 over_damaged P (Some Help) past gives = tt
 over_damaged P (Some Version) past gives = tt
 over_damaged P None past gives = tt
@@ -279,6 +281,7 @@ over_report P (Some Pcie) past gives = tt
 over_report P (Some (Klog boot cap)) past gives = tt
 over_report P (Some (TraceLines boot)) past gives = tt
 over_report P (Some (KlogLines boot cap)) past gives = tt
+over_report P (Some (GhesLines boot began)) past gives = tt
 over_report P (Some Help) past gives = tt
 over_report P (Some Version) past gives = tt
 over_report P None past gives = tt
