@@ -13,6 +13,9 @@ tied=("$here/tied")
 # Each line for rasd is passed on whole, or not at all.
 whole=("$here/whole-lines" --most 4096)
 
+# What ends the last report of a log that is complete: a line later than any.
+log_end='[999999999999.000000] the end'
+
 # Comments, of what a filter left out, do nothing in a run, so they are told.
 pass_on=("${whole[@]}" --tell '^#' "feed: left out")
 
@@ -20,6 +23,14 @@ pass_on=("${whole[@]}" --tell '^#' "feed: left out")
 log_filter() {
     make_lines=("${whole[@]}" --only 'mce: \[Hardware Error\]: ' --piece "$piece" --at 'CPU [0-9]+: Machine Check'
         -- "${tied[@]}" "$program" lines klog "$1" "$2")
+}
+
+# The same of what the firmware reported in a boot that began at this second. A later line has to show that a report has
+# ended, so some after each are passed too; a piece ends before a report.
+report_filter() {
+    make_lines=("${whole[@]}" --only '\}\[Hardware Error\]: |^\[9{12}\.' --more 1000 --piece "$piece" --last "$log_end"
+        --at '^(<\d>)?\[[ .\d]+\] (\S+ kernel: )?\{\d+\}\[Hardware Error\]: Hardware error from'
+        -- "${tied[@]}" "$program" lines ghes "$1" "$2")
 }
 
 # The same of this boot's trace. An error that somebody injected has no MCG_CAP, so the machine's own counts.
