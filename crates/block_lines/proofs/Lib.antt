@@ -1,1 +1,2 @@
+mod ReadBackLemmas
 mod TextLemmas

@@ -5,3 +5,4 @@ pub mod Sources
 pub mod Reports
 pub mod Texts
 pub mod Filter
+pub mod ReadBack

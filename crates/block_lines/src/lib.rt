@@ -4,6 +4,7 @@
 
 mod blocks;
 mod filter;
+mod laws;
 mod log_line;
 mod memory;
 mod report;
@@ -13,3 +14,4 @@ mod sources;
 mod text;
 
 pub use filter::BlockFilter;
+pub use laws::made_blocks_are_read_back;
