@@ -1,2 +1,3 @@
+mod KernelLemmas
 mod ReadBackLemmas
 mod TextLemmas

@@ -6,3 +6,5 @@ pub mod Reports
 pub mod Texts
 pub mod Filter
 pub mod ReadBack
+pub mod Kernel
+pub mod Reading

@@ -18,8 +18,8 @@ pub fn made_blocks_are_read_back()
     ensures block { (severity : ℕ) (errors : List MemoryError) → AllByRecursion IsError errors
         → 0 < length errors → length errors ≤ MOST_ERRORS
         → block_of (block_bytes severity errors) ≡ Ok (record {
-            status = made_status severity (length errors);
-            entries = map error_entry_bytes errors;
+          status = made_status severity (length errors);
+          entries = map error_entry_bytes errors;
         }) }
     ensures severity { (error : MemoryError) → IsError error
         → entry_severity (error_entry_bytes error) ≡ error.severity }

@@ -4,6 +4,7 @@
 
 mod blocks;
 mod filter;
+mod kernel_laws;
 mod laws;
 mod log_line;
 mod memory;
@@ -14,4 +15,5 @@ mod sources;
 mod text;
 
 pub use filter::BlockFilter;
+pub use kernel_laws::printed_texts_are_read;
 pub use laws::made_blocks_are_read_back;
