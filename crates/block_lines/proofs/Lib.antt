@@ -1,3 +1,4 @@
 mod KernelLemmas
+mod LineLemmas
 mod ReadBackLemmas
 mod TextLemmas

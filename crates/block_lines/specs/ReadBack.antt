@@ -1,9 +1,17 @@
 -- What the blocks that are made are read as.
-use Rattle.std.specs.Prelude.{◌≡◌, ℕ, ◌^◌, ◌<◌, List, None, IfSome}
-use Rattle.std.specs.List.{AllByRecursion}
+use Rattle.std.specs.Prelude.{◌≡◌, ℕ, ◌+◌, ◌/◌, ◌^◌, ◌<◌, ◌≤◌, List, ◌++◌, None, IfSome}
 use Rattle.cper_sections.specs.declared.memory.MemSection.{MemSection}
+use Rattle.ras_facts.specs.declared.name.Name.{Name}
+use Rattle.ras_facts.specs.declared.name.Name.TheVariants as names
+use Rattle.ras_script.specs.declared.line.ErrorReport.TheVariants.{Block}
+use Rattle.ras_script.specs.declared.line.Line.{Line}
+use Rattle.ras_script.specs.declared.line.Line.TheVariants as asks
+use Rattle.bank_lines.specs.declared.log_line.TheConstants.{LAST_SECOND, MICROSECONDS}
+use Rattle.block_lines.specs.Blocks.{block_bytes}
+use Rattle.block_lines.specs.Reports.{Reporting, section_errors}
 use Rattle.block_lines.specs.declared.memory.ErrorLocation.{ErrorLocation}
 use Rattle.block_lines.specs.declared.memory.MemoryError.{MemoryError}
+use Rattle.block_lines.specs.declared.report.OpenReport.{OpenReport}
 
 -- the numbers of an error fit their types
 pub record IsLocation (at : ErrorLocation) : Type 0 where
@@ -31,3 +39,26 @@ section_told error = record {
   rank = None;
   kind = error.kind;
 }
+
+-- ---- the line of a report's block
+
+-- the errors of a report, those that ended and that of its last section
+abbrev pub report_errors : Reporting → OpenReport → List MemoryError
+report_errors r report = r.errors ++ section_errors report.section
+
+-- its name and its time are in their ranges
+pub record IsNamed (r : Reporting) (report : OpenReport) : Type 0 where
+  pub boot : r.boot < 2 ^ 64
+  pub began : r.began ≤ LAST_SECOND
+  pub source : report.source < 2 ^ 16
+  pub begun : report.begun < 2 ^ 64
+
+-- under which it counts
+abbrev pub block_name : Reporting → OpenReport → Name
+block_name r report = names.Block r.boot report.source report.begun
+
+-- what a run is asked by it: the block of these errors, under the report's source and time stamp
+abbrev pub block_asked : Reporting → OpenReport → Line
+block_asked r report =
+    asks.Report (Block r.boot (r.began + report.begun / MICROSECONDS) report.source report.begun
+    (block_bytes report.severity (report_errors r report)))

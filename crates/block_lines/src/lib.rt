@@ -16,4 +16,4 @@ mod text;
 
 pub use filter::BlockFilter;
 pub use kernel_laws::printed_texts_are_read;
-pub use laws::made_blocks_are_read_back;
+pub use laws::{made_blocks_are_read_back, made_lines_are_read_back};
