@@ -15,7 +15,7 @@ use Rattle.bank_lines.specs.LogHeads.{after, is_own, up_to, without_spaces}
 use Rattle.bank_lines.specs.Parts.{value_after}
 use Rattle.bank_lines.proofs.KernelLemmas.{register_read}
 use Rattle.bank_lines.proofs.NumeralLemmas.{decimal_lacks}
-use Rattle.block_lines.specs.Kernel.{AreOthers, IsPrinted, PrintedError, error_of, error_text, error_texts, errors_texts, event_text, field_texts, kind_text, location_text, optional, printed_line, severity_word, start_text, unless_empty, with_number}
+use Rattle.block_lines.specs.Kernel.{AreOthers, IsPrinted, PrintedError, error_of, error_text, error_texts, errors_texts, event_text, field_texts, kind_text, location_text, optional, printed_line, severity_word, start_text, time_name, unless_empty, with_number}
 use Rattle.block_lines.specs.Lines.{after_named, location_of, number_named, report_line_of, section_said, severity_of}
 use Rattle.block_lines.specs.LogLines.{error_mark, own_after, own_line_of}
 use Rattle.block_lines.specs.Reading.{ErrorsRead, errors_read, line_read, texts_read}
@@ -242,12 +242,17 @@ fields_told es p more h =
     let masks : List (List ℕ) = optional (codes "  physical_address_mask: 0x") (option_map register p.mask) places in
     let physicals : List (List ℕ) = optional (codes "  physical_address: 0x") (option_map register p.physical) masks in
     let at_place : ErrorLocation = record { node = p.node; card = p.card; «module» = p.«module» } in
-    passed es (Memory (blank_error p.severity)) (codes "  error_status: ") (λ t. refl) p.status physicals
+    passed es (Memory (blank_error p.severity)) (codes "   error_status: ") (λ t. refl) p.status physicals
     ∙ physical_told es p.severity p.physical masks h.physical
     ∙ mask_told es p.severity p.physical p.mask places h.mask
     ∙ place_told es p.severity p.physical p.mask p.node p.card p.«module» p.others kinds (location_read p h) h.others.silent
     ∙ kind_told es p.severity p.physical p.mask at_place p.kind_name p.kind last h.kind
     ∙ passed es (Memory (error_of p)) (codes "  DIMM location: ") (λ t. refl) p.slot more
+
+-- the time of an error
+time_passed : (is_precise : Bool) (t : List ℕ) → report_line_of (time_name is_precise ++ t) ≡ lines.Other
+time_passed true t = refl
+time_passed false t = refl
 
 -- the texts of an error, after fewer errors than a report keeps
 error_told : (es : List MemoryError) (section : OpenSection) (number : ℕ) (p : PrintedError) (more : List (List ℕ)) → IsPrinted p → number < 2 ^ 64
@@ -260,7 +265,7 @@ error_told es section number p more h fits few =
     let named : List (List ℕ) = optional (codes " fru_text: ") p.unit_text typed in
     let units : List (List ℕ) = optional (codes " fru_id: ") p.unit_id named in
     let room : nat_lt (length ended) 12 ≡ true = grind (arith, nat_tests, few) in
-    passed es section (codes " precise tstamp: ") (λ t. refl) p.time (error_text number p.severity ∷ units)
+    passed es section (time_name p.is_precise) (time_passed p.is_precise) p.time (error_text number p.severity ∷ units)
     ∙ told es section (error_text number p.severity) (lines.Error p.severity) units (error_read number p.severity fits h.severity)
     ∙ passed ended (Begun p.severity) (codes " fru_id: ") (λ t. refl) p.unit_id named
     ∙ passed ended (Begun p.severity) (codes " fru_text: ") (λ t. refl) p.unit_text typed

@@ -1,5 +1,5 @@
 -- The line of a report's block asks for that block.
-use Rattle.std.proofs.Common.{◌≡◌, ℕ, zero, suc, ◌+◌, ◌-◌, ◌*◌, ◌/◌, ◌^◌, ◌<◌, ◌≤◌, ◌&&◌, nat_eq, nat_lt, Bool, true, false, List, [], ◌∷◌, ◌++◌, length, refl, ap, ◌∙◌, arith, length-append, lit<, Option, Some, None, Ok}
+use Rattle.std.proofs.Common.{◌≡◌, ℕ, zero, suc, ◌+◌, ◌-◌, ◌*◌, ◌/◌, ◌^◌, ◌<◌, ◌≤◌, ◌◌&&◌, nat_eq, nat_lt, Bool◌&&◌, nat_eq, nat_lt, Bool◌, ◌==◌, nat_lt, Bool, true, false, List, [], ◌∷◌, ◌++◌, length, refl, ap, ◌∙◌, arith, length-append, lit<, Option, Some, None, Ok}
 use Rattle.std.specs.Prelude.{replicate, unwrap_or, IfSome}
 use Rattle.std.specs.Int.{byte_at, bytes_low_first}
 use Rattle.std.specs.List.{AllByRecursion, flat_map, list_all}
@@ -153,5 +153,5 @@ and_false false b c is = refl
 
 pub names_apart : (r : Reporting) (one other : OpenReport) → ¬ (one.begun ≡ other.begun) → same_name (block_name r one) (block_name r other) ≡ false
 names_apart r one other apart =
-    let stamps : nat_eq one.begun other.begun ≡ false = grind (arith, nat_tests, apart) in
-    and_false (nat_eq r.boot r.boot) (nat_eq one.source other.source) (nat_eq one.begun other.begun) stamps
+    let stamps : (one.begun == other.begun) ≡ false = grind (arith, nat_tests, apart) in
+    and_false (r.boot == r.boot) (one.source == other.source) (one.begun == other.begun) stamps

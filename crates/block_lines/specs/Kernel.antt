@@ -1,7 +1,7 @@
 -- What Linux prints of a report of memory errors: `__ghes_print_estatus` of drivers/acpi/apei/ghes.c, and
 -- `cper_estatus_print`, `cper_estatus_print_section`, `cper_print_mem` and `cper_mem_err_location` of
--- drivers/firmware/efi/cper.c, of version 6.1.192. A text stands behind the mark of a line.
-use Rattle.std.specs.Prelude.{◌≡◌, ℕ, ◌+◌, ◌^◌, ◌<◌, ◌==◌, List, [], ◌∷◌, ◌++◌, codes, decimal, Option, None, Some, IfSome, if◌then◌else◌}
+-- drivers/firmware/efi/cper.c, of versions 6.1.192 and 6.12.117. A text stands behind the mark of a line.
+use Rattle.std.specs.Prelude.{◌≡◌, ℕ, ◌+◌, ◌^◌, ◌<◌, ◌==◌, Bool, List, [], ◌∷◌, ◌++◌, codes, decimal, Option, None, Some, IfSome, if◌then◌else◌}
 use Rattle.std.specs.Option.{option_map}
 use Rattle.bank_lines.specs.Kernel.{register}
 use Rattle.bank_lines.specs.Parts.{value_after}
@@ -19,6 +19,7 @@ pub record PrintedError : Type 0 where
   pub card : Option ℕ
   pub «module» : Option ℕ
   pub kind : Option ℕ
+  pub is_precise : Bool
   pub time : Option (List ℕ)
   pub unit_id : Option (List ℕ)
   pub unit_text : Option (List ℕ)
@@ -72,6 +73,9 @@ location_text node card number others =
 
 -- ---- a section
 
+abbrev pub time_name : Bool → List ℕ
+time_name is_precise = if is_precise then codes " precise tstamp: " else codes " imprecise tstamp: "
+
 -- a text before more, if it is printed
 abbrev pub optional : List ℕ → Option (List ℕ) → List (List ℕ) → List (List ℕ)
 optional name None more = more
@@ -84,7 +88,7 @@ unless_empty (b ∷ text) more = (codes "  " ++ b ∷ text) ∷ more
 
 abbrev pub field_texts : PrintedError → List (List ℕ) → List (List ℕ)
 field_texts p more =
-    optional (codes "  error_status: ") p.status (
+    optional (codes "   error_status: ") p.status (
     optional (codes "  physical_address: 0x") (option_map register p.physical) (
     optional (codes "  physical_address_mask: 0x") (option_map register p.mask) (
     unless_empty (location_text p.node p.card p.«module» p.others) (
@@ -94,7 +98,7 @@ field_texts p more =
 -- the texts of the error of this number, and more after them
 abbrev pub error_texts : ℕ → PrintedError → List (List ℕ) → List (List ℕ)
 error_texts number p more =
-    optional (codes " precise tstamp: ") p.time (
+    optional (time_name p.is_precise) p.time (
     error_text number p.severity ∷
     optional (codes " fru_id: ") p.unit_id (
     optional (codes " fru_text: ") p.unit_text (
