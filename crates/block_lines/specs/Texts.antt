@@ -7,7 +7,7 @@ use Rattle.ras_script.specs.declared.line.Line.TheVariants as asks
 use Rattle.ras_script.specs.declared.line.Table.TheVariants.{Hest}
 use Rattle.bank_lines.specs.declared.log_line.TheConstants.{MICROSECONDS}
 use Rattle.block_lines.specs.Blocks.{block_bytes}
-use Rattle.block_lines.specs.Reports.{Reporting, section_errors, has_error, is_cut, is_end, line_remark, ended_at}
+use Rattle.block_lines.specs.Reports.{Reporting, section_errors, has_error, ends_early, is_end, line_remark, ended_at}
 use Rattle.block_lines.specs.Sources.{is_listed, kept_sources, table_bytes}
 use Rattle.block_lines.specs.declared.log_line.ReportLogLine.{ReportLogLine}
 use Rattle.block_lines.specs.declared.report.Remark.{Remark}
@@ -60,7 +60,7 @@ block_text r report =
 
 abbrev pub cut_text : OpenReport → List ℕ
 cut_text report =
-    if is_cut report.section then cut_report_line report.source report.begun ++ 10 ∷ [] else []
+    if ends_early report.section then cut_report_line report.source report.begun ++ 10 ∷ [] else []
 
 -- the text of a report that ends: its block, if it has errors, and whether it is cut
 abbrev pub report_text : Reporting → OpenReport → List ℕ

@@ -235,7 +235,7 @@ impl Reports {
             self.push_source(alloc, report.source, text)?;
             self.push_block(alloc, report, text)?;
         }
-        if report.section.is_cut() {
+        if report.section.ends_early() {
             push_cut(text, *report)?;
         }
         Ok(())
