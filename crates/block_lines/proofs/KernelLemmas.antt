@@ -41,7 +41,7 @@ first_byte byte (b ∷ word) rest lacks =
     let one : 1 + length word ≡ suc (length word) = omega arith in
     rw other (ap (λ (n : ℕ). 1 + n) (first_byte byte word rest lacks.1) ∙ one)
 
-front_is : (byte : ℕ) (word rest : List ℕ) → Lacks byte word → up_to byte (word ++ byte ∷ rest) ≡ word
+pub front_is : (byte : ℕ) (word rest : List ℕ) → Lacks byte word → up_to byte (word ++ byte ∷ rest) ≡ word
 front_is byte word rest lacks =
     ap (λ (n : ℕ). take n (word ++ byte ∷ rest)) (first_byte byte word rest lacks) ∙ take-append_seam word (byte ∷ rest)
 
@@ -89,7 +89,7 @@ start_read source small =
 pub event_read : (severity : ℕ) → severity < 4 → report_line_of (event_text severity) ≡ lines.Event severity
 event_read severity small = ap (λ (s : ℕ). lines.Event s) (severity_back severity small)
 
-error_read : (number severity : ℕ) → number < 2 ^ 64 → severity < 4 → report_line_of (error_text number severity) ≡ lines.Error severity
+pub error_read : (number severity : ℕ) → number < 2 ^ 64 → severity < 4 → report_line_of (error_text number severity) ≡ lines.Error severity
 error_read number severity fits small =
     let word : List ℕ = decimal number in
     let rest : List ℕ = codes " type: " ++ severity_word severity in
@@ -99,13 +99,13 @@ error_read number severity fits small =
     ∙ ap (λ (w : List ℕ). option_map_or (λ s. lines.Error s) (option_map severity_of (value_after (codes " type: ") w)) lines.Unread) (rest_is 44 word rest lacks)
     ∙ ap (λ (s : ℕ). lines.Error s) (severity_back severity small)
 
-physical_read : (n : ℕ) → n < 2 ^ 64 → report_line_of (codes "  physical_address: 0x" ++ register n) ≡ lines.Field (Some (Physical n))
+pub physical_read : (n : ℕ) → n < 2 ^ 64 → report_line_of (codes "  physical_address: 0x" ++ register n) ≡ lines.Field (Some (Physical n))
 physical_read n small = ap (λ (o : Option ℕ). lines.Field (option_map (λ m. Physical m) o)) (register_read n small)
 
-mask_read : (n : ℕ) → n < 2 ^ 64 → report_line_of (codes "  physical_address_mask: 0x" ++ register n) ≡ lines.Field (Some (Mask n))
+pub mask_read : (n : ℕ) → n < 2 ^ 64 → report_line_of (codes "  physical_address_mask: 0x" ++ register n) ≡ lines.Field (Some (Mask n))
 mask_read n small = ap (λ (o : Option ℕ). lines.Field (option_map (λ m. Mask m) o)) (register_read n small)
 
-kind_read : (name : List ℕ) (n : ℕ) → n < 2 ^ 8 → report_line_of (codes "  error_type: " ++ kind_text name n) ≡ lines.Field (Some (Kind n))
+pub kind_read : (name : List ℕ) (n : ℕ) → n < 2 ^ 8 → report_line_of (codes "  error_type: " ++ kind_text name n) ≡ lines.Field (Some (Kind n))
 kind_read name n small =
     ap (λ (w : List ℕ). lines.Field (option_map (λ k. Kind k) (decimal_of 255 w))) (front_is 44 (decimal n) name (decimal_lacks 44 n (omega arith) (omega arith)))
     ∙ ap (λ (o : Option ℕ). lines.Field (option_map (λ k. Kind k) o)) (decimal_read 255 n (omega arith) (omega arith))
@@ -250,7 +250,7 @@ fields_told es p more h =
     ∙ passed es (Memory (error_of p)) (codes "  DIMM location: ") (λ t. refl) p.slot more
 
 -- the time of an error
-time_passed : (is_precise : Bool) (t : List ℕ) → report_line_of (time_name is_precise ++ t) ≡ lines.Other
+pub time_passed : (is_precise : Bool) (t : List ℕ) → report_line_of (time_name is_precise ++ t) ≡ lines.Other
 time_passed true t = refl
 time_passed false t = refl
 

@@ -8,3 +8,4 @@ pub mod Filter
 pub mod ReadBack
 pub mod Kernel
 pub mod Reading
+pub mod Printed

@@ -1,11 +1,15 @@
 //! What the kernel prints of a firmware's report is read.
 
-ghost use Rattle.std.specs.Prelude.{◌≡◌, ◌^◌, ◌<◌, ◌≤◌, ℕ, List, [], length, map, true, Some};
+ghost use Rattle.std.specs.Prelude.{◌≡◌, ◌^◌, ◌<◌, ◌≤◌, ℕ, List, [], ◌∷◌, length, map, true, Some};
 ghost use Rattle.std.specs.List.{AllByRecursion};
 ghost use Rattle.ras_script.specs.SplittingLaws.{Lacks};
 ghost use Rattle.bank_lines.specs.LogHeads.{is_own};
 ghost use Rattle.block_lines.specs.Kernel.{IsPrinted, PrintedError, error_of, errors_texts, event_text};
 ghost use Rattle.block_lines.specs.Kernel.{printed_line, start_text};
+ghost use Rattle.bank_lines.specs.LogLines.{log_stamp_of};
+ghost use Rattle.block_lines.specs.Filter.{reporting_over};
+ghost use Rattle.block_lines.specs.Printed.{AreHeaded, HasReport, printed_lines, severity_texts};
+ghost use Rattle.block_lines.specs.Reports.{Reporting};
 ghost use Rattle.block_lines.specs.Lines.{report_line_of};
 ghost use Rattle.block_lines.specs.LogLines.{own_line_of};
 ghost use Rattle.block_lines.specs.Reading.{errors_read, texts_read};
@@ -30,4 +34,18 @@ pub fn printed_texts_are_read()
         → length printed ≤ MOST_ERRORS
         → errors_read (texts_read (record { ended = []; section = Absent }) (errors_texts 0 printed))
         ≡ map error_of printed }
+{}
+
+/// After the lines of a report, as the kernel prints them behind heads that show them as its own, a
+/// filter has that report in work, whatever it read before: its source, the time stamp of its first
+/// line, its severity, and its errors. The function does nothing: its clauses are what it is for.
+pub fn printed_reports_are_read()
+    ensures report { (r : Reporting) (number source severity stamp : ℕ) (head : List ℕ)
+        (heads : List (List ℕ)) (printed : List PrintedError)
+        → number < 2 ^ 64 → source < 2 ^ 16 → severity < 4 → AllByRecursion IsPrinted printed
+        → length printed ≤ MOST_ERRORS → log_stamp_of head ≡ Some stamp
+        → AreHeaded number (head ∷ heads) (start_text source ∷ severity_texts severity printed)
+        → HasReport (reporting_over r
+        (printed_lines number (head ∷ heads) (start_text source ∷ severity_texts severity printed)))
+        source stamp severity (map error_of printed) }
 {}

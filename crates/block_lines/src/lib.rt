@@ -15,5 +15,5 @@ mod sources;
 mod text;
 
 pub use filter::BlockFilter;
-pub use kernel_laws::printed_texts_are_read;
+pub use kernel_laws::{printed_reports_are_read, printed_texts_are_read};
 pub use laws::{made_blocks_are_read_back, made_lines_are_read_back};
