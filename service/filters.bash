@@ -13,6 +13,9 @@ tied=("$here/tied")
 # Passes on each line whole, or not at all.
 whole=("$here/whole-lines" --most 4096)
 
+# The end of a complete log: a line later than any, which ends the last report.
+log_end='[999999999999.000000] the end'
+
 # A run ignores comments. They say what a filter left out, so standard error gets them too.
 pass_on=("${whole[@]}" --tell '^#' "feed: left out")
 
@@ -20,6 +23,14 @@ pass_on=("${whole[@]}" --tell '^#' "feed: left out")
 log_filter() {
     make_lines=("${whole[@]}" --only 'mce: \[Hardware Error\]: ' --piece "$piece" --at 'CPU [0-9]+: Machine Check'
         -- "${tied[@]}" "$program" lines klog "$1" "$2")
+}
+
+# Sets make_lines to the command that converts what the firmware reported: BOOT SECOND, at which the boot began. Only a later
+# line shows that a report has ended, so some lines after each are passed too. A piece ends before a report.
+report_filter() {
+    make_lines=("${whole[@]}" --only '\}\[Hardware Error\]: |^\[9{12}\.' --more 1000 --piece "$piece" --last "$log_end"
+        --at '^(<\d>)?\[[ .\d]+\] (\S+ kernel: )?\{\d+\}\[Hardware Error\]: Hardware error from'
+        -- "${tied[@]}" "$program" lines ghes "$1" "$2")
 }
 
 # Sets make_lines to the command that converts a boot's trace: BOOT MCG_CAP. An injected error has no MCG_CAP, and gets this.

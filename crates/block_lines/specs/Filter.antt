@@ -4,7 +4,7 @@ use Rattle.line_filters.specs.Filter.{Filter}
 use Rattle.ras_script.specs.declared.line.LineRefused.{LineRefused}
 use Rattle.block_lines.specs.LogLines.{report_log_line}
 use Rattle.block_lines.specs.Reports.{Reporting, no_reports, reporting_after}
-use Rattle.block_lines.specs.Texts.{end_text, blocks_text_at}
+use Rattle.block_lines.specs.Texts.{rest_text, blocks_text_at}
 
 -- the text of each line, after so many lines; no line is refused
 abbrev pub block_answers : ℕ → Reporting → List (List ℕ) → List (Result (List ℕ) LineRefused)
@@ -18,9 +18,9 @@ abbrev pub reporting_over : Reporting → List (List ℕ) → Reporting
 reporting_over r [] = r
 reporting_over r (line ∷ lines) = reporting_over (reporting_after r (report_log_line line)) lines
 
--- the text of a report that is in work after them
+-- the text after them: of a report that none of them ended
 abbrev pub rest_after : Reporting → List (List ℕ) → List ℕ
-rest_after r lines = end_text (reporting_over r lines)
+rest_after r lines = rest_text (reporting_over r lines)
 
 -- how far a filter came in a log
 pub record BlockProgress : Type 0 where

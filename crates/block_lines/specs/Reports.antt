@@ -60,10 +60,10 @@ section_errors (Memory error) = error ∷ []
 section_errors section = []
 
 -- whether a section ends before its type is told, or none began
-abbrev pub is_cut : OpenSection → Bool
-is_cut Absent = true
-is_cut (Begun severity) = true
-is_cut section = false
+abbrev pub ends_early : OpenSection → Bool
+ends_early Absent = true
+ends_early (Begun severity) = true
+ends_early section = false
 
 -- ---- a report
 

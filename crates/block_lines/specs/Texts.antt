@@ -7,7 +7,7 @@ use Rattle.ras_script.specs.declared.line.Line.TheVariants as asks
 use Rattle.ras_script.specs.declared.line.Table.TheVariants.{Hest}
 use Rattle.bank_lines.specs.declared.log_line.TheConstants.{MICROSECONDS}
 use Rattle.block_lines.specs.Blocks.{block_bytes}
-use Rattle.block_lines.specs.Reports.{Reporting, section_errors, has_error, is_cut, is_end, line_remark, ended_at}
+use Rattle.block_lines.specs.Reports.{Reporting, section_errors, has_error, ends_early, is_end, line_remark, ended_at}
 use Rattle.block_lines.specs.Sources.{is_listed, kept_sources, table_bytes}
 use Rattle.block_lines.specs.declared.log_line.ReportLogLine.{ReportLogLine}
 use Rattle.block_lines.specs.declared.report.Remark.{Remark}
@@ -60,7 +60,7 @@ block_text r report =
 
 abbrev pub cut_text : OpenReport → List ℕ
 cut_text report =
-    if is_cut report.section then cut_report_line report.source report.begun ++ 10 ∷ [] else []
+    if ends_early report.section then cut_report_line report.source report.begun ++ 10 ∷ [] else []
 
 -- the text of a report that ends: its block, if it has errors, and whether it is cut
 abbrev pub report_text : Reporting → OpenReport → List ℕ
@@ -68,6 +68,12 @@ report_text r report = block_text r report ++ cut_text report
 
 abbrev pub end_text : Reporting → List ℕ
 end_text r = option_map_or (report_text r) r.work []
+
+-- The text after all lines: the log may hold less of the report in work than the kernel printed of it, so
+-- no block is made of it.
+abbrev pub rest_text : Reporting → List ℕ
+rest_text r =
+    option_map_or (λ (report : OpenReport). cut_report_line report.source report.begun ++ 10 ∷ []) r.work []
 
 -- the text of the line of this number: of the report that it ends, and of the line itself
 abbrev pub blocks_text_at : Reporting → ℕ → ReportLogLine → List ℕ

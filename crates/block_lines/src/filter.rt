@@ -15,10 +15,11 @@ use std::marker::Model;
 /// Makes of the lines of a kernel log lines of script: a line `ghes` of each report of the firmware
 /// with errors of memory, and a line `hest` before the first report of a source.
 ///
-/// A report is told at the line that ends it: one of another report, or one of something else that
-/// the kernel printed more than a tenth of a second later; or after all lines. Sections about
-/// something else than memory, a thirteenth error of a report, a report that is cut, and each line
-/// that begins as one of a report and is in none, are told by comments. Only lines that are the
+/// A report is printed at the line that ends it: one of another report, or one of something else
+/// that the kernel printed more than a tenth of a second later. Of a report that no line ends, the
+/// log may lack lines, so it has a comment after all lines and no block. Comments also stand for
+/// sections about something else than memory, for a thirteenth error of a report, for a report that
+/// is cut, and for each line that begins as one of a report and is in none. Only lines that are the
 /// kernel's own count. No line is refused.
 #[derive(Drop)]
 pub struct BlockFilter {
@@ -68,8 +69,8 @@ impl LineFilter for BlockFilter {
         }
     }
 
-    fn push_rest(&self, alloc: Global, text: &mut Vec<u8>) -> Result<(), NoMemory> {
-        self.reports.push_end(alloc, text)
+    fn push_rest(&self, _: Global, text: &mut Vec<u8>) -> Result<(), NoMemory> {
+        self.reports.push_rest(text)
     }
 
     fn push_last(&self, _: Global, _: &mut Vec<u8>) -> Result<(), NoMemory> {

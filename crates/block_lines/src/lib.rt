@@ -4,6 +4,8 @@
 
 mod blocks;
 mod filter;
+mod kernel_laws;
+mod laws;
 mod log_line;
 mod memory;
 mod report;
@@ -13,3 +15,5 @@ mod sources;
 mod text;
 
 pub use filter::BlockFilter;
+pub use kernel_laws::{printed_reports_are_read, printed_texts_are_read};
+pub use laws::{made_blocks_are_read_back, made_lines_are_read_back};

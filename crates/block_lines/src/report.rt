@@ -1,7 +1,7 @@
 //! A report while its lines are read.
 
 ghost use Rattle.std.specs.Prelude.{◌≡◌};
-ghost use Rattle.block_lines.specs.Reports.{begun_remark, field_remark, is_cut, is_ended_by};
+ghost use Rattle.block_lines.specs.Reports.{begun_remark, field_remark, ends_early, is_ended_by};
 ghost use Rattle.block_lines.specs.Reports.{is_late, is_start, remark_in, report_after, report_from};
 ghost use Rattle.block_lines.specs.Reports.{section_after, section_with, severity_after};
 ghost use Rattle.block_lines.specs.Reports.{type_remark, typed_section};
@@ -182,8 +182,8 @@ impl OpenSection {
     }
 
     // Whether it ends before its type is told, or none began.
-    pub(crate) fn is_cut(&self) -> bool
-        ensures { result ≡ is_cut self.now }
+    pub(crate) fn ends_early(&self) -> bool
+        ensures { result ≡ ends_early self.now }
     {
         matches!(*self, OpenSection::Absent | OpenSection::Begun { .. })
     }

@@ -6,7 +6,8 @@ ghost use Rattle.block_lines.specs.Reports.{after_report, begun_at, begun_work, 
 ghost use Rattle.block_lines.specs.Reports.{going_remark, gone_on, has_error, is_end, line_remark};
 ghost use Rattle.block_lines.specs.Reports.{line_taken, no_reports, own_remark, own_taken};
 ghost use Rattle.block_lines.specs.Reports.{reporting_after, start_remark};
-ghost use Rattle.block_lines.specs.Texts.{end_text, ghes_line, report_text, table_text, blocks_text_at};
+ghost use Rattle.block_lines.specs.Texts.{blocks_text_at, cut_report_line, end_text, ghes_line};
+ghost use Rattle.block_lines.specs.Texts.{report_text, rest_text, table_text};
 
 use crate::blocks::push_block;
 use crate::log_line::ReportLogLine;
@@ -193,8 +194,18 @@ impl Reports {
         Ok(())
     }
 
-    // Adds the text of the report in work, as if it ended here.
-    pub(crate) fn push_end(&self, alloc: Global, text: &mut Vec<u8>) -> Result<(), NoMemory>
+    // Adds that the report in work, if there is one, may lack lines.
+    pub(crate) fn push_rest(&self, text: &mut Vec<u8>) -> Result<(), NoMemory>
+        ensures { OnOk result (text.new.items ≡ text.old.items ++ rest_text self.now) }
+    {
+        match self.work {
+            Some(report) => push_cut(text, report),
+            None => Ok(()),
+        }
+    }
+
+    // Adds the text of the report in work, which ends.
+    fn push_end(&self, alloc: Global, text: &mut Vec<u8>) -> Result<(), NoMemory>
         ensures { OnOk result (text.new.items ≡ text.old.items ++ end_text self.now) }
     {
         match self.work {
@@ -224,9 +235,8 @@ impl Reports {
             self.push_source(alloc, report.source, text)?;
             self.push_block(alloc, report, text)?;
         }
-        if report.section.is_cut() {
-            push_partial(text, report.source, report.begun)?;
-            text.push(b'\n')?;
+        if report.section.ends_early() {
+            push_cut(text, *report)?;
         }
         Ok(())
     }
@@ -269,6 +279,16 @@ impl Reports {
         };
         push_ghes(alloc, text, name, &block)
     }
+}
+
+// Adds the comment of a report that is cut, and a line feed.
+fn push_cut(text: &mut Vec<u8>, report: OpenReport) -> Result<(), NoMemory>
+    ensures { OnOk result (text.new.items
+        ≡ text.old.items ++ cut_report_line report.source report.begun ++ 10 ∷ []) }
+{
+    push_partial(text, report.source, report.begun)?;
+    text.push(b'\n')?;
+    Ok(())
 }
 
 // What is said of a line that begins a report.

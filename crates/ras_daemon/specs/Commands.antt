@@ -9,6 +9,7 @@ use Rattle.ras_exit.specs.StopLine.{stop_line}
 use Rattle.ras_exit.specs.Telling.{OnlyText, PrintMoment, Tells}
 use Rattle.bank_lines.specs.LogFilter.{log_filter}
 use Rattle.bank_lines.specs.Filter.{trace_filter}
+use Rattle.block_lines.specs.Filter.{block_filter}
 use Rattle.cper_pcie.specs.Filter.{pcie_filter}
 use Rattle.line_filters.specs.Filters.{Filters, IsFilterExit, OfBoth, StopsFiltering}
 use Rattle.ras_klog.specs.Klog.{klog_filter}
@@ -16,7 +17,7 @@ use Rattle.ras_listing.specs.Reporting.{IsReportExit, ReportMoment, Reports, rep
 use Rattle.ras_daemon.specs.Help.{help_text, version_line}
 use Rattle.ras_daemon.specs.Loading.{load_output}
 use Rattle.ras_daemon.specs.declared.word.Task.{Task}
-use Rattle.ras_daemon.specs.declared.word.Task.TheVariants.{Run, Report, Load, Pcie, Klog, TraceLines, KlogLines, Help, Version}
+use Rattle.ras_daemon.specs.declared.word.Task.TheVariants.{Run, Report, Load, Pcie, Klog, TraceLines, KlogLines, GhesLines, Help, Version}
 
 -- A call that only prints tells this exit and this text, and nothing else that is told changes.
 pub record OnlyTells (exit : Exit) (text : List ℕ) (result : Exit) (before now : Told) : Type 0 where
@@ -57,6 +58,9 @@ ByTask exit (Some (TraceLines boot)) script left before now old new =
 ByTask exit (Some (KlogLines boot cap)) script left before now old new =
     Leaves (OfBoth (Filters (log_filter boot cap) exit) script left before now)
     (StopsFiltering (log_filter boot cap) script before old new) before now old new
+ByTask exit (Some (GhesLines boot began)) script left before now old new =
+    Leaves (OfBoth (Filters (block_filter boot began) exit) script left before now)
+    (StopsFiltering (block_filter boot began) script before old new) before now old new
 ByTask exit (Some Help) script left before now old new =
     Leaves (Relates (OnlyTells Done help_text exit) before now)
     (Adds (PrintMoment old help_text) old new) before now old new
@@ -84,5 +88,6 @@ MayEnd (Some Pcie) exit = IsFilterExit exit
 MayEnd (Some (Klog boot cap)) exit = IsFilterExit exit
 MayEnd (Some (TraceLines boot)) exit = IsFilterExit exit
 MayEnd (Some (KlogLines boot cap)) exit = IsFilterExit exit
+MayEnd (Some (GhesLines boot began)) exit = IsFilterExit exit
 MayEnd (Some Help) exit = (exit ≡ Done) ⊎ (exit ≡ PrintFault)
 MayEnd (Some Version) exit = (exit ≡ Done) ⊎ (exit ≡ PrintFault)

@@ -27,6 +27,7 @@ use crate::load::load;
 use crate::running::run;
 use crate::{RasWord, Task, task_of};
 use bank_lines::{LogFilter, TraceFilter};
+use block_lines::BlockFilter;
 use board_core::{Board, Source};
 use cper_pcie::PcieFilter;
 use line_filters::filter_lines;
@@ -96,6 +97,10 @@ pub fn rasd<S: Source, B: Board>(
         }
         Some(Task::KlogLines { boot, cap }) => {
             let mut filter = LogFilter::new(boot, cap);
+            filter_lines(alloc, &mut filter, source, board)
+        }
+        Some(Task::GhesLines { boot, began }) => {
+            let mut filter = BlockFilter::new(alloc, boot, began);
             filter_lines(alloc, &mut filter, source, board)
         }
         Some(Task::Help) => last_line(help_text(), Exit::Done, board),

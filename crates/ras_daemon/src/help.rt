@@ -15,6 +15,7 @@ pub const HELP: &[u8] = b"\
     rasd report metrics            the account in the text format of Prometheus\n\
     rasd lines trace BOOT < TRACE  make a script of a trace of the kernel\n\
     rasd lines klog BOOT CAP < LOG make a script of a log of the kernel\n\
+    rasd lines ghes BOOT SEC < LOG make a script of what the firmware reported\n\
     rasd klog BOOT CAP < LOG       print the machine checks of a log, decoded\n\
     rasd pcie < SCRIPT             print the PCI Express errors of a script\n\
     rasd load N                    try the machine with N reports, in memory\n\
@@ -22,6 +23,7 @@ pub const HELP: &[u8] = b"\
     rasd --version                 print the version\n\
     \n\
     BOOT is the boot's number, decimal; CAP is IA32_MCG_CAP, hexadecimal.\n\
+    SEC is the second since 1970 at which the boot began, decimal.\n\
     The account is in the working folder: the journal rasd.0 and rasd.1, and the\n\
     record store rasd.store. The installed command goes to /var/lib/rasd, or to\n\
     the folder that RASD_FOLDER names. Only run and report use files.\n\

@@ -1,6 +1,6 @@
 //! What runs log and order, one after the other on one journal.
 
-ghost use Rattle.std.specs.Prelude.{◌≡◌, ◌++◌, ℕ, List, [], ◌∷◌, Some, map, if◌then◌else◌};
+ghost use Rattle.std.specs.Prelude.{◌≡◌, ◌++◌, ℕ, List, [], ◌∷◌, Some, if◌then◌else◌};
 ghost use Rattle.std.specs.List.{IsDistinct};
 ghost use Rattle.std.specs.Map.{lookup};
 ghost use Rattle.dimm_topology.specs.Labels.{Bytes, same_label};
@@ -15,11 +15,12 @@ ghost use Rattle.ras_account.specs.Fresh.{fresh_entries};
 ghost use Rattle.ras_account.specs.Modules.{Module, has_tripped};
 ghost use Rattle.ras_account.specs.Orders.{orders, orders_since_mark};
 ghost use Rattle.ras_run.specs.Places.{Start};
+ghost use Rattle.ras_script.specs.Lines.{script_lines};
 ghost use Rattle.bank_lines.specs.Texts.{asks_in};
 ghost use Rattle.ras_account.specs.Continued.{account_after_all};
 ghost use Rattle.ras_events.specs.Reports.{rows_told};
 ghost use Rattle.ras_facts.specs.declared.bank.BankReport.{BankReport};
-ghost use Rattle.ras_daemon.specs.Feeding.{IsFed, asked_by, asks_bank, bank_entries};
+ghost use Rattle.ras_daemon.specs.Feeding.{IsFed, asked_by, bank_entries};
 ghost use Rattle.ras_daemon.specs.Headline.{account_with, laid_with};
 ghost use Rattle.ras_daemon.specs.Machine.{account_upto, store_upto, text_of, text_upto};
 ghost use Rattle.ras_daemon.specs.RunOf.{run_of};
@@ -153,16 +154,15 @@ pub fn outside_laws()
         → text_of (run_of start script) ≡ run_output start script }
 {}
 
-/// What a run makes of the lines that `lines` prints, if it takes all of them. The function does
+/// What a run makes of lines such as `lines` prints, if it takes all of them. The function does
 /// nothing: its clauses are what it is for.
 pub fn feeding_laws()
-    // The events of such a script are those of the machine's rows, and then the reports of the
-    // banks, in order, and nothing else.
-    ensures events { (start : Start) (rows : List (List ℕ)) (banks : List BankReport)
-        (script : List ℕ) → IsFed start.store rows banks script → IsTakenWhole start script
-        → asked_by (events_of start script) ≡ asks_in rows ++ map asks_bank banks }
+    // The events of a script are what its lines ask for, in order, and nothing else.
+    ensures events { (start : Start) (script : List ℕ) → IsTakenWhole start script
+        → asked_by (events_of start script) ≡ asks_in (script_lines script).whole }
 
-    // So its account is the account at its start with these reports.
+    // So the account of one that asks for reports of banks behind the machine's rows is the account
+    // at its start with these reports.
     ensures account { (start : Start) (rows : List (List ℕ)) (banks : List BankReport)
         (script : List ℕ) → IsFed start.store rows banks script → IsTakenWhole start script
         → account_with start script (event_count start script) ≡ account_after_all start.account

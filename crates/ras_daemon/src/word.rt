@@ -2,8 +2,9 @@
 
 ghost use Rattle.std.specs.Prelude.{◌≡◌, IfOk, IfSome};
 ghost use Rattle.ras_daemon.specs.Task.{IsTask, klog_lines_of, klog_of, listing_of, load_of, task_of};
-ghost use Rattle.ras_daemon.specs.Task.{trace_lines_of};
+ghost use Rattle.ras_daemon.specs.Task.{ghes_lines_of, trace_lines_of};
 
+use bank_lines::LAST_SECOND;
 use listing_texts::Listing;
 use ras_base::NoMemory;
 use ras_load::MOST_LINES;
@@ -73,6 +74,14 @@ pub enum Task {
         /// The processors' IA32_MCG_CAP.
         cap: u64,
     },
+    /// Make lines of script of the errors of memory that the firmware reported, as a kernel log
+    /// tells them.
+    GhesLines {
+        /// The number of the boot.
+        boot: u64,
+        /// The second since 1970 at which the boot began.
+        began: u64,
+    },
     /// Print the forms of words.
     Help,
     /// Print the program's version.
@@ -88,6 +97,8 @@ pub enum Task {
 /// - `klog` with the number of the boot in decimal digits and IA32_MCG_CAP in hexadecimal ones, as
 ///   a script writes them
 /// - `lines` with `trace` and the number of the boot, or with `klog` and both of these numbers
+/// - `lines` with `ghes`, the number of the boot, and the second at which it began, up to
+///   999,999,999,999
 /// - `--help`, and `--version`
 pub fn task_of(words: &[RasWord]) -> Option<Task>
     ensures task { result ≡ task_of words.now }
@@ -112,6 +123,10 @@ pub fn task_of(words: &[RasWord]) -> Option<Task>
         [word, form, boot, cap]
             if word.bytes() == b"lines".as_slice() && form.bytes() == b"klog".as_slice() => {
             klog_lines_of(boot.bytes(), cap.bytes())
+        }
+        [word, form, boot, began]
+            if word.bytes() == b"lines".as_slice() && form.bytes() == b"ghes".as_slice() => {
+            ghes_lines_of(boot.bytes(), began.bytes())
         }
         _ => None,
     }
@@ -154,6 +169,17 @@ fn klog_lines_of(boot: &[u8], cap: &[u8]) -> Option<Task>
     Some(Task::KlogLines {
         boot: decimal(boot, u64::MAX)?,
         cap: hexadecimal(cap)?,
+    })
+}
+
+// The lines of what the firmware reported in the boot that began at this second.
+fn ghes_lines_of(boot: &[u8], began: &[u8]) -> Option<Task>
+    ensures task { result ≡ ghes_lines_of boot.now began.now }
+    ensures range { IfSome result IsTask }
+{
+    Some(Task::GhesLines {
+        boot: decimal(boot, u64::MAX)?,
+        began: decimal(began, LAST_SECOND)?,
     })
 }
 
