@@ -179,7 +179,7 @@ at es section = record { ended = es; section = section }
 -- one more text
 told : (es : List MemoryError) (section : OpenSection) (text : List ℕ) (line : ReportLine) (more : List (List ℕ)) → report_line_of text ≡ line
     → texts_read (at es section) (text ∷ more) ≡ texts_read (line_read (at es section) line) more
-told es section text line more is = ap (λ (l : ReportLine). texts_read (line_read (at es section) l) more) is
+told es section words line more is = ap (λ (l : ReportLine). texts_read (line_read (at es section) l) more) is
 
 -- a text that says nothing, if it is printed
 passed : (es : List MemoryError) (section : OpenSection) (name : List ℕ) → ((t : List ℕ) → report_line_of (name ++ t) ≡ lines.Other)
