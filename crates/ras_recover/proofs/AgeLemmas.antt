@@ -64,7 +64,7 @@ one_newer file0 file1 zero one short0 short1 e0 e1 less =
 -- files of these sizes were read, and this one is the newer one
 aged_here : (newer older : FileNo) (place : Place) (account : Account) (last : FileFront) (m n : ℕ) (here : Left) → older ≡ other newer → (m ≤ LONGEST_FILE) × (n ≤ LONGEST_FILE) → (m ≡ length (file_in older here)) × (n ≡ length (file_in newer here))
     → front_of None (file_in older here) ≡ Ok (Some last) → front_of None (file_in newer here) ≡ Ok (Some (front_at place account.state)) → last.generation < place.generation
-    → AreRead (record { shut = (false, false); journal = Some (newer, (place, account)) }) here.file0 here.file1
+    → AreRead (record { shut = (false, false); journal = Some (newer, place, account) }) here.file0 here.file1
 aged_here Zero Zero place account last m n here same short sizes e0 e1 less = absurd cc
 aged_here One One place account last m n here same short sizes e0 e1 less = absurd cc
 aged_here Zero One place account last m n here same short sizes e0 e1 less =
@@ -91,7 +91,7 @@ aged_here One Zero place account last m n here same short sizes e0 e1 less =
 pub aged_told : (newer older : FileNo) (place : Place) (account : Account) (last : FileFront) (m n : ℕ) (told next : Option Told) → option_map (λ (t : Told). t.here) next ≡ option_map (λ (t : Told). t.here) told → older ≡ other newer
     → (m ≤ LONGEST_FILE) × (n ≤ LONGEST_FILE) → IfSome told (λ t. (m ≡ length (file_of older t)) × (n ≡ length (file_of newer t))) → IfSome told (λ t. front_of None (file_of older t) ≡ Ok (Some last))
     → IfSome next (λ t. front_of None (file_of newer t) ≡ Ok (Some (front_at place account.state))) → last.generation < place.generation
-    → IfSome told (λ t. AreRead (record { shut = (false, false); journal = Some (newer, (place, account)) }) t.here.file0 t.here.file1)
+    → IfSome told (λ t. AreRead (record { shut = (false, false); journal = Some (newer, place, account) }) t.here.file0 t.here.file1)
 aged_told newer older place account last m n None next here same short sizes e0 e1 less = tt
 aged_told newer older place account last m n (Some t) next here same short sizes e0 e1 less =
     aged_here newer older place account last m n t.here same short sizes e0

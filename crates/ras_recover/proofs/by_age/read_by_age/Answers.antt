@@ -18,11 +18,11 @@ pub read_in_turn-requires-clause-sizes : goal.read_in_turn-requires-clause-sizes
 read_in_turn-requires-clause-sizes g c =
     sizes_swapped c.args.zero.size c.args.one.size c.args.zero.no c.args.one.no _ (sizes_later c.args.zero.size c.args.one.size c.args.zero.no c.args.one.no _ _ c.in-Ok.ensures.looks.keeps.here c.requires.sizes)
 
-pub read_in_turn-2-requires-clause-others : goal.read_in_turn-2-requires-clause-others
-read_in_turn-2-requires-clause-others g c = c.requires.numbers.0 ∙ sym (ap other c.requires.numbers.1)
+pub read_in_turn-requires-in-Some-One-clause-others : goal.read_in_turn-requires-in-Some-One-clause-others
+read_in_turn-requires-in-Some-One-clause-others g c = c.requires.numbers.0 ∙ sym (ap other c.requires.numbers.1)
 
-pub read_in_turn-2-requires-clause-sizes : goal.read_in_turn-2-requires-clause-sizes
-read_in_turn-2-requires-clause-sizes g c = sizes_later c.args.zero.size c.args.one.size c.args.zero.no c.args.one.no _ _ c.in-Ok.ensures.looks.keeps.here c.requires.sizes
+pub read_in_turn-requires-in-Some-One-clause-sizes : goal.read_in_turn-requires-in-Some-One-clause-sizes
+read_in_turn-requires-in-Some-One-clause-sizes g c = sizes_later c.args.zero.size c.args.one.size c.args.zero.no c.args.one.no _ _ c.in-Ok.ensures.looks.keeps.here c.requires.sizes
 
 pub returns-in-Some-Zero-clause-read : goal.returns-in-Some-Zero-clause-read
 returns-in-Some-Zero-clause-read g c = found_before c.read_in_turn.result _ _ c.in-Ok.ensures.looks.keeps.here c.read_in_turn.ensures.read
@@ -33,12 +33,12 @@ returns-in-Some-Zero-clause-looks g c =
     (λ l xs ys found. found_later c.read_in_turn.result l xs ys found) c.in-Ok.ensures.looks c.read_in_turn.ensures.looks
 
 pub returns-in-Some-One-clause-read : goal.returns-in-Some-One-clause-read
-returns-in-Some-One-clause-read g c = found_before c.read_in_turn-2.result _ _ c.in-Ok.ensures.looks.keeps.here c.read_in_turn-2.ensures.read
+returns-in-Some-One-clause-read g c = found_before c.read_in_turn-in-Some-One.result _ _ c.in-Ok.ensures.looks.keeps.here c.read_in_turn-in-Some-One.ensures.read
 
 pub returns-in-Some-One-clause-looks : goal.returns-in-Some-One-clause-looks
 returns-in-Some-One-clause-looks g c =
-    looks_behind c.in-Ok.newer c.read_in_turn-2.result (λ (l : Left) (xs : List DiskCall). Unit {0}) (λ (l : Left) (xs : List DiskCall). IfFound c.read_in_turn-2.result (ReadsBoth l xs)) _ _ _ _ _ _ _ _ _
-    (λ l xs ys found. found_later c.read_in_turn-2.result l xs ys found) c.in-Ok.ensures.looks c.read_in_turn-2.ensures.looks
+    looks_behind c.in-Ok.newer c.read_in_turn-in-Some-One.result (λ (l : Left) (xs : List DiskCall). Unit {0}) (λ (l : Left) (xs : List DiskCall). IfFound c.read_in_turn-in-Some-One.result (ReadsBoth l xs)) _ _ _ _ _ _ _ _ _
+    (λ l xs ys found. found_later c.read_in_turn-in-Some-One.result l xs ys found) c.in-Ok.ensures.looks c.read_in_turn-in-Some-One.ensures.looks
 
 pub returns-in-None-clause-looks : goal.returns-in-None-clause-looks
 returns-in-None-clause-looks g c = looks_told c.in-Ok.newer None _ _ _ _ _ _ _ _ (λ (t : Told) (ys : List DiskCall) p. tt) c.in-Ok.ensures.looks
