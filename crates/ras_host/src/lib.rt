@@ -21,6 +21,6 @@ mod saved;
 
 pub use file_board::FileBoard;
 pub use file_source::FileSource;
-pub use journal::Use;
+pub use journal::{ALONE, READING};
 pub use real_input::RealInput;
 pub use real_system::RealSystem;
