@@ -12,20 +12,20 @@ use crate::faults::count_put;
 use crate::journal::JournalFiles;
 use crate::kept::Kept;
 use crate::listed::{list_access, list_disk_call};
+use crate::uses::Use;
 use board_core::{Access, Board, BoardPut, DiskCall, Failed, FileNo, Reg};
 use erst_store::file_laws;
 use host_system::{Notes, System, counted, print};
 use std::alloc::Global;
-use std::marker::Model;
+use std::marker::{Model, PhantomData};
 
 /// The files `rasd.0`, `rasd.1` and `rasd.store` of the working folder, and standard output, of which
-/// it tells what the system tells. Each call that fails is counted, by its kind. `HOW` is `ALONE` or
-/// `READING`: what the board does with the journal's files.
+/// it tells what the system tells. Each call that fails is counted, by its kind.
 ///
 /// The record store is read at the device's first use, and empty if its file is missing. Each
 /// change of it is brought into its file before the call answers.
 #[derive(Drop)]
-pub struct FileBoard<S: System + Drop, const HOW: u8> {
+pub struct FileBoard<S: System + Drop, U: Use> {
     alloc: Global,
     system: S,
     files: JournalFiles,
@@ -35,9 +35,10 @@ pub struct FileBoard<S: System + Drop, const HOW: u8> {
     print_faults: u64,
     disk_calls: Notes,
     accesses: Notes,
+    used: PhantomData<U>,
 }
 
-impl<S: System + Drop, const HOW: u8> Model for FileBoard<S, HOW> {
+impl<S: System + Drop, U: Use> Model for FileBoard<S, U> {
     ghost use Rattle.std.specs.Prelude.{IfSome};
     ghost use Rattle.ras_host.specs.Blame.{AreCaused};
     ghost use Rattle.ras_host.specs.BoardState.{BoardState};
@@ -64,20 +65,20 @@ impl<S: System + Drop, const HOW: u8> Model for FileBoard<S, HOW> {
     ghost invariant = { λ b. IfSome (S.told b.system) (AreHeld b.files)
         × IfSome (S.told b.system) (IsInStep b.kept)
         × IfSome (S.told b.system) (IsSettledBy b.files b.kept)
-        × AreCaused HOW b.files b.kept (record {
+        × AreCaused U.HOW b.files b.kept (record {
           disk = b.disk_faults;
           registers = b.register_faults;
           prints = b.print_faults;
         }) (S.faults b.system) };
 }
 
-impl<S: System + Drop, const HOW: u8> FileBoard<S, HOW> {
+impl<S: System + Drop, U: Use> FileBoard<S, U> {
     /// The board over a system, with no faults. No file is opened yet.
-    pub fn new(alloc: Global, system: S) -> FileBoard<S, HOW>
+    pub fn new(alloc: Global, system: S) -> FileBoard<S, U>
         requires begins { IfSome (S.told system) MayBegin }
         requires quiet { S.faults system ≡ 0 }
         ensures past { result.past ≡ S.told system }
-        ensures files { result.files ≡ files_for HOW }
+        ensures files { result.files ≡ files_for U.HOW }
         ensures faults { result.faults ≡ record { disk = 0; registers = 0; prints = 0 } }
         ensures unread { result.kept ≡ Kept.Unread }
         ensures unlisted { (result.disk_calls ≡ []) × (result.accesses ≡ []) }
@@ -86,13 +87,14 @@ impl<S: System + Drop, const HOW: u8> FileBoard<S, HOW> {
         FileBoard {
             alloc,
             system,
-            files: JournalFiles::new(HOW),
+            files: JournalFiles::new(U::HOW),
             kept: Kept::Unread,
             disk_faults: 0,
             register_faults: 0,
             print_faults: 0,
             disk_calls: Notes::new(),
             accesses: Notes::new(),
+            used: PhantomData,
         }
     }
 
@@ -100,13 +102,13 @@ impl<S: System + Drop, const HOW: u8> FileBoard<S, HOW> {
     pub fn into_system(self) -> S
         ensures past { S.told result ≡ self.past }
         ensures count { S.faults result ≡ self.count }
-        ensures caused { AreCaused HOW self.files self.kept self.faults self.count }
+        ensures caused { AreCaused U.HOW self.files self.kept self.faults self.count }
     {
         self.system
     }
 }
 
-impl<S: System + Drop, const HOW: u8> Board for FileBoard<S, HOW> {
+impl<S: System + Drop, U: Use> Board for FileBoard<S, U> {
     ghost told = { λ b. told_of b };
 
     ghost clock = { λ b. clock_of b };

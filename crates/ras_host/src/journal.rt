@@ -15,14 +15,6 @@ use host_system::{
 };
 use std::alloc::Global;
 
-/// The kind of a run's board: it reads and writes the journal's files, as the only program that does.
-/// A file that is missing is made.
-pub const ALONE: u8 = 1;
-
-/// The kind of any other board: it reads the files as they stand at the first use, though a run may be
-/// at work on them. A file that is missing is empty.
-pub const READING: u8 = 0;
-
 /// The journal's files, both of which are opened at the first use of one. What was written to a file
 /// before a sync that failed may be gone, though a later one goes well: so it isn't asked again.
 #[derive(Drop)]
@@ -40,12 +32,12 @@ pub enum JournalFiles {
 }
 
 impl JournalFiles {
-    /// Both files, neither of which is opened yet, for a board of this kind.
+    /// Both files, neither of which is opened yet: a run's if the number is 1, and else a report's.
     pub fn new(how: u8) -> JournalFiles
         ensures { result ≡ files_for how }
     {
         match how {
-            ALONE => JournalFiles::Shut,
+            1 => JournalFiles::Shut,
             _ => JournalFiles::Unread,
         }
     }

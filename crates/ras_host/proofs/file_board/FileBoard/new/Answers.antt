@@ -7,8 +7,8 @@ use Rattle.ras_host.proofs.file_board.FileBoard.new.Goals as goal
 
 pub invariant_of-result : goal.invariant_of-result
 invariant_of-result g c = (
-  rw c.new.ensures (held_begun g.row.HOW _ c.requires.begins),
+  rw c.new.ensures (rw c.HOW.ensures (held_begun g.U.Use.HOW _ c.requires.begins)),
   in_step_begun (λ p may. store_kept _ c.file_laws.ensures.store (bytes_named Store p) may.bytes) _ c.requires.begins,
-  rw c.new.ensures (settled_begun g.row.HOW Unread _),
-  rw c.new.ensures (caused_begun g.row.HOW _ c.requires.quiet),
+  rw c.new.ensures (rw c.HOW.ensures (settled_begun g.U.Use.HOW Unread _)),
+  rw c.new.ensures (rw c.HOW.ensures (caused_begun g.U.Use.HOW _ c.requires.quiet)),
 )

@@ -13,7 +13,7 @@ invariant_of-self g c =
       held_printed b.files _ _ keeps c.self.invariant.0,
       in_step_printed b.kept _ _ keeps c.self.invariant.1,
       settled_printed b.files b.kept _ _ keeps c.self.invariant.2,
-      caused_print g.row.HOW b.files b.kept _ _ _ _ c.print.result c.self.invariant.3 r.cause c.counted.ensures.counts,
+      caused_print g.U.Use.HOW b.files b.kept _ _ _ _ c.print.result c.self.invariant.3 r.cause c.counted.ensures.counts,
     )
 
 pub returns-clause-told : goal.returns-clause-told

@@ -66,5 +66,5 @@ invariant_of-self g c =
       held_turned b.files (after_put c.args.id c.args.bytes.now) b.kept r.new.self r.result _ _ turned c.self.invariant.0,
       turned.in_step,
       settled_turned b.files b.kept r.new.self _ _ turned.saved c.self.invariant.2,
-      caused_device g.row.HOW b.files b.kept r.new.self _ _ _ _ (put_failure r.result) c.self.invariant.3 r.ensures.once (put_here c.args.id c.args.bytes.now r.result b.kept r.new.self (put_failure r.result) r.ensures.puts) c.count_put.ensures,
+      caused_device g.U.Use.HOW b.files b.kept r.new.self _ _ _ _ (put_failure r.result) c.self.invariant.3 r.ensures.once (put_here c.args.id c.args.bytes.now r.result b.kept r.new.self (put_failure r.result) r.ensures.puts) c.count_put.ensures,
     )

@@ -49,5 +49,5 @@ invariant_of-self g c =
       held_same b.files _ _ r.ensures.looks.told c.self.invariant.0,
       r.ensures.looks.in_step,
       settled_same b.files b.kept r.new.self _ _ r.ensures.looks.told r.ensures.looks.same c.self.invariant.2,
-      caused_device g.row.HOW b.files b.kept r.new.self _ _ _ _ r.result c.self.invariant.3 r.ensures.once (done_here (λ d. d) b.kept r.new.self r.result r.ensures.looks.does) c.counted.ensures.counts,
+      caused_device g.U.Use.HOW b.files b.kept r.new.self _ _ _ _ r.result c.self.invariant.3 r.ensures.once (done_here (λ d. d) b.kept r.new.self r.result r.ensures.looks.does) c.counted.ensures.counts,
     )

@@ -43,5 +43,5 @@ invariant_of-self g c =
       held_turned b.files (after_range_write c.args.place c.args.bytes.now) b.kept r.new.self r.result _ _ turned c.self.invariant.0,
       turned.in_step,
       settled_turned b.files b.kept r.new.self _ _ turned.saved c.self.invariant.2,
-      caused_device g.row.HOW b.files b.kept r.new.self _ _ _ _ r.result c.self.invariant.3 r.ensures.once (done_here (after_range_write c.args.place c.args.bytes.now) b.kept r.new.self r.result r.ensures.does) c.counted.ensures.counts,
+      caused_device g.U.Use.HOW b.files b.kept r.new.self _ _ _ _ r.result c.self.invariant.3 r.ensures.once (done_here (after_range_write c.args.place c.args.bytes.now) b.kept r.new.self r.result r.ensures.does) c.counted.ensures.counts,
     )

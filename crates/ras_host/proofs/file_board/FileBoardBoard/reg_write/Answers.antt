@@ -53,5 +53,5 @@ invariant_of-self g c =
       held_turned b.files (after_reg_write c.args.reg c.args.value) b.kept r.new.self r.result _ _ turned c.self.invariant.0,
       turned.in_step,
       settled_turned b.files b.kept r.new.self _ _ turned.saved c.self.invariant.2,
-      caused_device g.row.HOW b.files b.kept r.new.self _ _ _ _ r.result c.self.invariant.3 r.ensures.once (done_here (after_reg_write c.args.reg c.args.value) b.kept r.new.self r.result r.ensures.does) c.counted.ensures.counts,
+      caused_device g.U.Use.HOW b.files b.kept r.new.self _ _ _ _ r.result c.self.invariant.3 r.ensures.once (done_here (after_reg_write c.args.reg c.args.value) b.kept r.new.self r.result r.ensures.does) c.counted.ensures.counts,
     )

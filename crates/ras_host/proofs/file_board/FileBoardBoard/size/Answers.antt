@@ -12,5 +12,5 @@ invariant_of-self g c =
       r.ensures.held,
       in_step_moved Same SeesSame b.files r.new.self b.kept _ _ r.ensures.moves (λ p q same. ap (λ (l : Left). l.store) same) c.self.invariant.1,
       settled_moved SeesSame Same b.files r.new.self b.kept _ _ r.ensures.moves c.self.invariant.1 c.self.invariant.2,
-      caused_files g.row.HOW b.files r.new.self b.kept _ _ _ _ r.result c.self.invariant.3 r.ensures.blamed r.ensures.cause c.counted.ensures.counts,
+      caused_files g.U.Use.HOW b.files r.new.self b.kept _ _ _ _ r.result c.self.invariant.3 r.ensures.blamed r.ensures.cause c.counted.ensures.counts,
     )

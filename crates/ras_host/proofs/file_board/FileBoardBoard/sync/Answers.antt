@@ -22,7 +22,7 @@ invariant_of-self g c =
       c.self.invariant.0,
       c.self.invariant.1,
       c.self.invariant.2,
-      caused_unasked g.row.HOW b.files b.kept _ _ _ c.self.invariant.3 (never_saved _ _ c.if-not-is_saved.true c.is_saved.ensures.lost) c.counted.ensures.counts.later,
+      caused_unasked g.U.Use.HOW b.files b.kept _ _ _ c.self.invariant.3 (never_saved _ _ c.if-not-is_saved.true c.is_saved.ensures.lost) c.counted.ensures.counts.later,
     )
 
 pub invariant_of-self-2 : goal.invariant_of-self-2
@@ -32,5 +32,5 @@ invariant_of-self-2 g c =
       r.ensures.held,
       in_step_moved Same SeesSame b.files r.new.self b.kept _ _ r.ensures.moves (λ p q same. ap (λ (l : Left). l.store) same) c.self.invariant.1,
       settled_moved SeesSame Same b.files r.new.self b.kept _ _ r.ensures.moves c.self.invariant.1 c.self.invariant.2,
-      caused_files g.row.HOW b.files r.new.self b.kept _ _ _ _ r.result c.self.invariant.3 r.ensures.blamed r.ensures.cause c.counted-2.ensures.counts,
+      caused_files g.U.Use.HOW b.files r.new.self b.kept _ _ _ _ r.result c.self.invariant.3 r.ensures.blamed r.ensures.cause c.counted-2.ensures.counts,
     )

@@ -22,5 +22,5 @@ invariant_of-self g c =
       r.ensures.held,
       in_step_wrote c.args.file c.args.place c.args.bytes.now (InFile c.args.file (Torn c.args.place count)) r.result b.files r.new.self b.kept _ _ r.ensures.wrote r.ensures.failed c.self.invariant.1,
       settled_wrote (SeesWritten c.args.file c.args.place c.args.bytes.now) (SeesTorn c.args.file c.args.place count) (InFile c.args.file (Torn c.args.place count)) r.result b.files r.new.self b.kept _ _ r.ensures.wrote r.ensures.failed c.self.invariant.1 c.self.invariant.2,
-      caused_files g.row.HOW b.files r.new.self b.kept _ _ _ _ r.result c.self.invariant.3 r.ensures.blamed r.ensures.cause c.counted.ensures.counts,
+      caused_files g.U.Use.HOW b.files r.new.self b.kept _ _ _ _ r.result c.self.invariant.3 r.ensures.blamed r.ensures.cause c.counted.ensures.counts,
     )
