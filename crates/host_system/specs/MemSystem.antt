@@ -1,4 +1,5 @@
--- What a system in memory keeps: what it began with, and what was done, by numbers and bytes.
+-- What a system in memory keeps: what it began with, and what was done, by numbers and bytes; and how
+-- often its calls have failed.
 use Rattle.std.specs.Prelude.{ℕ, zero, suc, List, [], ◌∷◌, Option, None, Vec}
 use Rattle.std.specs.Option.{option_map}
 use Rattle.std.specs.declared.alloc.Global.{Global}
@@ -7,7 +8,7 @@ use Rattle.host_system.specs.declared.left_folder.LeftFolder.{LeftFolder}
 use Rattle.host_system.specs.declared.system.FileName.{FileName}
 use Rattle.host_system.specs.declared.system.FileName.TheVariants.{Journal, Store, New}
 use Rattle.host_system.specs.Folder.{FolderChange, wrote, synced, made, opens, locks, loses, removed, renamed, synced_names, printed, Stopped}
-use Rattle.host_system.specs.FolderPast.{FolderPast}
+use Rattle.host_system.specs.FolderPast.{FolderPast, changed_by}
 
 -- the bytes of a file that may be missing
 abbrev pub items_in : Option (Vec ℕ Global) → Option (List ℕ)
@@ -25,9 +26,20 @@ as_stopped left = record {
 abbrev pub nothing_there : Stopped
 nothing_there = record { zero = None; one = None; store = None; new = None; out = [] }
 
--- a system that begins over these files, with nothing printed
-abbrev pub begun_over : Stopped → FolderPast
-begun_over start = record { first = record start { out = [] }; changes = [] }
+-- what was done to the folder, and how often a call has failed
+pub record MemState : Type 0 where
+  pub past : FolderPast
+  pub faults : ℕ
+
+abbrev pub with_change : FolderChange → MemState → MemState
+with_change change s = record s { past = changed_by change s.past }
+
+abbrev pub faulted_to : ℕ → FolderPast → MemState
+faulted_to count past = record { past = past; faults = count }
+
+-- a system that begins over these files, with nothing printed and no faults
+abbrev pub begun_over : Stopped → MemState
+begun_over start = record { past = record { first = record start { out = [] }; changes = [] }; faults = 0 }
 
 -- ---- what was done, as it is noted
 

@@ -1,5 +1,6 @@
 //! A board's two files, as files of the folder, and its output.
 ghost use Rattle.std.specs.Prelude.{◌≡◌, ◌≤◌, length, IfSome, IfOk, OnOk, OnErr};
+ghost use Rattle.board_core.specs.Cause.{HasCause};
 ghost use Rattle.board_core.specs.Clock.{Passes, Leads};
 ghost use Rattle.board_core.specs.Stop.{Same, InFile, InOut, Begins, Appends, file_in};
 ghost use Rattle.board_core.specs.declared.board.FileNo.{FileNo};
@@ -21,6 +22,7 @@ pub fn open_files<S: System>(system: &mut S) -> Result<(), Failed>
     ensures stops { Passes Same (clock_over (S.told system.old)) (clock_over (S.told system.new)) }
     ensures openable { IfSome (S.told system.new) AreOpenable }
     ensures opened { OnOk result (IfSome (S.told system.new) AreOpened) }
+    ensures cause { HasCause (S.faults system.old) (S.faults system.new) result }
 {
     open_file(FileNo::Zero, system)?;
     open_file(FileNo::One, system)?;
@@ -35,6 +37,7 @@ fn open_file<S: System>(file: FileNo, system: &mut S) -> Result<(), Failed>
     ensures stops { Passes Same (clock_over (S.told system.old)) (clock_over (S.told system.new)) }
     ensures openable { IfSome (S.told system.new) (IsOpenable file) }
     ensures held { OnOk result (IfSome (S.told system.new) (IsHeld file)) }
+    ensures cause { HasCause (S.faults system.old) (S.faults system.new) result }
 {
     open_or_make(file, system)?;
     system.lock(FileName::Journal(file))
@@ -49,6 +52,7 @@ fn open_or_make<S: System>(file: FileNo, system: &mut S) -> Result<(), Failed>
     ensures openable { IfSome (S.told system.new) (IsOpenable file) }
     ensures there { OnOk result (IfSome (S.told system.new) (HasFile (Journal file))) }
     ensures opened { OnOk result (IfSome (S.told system.new) (IsOpen (Journal file))) }
+    ensures cause { HasCause (S.faults system.old) (S.faults system.new) result }
 {
     match system.find(FileName::Journal(file))? {
         Some(_) => system.open(FileName::Journal(file)),
@@ -63,6 +67,7 @@ pub fn sync_names<S: System>(system: &mut S) -> Result<(), Failed>
         (S.told system.new) }
     ensures stops { Passes Same (clock_over (S.told system.old)) (clock_over (S.told system.new)) }
     ensures named { OnOk result (IfSome (S.told system.new) AreNamed) }
+    ensures cause { HasCause (S.faults system.old) (S.faults system.new) result }
 {
     system.sync_names()
 }
@@ -71,7 +76,8 @@ pub fn sync_names<S: System>(system: &mut S) -> Result<(), Failed>
 /// of it.
 pub fn sync_seen<S: System>(file: FileNo, system: &mut S) -> Result<(), Failed>
     requires { IfSome (S.told system.old) (IsReadable file) }
-    ensures { Syncs IsReadable file result (S.told system.old) (S.told system.new) }
+    ensures syncs { Syncs IsReadable file result (S.told system.old) (S.told system.new) }
+    ensures cause { HasCause (S.faults system.old) (S.faults system.new) result }
 {
     system.sync_read(file)
 }
@@ -95,6 +101,7 @@ pub fn write_file<S: System>(
     ensures stops { Passes (InFile file (Torn place (length bytes.now)))
         (clock_over (S.told system.old)) (clock_over (S.told system.new)) }
     ensures usable { IfSome (S.told system.new) (IsUsable file) }
+    ensures cause { HasCause (S.faults system.old) (S.faults system.new) result }
 {
     system.write_at(FileName::Journal(file), place, bytes)
 }
@@ -103,7 +110,8 @@ pub fn write_file<S: System>(
 /// again.
 pub fn sync_file<S: System>(file: FileNo, system: &mut S) -> Result<(), Failed>
     requires { IfSome (S.told system.old) (IsUsable file) }
-    ensures { Syncs IsUsable file result (S.told system.old) (S.told system.new) }
+    ensures syncs { Syncs IsUsable file result (S.told system.old) (S.told system.new) }
+    ensures cause { HasCause (S.faults system.old) (S.faults system.new) result }
 {
     system.sync(FileName::Journal(file))
 }
@@ -114,8 +122,10 @@ pub fn file_size<S: System>(file: FileNo, system: &mut S) -> Result<u64, Failed>
     ensures length { IfOk result (λ n. IfSome (S.told system.old)
         (λ p. n ≡ length (file_in file (seen_now p)))) }
     ensures told { S.told system.new ≡ S.told system.old }
+    ensures cause { HasCause (S.faults system.old) (S.faults system.new) result }
 {
-    system.find(FileName::Journal(file))?.ok_or(Failed)
+    let found = system.find(FileName::Journal(file))?;
+    Ok(found.unwrap_or(0))
 }
 
 /// Reads the bytes from a place on into the front of a buffer and answers their number: fewer than
@@ -131,6 +141,7 @@ pub fn read_file<S: System>(
     ensures read { IfOk result (λ n. IfSome (S.told system.old)
         (λ p. ReadsBytes place n buf.new (file_in file (seen_now p)))) }
     ensures told { S.told system.new ≡ S.told system.old }
+    ensures cause { HasCause (S.faults system.old) (S.faults system.new) result }
 {
     let left = file_size(file, system)?.saturating_sub(place);
     let count = left.min(buf.len() as u64) as usize;
@@ -150,6 +161,7 @@ pub fn print<S: System>(bytes: &[u8], system: &mut S) -> Result<(), Failed>
         (clock_over (S.told system.new)) }
     ensures printed { OnOk result (Leads (InOut (Appends bytes.now))
         (clock_over (S.told system.old)) (clock_over (S.told system.new))) }
+    ensures cause { HasCause (S.faults system.old) (S.faults system.new) result }
 {
     system.print(bytes)
 }

@@ -2,6 +2,7 @@
 #![tactic(auto)]
 
 mod board_file;
+mod faults;
 mod laws;
 mod left_folder;
 mod mem_files;
@@ -13,6 +14,7 @@ mod system;
 pub use board_file::{
     file_size, open_files, print, read_file, sync_file, sync_names, sync_seen, write_file,
 };
+pub use faults::counted;
 pub use laws::system_laws;
 pub use left_folder::{LeftFolder, NamePick, StopPick, WriteLeft};
 pub use mem_system::{Effect, MemSystem};

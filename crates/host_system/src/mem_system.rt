@@ -1,11 +1,13 @@
 //! A system in memory.
 ghost use Rattle.std.specs.Prelude.{◌≡◌, ◌+◌, ◌^◌, ◌<◌, ◌≤◌, [], ◌∷◌, ◌++◌, length, Some, IfSome, IfOk, OnOk, OnErr};
+ghost use Rattle.board_core.specs.Cause.{HasCause};
 ghost use Rattle.host_system.specs.Folder.{MayLeaveFolder, settled_folder, made, removed, renamed, synced, loses, wrote, printed};
 ghost use Rattle.host_system.specs.FolderPast.{MayLeaveFolderSince, HasFile, MayWrite, MayPrint, changed_by, file_bytes, folder_of};
-ghost use Rattle.host_system.specs.MemSystem.{as_stopped, nothing_there, begun_over};
+ghost use Rattle.host_system.specs.MemSystem.{as_stopped, nothing_there, begun_over, with_change};
 ghost use Rattle.host_system.specs.Steps.Kept.{IsCopied};
 ghost use Rattle.host_system.specs.Steps.MemFiles.{number_of};
 
+use crate::faults::counted;
 use crate::left_folder::{LeftFolder, StopPick, left_of_folder};
 use crate::mem_files::{MemEntry, MemFile, MemFiles};
 use crate::notes::Notes;
@@ -30,6 +32,7 @@ pub struct MemSystem {
     stop: u64,
     kept: Kept,
     notes: Notes,
+    faults: u64,
 }
 
 /// What there was before a call.
@@ -64,13 +67,15 @@ pub enum Effect {
 }
 
 impl Model for MemSystem {
-    ghost use Rattle.host_system.specs.FolderPast.{FolderPast};
-    ghost use Rattle.host_system.specs.MemSystem.{as_stopped, past_noted};
+    ghost use Rattle.host_system.specs.MemSystem.{MemState, as_stopped, past_noted};
     ghost use Rattle.host_system.specs.Steps.Kept.{Holds};
 
-    ghost Value = { FolderPast };
+    ghost Value = { MemState };
 
-    ghost view = { λ s. past_noted (as_stopped s.first) s.notes.calls };
+    ghost view = { λ s. record {
+      past = past_noted (as_stopped s.first) s.notes.calls;
+      faults = s.faults;
+    } };
 
     ghost invariant = { λ s.
         Holds (past_noted (as_stopped s.first) s.notes.calls) s.files s.out.items s.kept };
@@ -149,6 +154,7 @@ impl MemSystem {
             stop: 0,
             kept: Kept::Nothing,
             notes: Notes::new(),
+            faults: 0,
         }
     }
 
@@ -163,7 +169,7 @@ impl MemSystem {
 
     /// What a stop now leaves, by this choice.
     pub fn left(&self, pick: &StopPick) -> Result<LeftFolder, NoMemory>
-        ensures { IfOk result (λ left. MayLeaveFolder (folder_of self.now) (as_stopped left)) }
+        ensures { IfOk result (λ left. MayLeaveFolder (folder_of self.now.past) (as_stopped left)) }
     {
         left_of_folder(self.alloc, &self.files, &self.out, pick)
     }
@@ -179,7 +185,7 @@ impl MemSystem {
     /// What a stop at the chosen moment left, by this choice: none if it hasn't come.
     pub fn left_before(&self, pick: &StopPick) -> Result<Option<LeftFolder>, NoMemory>
         ensures { IfOk result (λ found. IfSome found (λ left.
-            MayLeaveFolderSince (settled_folder self.now.first) self.now.changes 0
+            MayLeaveFolderSince (settled_folder self.now.past.first) self.now.past.changes 0
             (as_stopped left))) }
     {
         match &self.kept {
@@ -223,16 +229,18 @@ impl MemSystem {
 
     // Counts a call, and fails if it was chosen to.
     fn begin(&mut self) -> Result<(), Failed>
-        ensures { self.new ≡ self.old }
+        ensures past { self.new.past ≡ self.old.past }
+        ensures cause { HasCause self.old.faults self.new.faults result }
     {
-        match self.fault() {
+        let answer = match self.fault() {
             Some(_) => Err(Failed),
             None => Ok(()),
-        }
+        };
+        counted(answer, &mut self.faults)
     }
 
     fn make_file(&mut self, name: FileName) -> Result<(), Failed>
-        ensures ok { OnOk result (self.new ≡ changed_by (made name) self.old) }
+        ensures ok { OnOk result (self.new ≡ with_change (made name) self.old) }
         ensures err { OnErr result (self.new ≡ self.old) }
     {
         let file = MemFile::empty(self.alloc);
@@ -244,7 +252,7 @@ impl MemSystem {
     }
 
     fn remove_file(&mut self, name: FileName) -> Result<(), Failed>
-        ensures ok { OnOk result (self.new ≡ changed_by (removed name) self.old) }
+        ensures ok { OnOk result (self.new ≡ with_change (removed name) self.old) }
         ensures err { OnErr result (self.new ≡ self.old) }
     {
         let Ok(()) = self.files.renew(name, None) else {
@@ -255,7 +263,7 @@ impl MemSystem {
     }
 
     fn rename_file(&mut self) -> Result<(), Failed>
-        ensures ok { OnOk result (self.new ≡ changed_by renamed self.old) }
+        ensures ok { OnOk result (self.new ≡ with_change renamed self.old) }
         ensures err { OnErr result (self.new ≡ self.old) }
     {
         let Ok(()) = self.files.rename(self.alloc) else {
@@ -267,8 +275,9 @@ impl MemSystem {
 
     // Brings a file to the disk, or loses it if the call fails.
     fn sync_file(&mut self, name: FileName) -> Result<(), Failed>
-        ensures ok { OnOk result (self.new ≡ changed_by (synced name) self.old) }
-        ensures err { OnErr result (self.new ≡ changed_by (loses name) self.old) }
+        ensures ok { OnOk result (self.new.past ≡ changed_by (synced name) self.old.past) }
+        ensures err { OnErr result (self.new.past ≡ changed_by (loses name) self.old.past) }
+        ensures cause { HasCause self.old.faults self.new.faults result }
     {
         if self.begin().is_err() {
             note(&mut self.notes, 5, name, 0, 0, &[]);
@@ -287,10 +296,10 @@ impl MemSystem {
         bytes: &[u8],
         missing: u64,
     ) -> Result<(), Failed>
-        requires there { HasFile name self.old }
-        requires within { place ≤ length (file_bytes name self.old) }
+        requires there { HasFile name self.old.past }
+        requires within { place ≤ length (file_bytes name self.old.past) }
         requires fits { length bytes.now + missing < 2 ^ 64 }
-        ensures ok { OnOk result (self.new ≡ changed_by
+        ensures ok { OnOk result (self.new ≡ with_change
             (wrote name place (length bytes.now + missing) bytes.now) self.old) }
         ensures err { OnErr result (self.new ≡ self.old) }
     {
@@ -310,9 +319,10 @@ impl MemSystem {
         place: u64,
         bytes: &[u8],
     ) -> Result<(), Failed>
-        requires there { HasFile name self.old }
-        requires within { place ≤ length (file_bytes name self.old) }
-        ensures { MayWrite name place (length bytes.now) self.old self.new }
+        requires there { HasFile name self.old.past }
+        requires within { place ≤ length (file_bytes name self.old.past) }
+        ensures may { MayWrite name place (length bytes.now) self.old.past self.new.past }
+        ensures faults { self.new.faults ≡ self.old.faults }
     {
         match effect {
             Effect::Nothing => Ok(()),
@@ -333,8 +343,8 @@ impl MemSystem {
 
     // Appends to the output. If memory runs out, nothing is appended.
     fn append(&mut self, bytes: &[u8]) -> Result<(), Failed>
-        ensures ok { OnOk result (self.new ≡ changed_by (printed bytes.now) self.old) }
-        ensures err { OnErr result (self.new ≡ changed_by (printed []) self.old) }
+        ensures ok { OnOk result (self.new ≡ with_change (printed bytes.now) self.old) }
+        ensures err { OnErr result (self.new ≡ with_change (printed []) self.old) }
     {
         if self.out.extend_from_slice(bytes).is_err() {
             note(&mut self.notes, 9, FileName::New, 0, 0, &[]);
@@ -346,7 +356,8 @@ impl MemSystem {
 
     // A print that fails.
     fn print_badly(&mut self, effect: Effect, bytes: &[u8]) -> Result<(), Failed>
-        ensures { MayPrint bytes.now self.old self.new }
+        ensures may { MayPrint bytes.now self.old.past self.new.past }
+        ensures faults { self.new.faults ≡ self.old.faults }
     {
         match effect {
             Effect::Nothing | Effect::Other(_) => self.append(&[]),
@@ -360,7 +371,9 @@ impl MemSystem {
 }
 
 impl System for MemSystem {
-    ghost told = { λ s. Some s };
+    ghost told = { λ s. Some s.past };
+
+    ghost faults = { λ s. s.faults };
 
     fn find(&mut self, name: FileName) -> Result<Option<u64>, Failed> {
         self.begin()?;
@@ -374,14 +387,12 @@ impl System for MemSystem {
     }
 
     fn make(&mut self, name: FileName) -> Result<(), Failed> {
-        match self.fault() {
+        let answer = match self.fault() {
             None => self.make_file(name),
-            Some(Effect::All) => {
-                self.make_file(name)?;
-                Err(Failed)
-            }
+            Some(Effect::All) => self.make_file(name).and(Err(Failed)),
             Some(_) => Err(Failed),
-        }
+        };
+        counted(answer, &mut self.faults)
     }
 
     fn lock(&mut self, name: FileName) -> Result<(), Failed> {
@@ -392,10 +403,8 @@ impl System for MemSystem {
 
     fn read(&mut self, name: FileName, most: u64) -> Result<Option<Vec<u8>>, Failed> {
         self.begin()?;
-        let Ok(front) = self.files.get(name).front(self.alloc, most) else {
-            return Err(Failed);
-        };
-        Ok(front)
+        let answer = self.files.get(name).front(self.alloc, most);
+        counted(answer, &mut self.faults)
     }
 
     fn read_at(&mut self, name: FileName, place: u64, buf: &mut [u8]) -> Result<(), Failed> {
@@ -407,13 +416,13 @@ impl System for MemSystem {
     }
 
     fn write_at(&mut self, name: FileName, place: u64, bytes: &[u8]) -> Result<(), Failed> {
-        match self.fault() {
+        let answer = match self.fault() {
             None => self.write(name, place, bytes, 0),
-            Some(effect) => {
-                self.write_badly(effect, name, place, bytes)?;
-                Err(Failed)
-            }
-        }
+            Some(effect) => self
+                .write_badly(effect, name, place, bytes)
+                .and(Err(Failed)),
+        };
+        counted(answer, &mut self.faults)
     }
 
     fn sync(&mut self, name: FileName) -> Result<(), Failed> {
@@ -425,25 +434,21 @@ impl System for MemSystem {
     }
 
     fn remove(&mut self, name: FileName) -> Result<(), Failed> {
-        match self.fault() {
+        let answer = match self.fault() {
             None => self.remove_file(name),
-            Some(Effect::All) => {
-                self.remove_file(name)?;
-                Err(Failed)
-            }
+            Some(Effect::All) => self.remove_file(name).and(Err(Failed)),
             Some(_) => Err(Failed),
-        }
+        };
+        counted(answer, &mut self.faults)
     }
 
     fn rename(&mut self) -> Result<(), Failed> {
-        match self.fault() {
+        let answer = match self.fault() {
             None => self.rename_file(),
-            Some(Effect::All) => {
-                self.rename_file()?;
-                Err(Failed)
-            }
+            Some(Effect::All) => self.rename_file().and(Err(Failed)),
             Some(_) => Err(Failed),
-        }
+        };
+        counted(answer, &mut self.faults)
     }
 
     fn sync_names(&mut self) -> Result<(), Failed> {
@@ -454,12 +459,10 @@ impl System for MemSystem {
     }
 
     fn print(&mut self, bytes: &[u8]) -> Result<(), Failed> {
-        match self.fault() {
+        let answer = match self.fault() {
             None => self.append(bytes),
-            Some(effect) => {
-                self.print_badly(effect, bytes)?;
-                Err(Failed)
-            }
-        }
+            Some(effect) => self.print_badly(effect, bytes).and(Err(Failed)),
+        };
+        counted(answer, &mut self.faults)
     }
 }

@@ -1,5 +1,6 @@
 //! The record store's file.
 ghost use Rattle.std.specs.Prelude.{IfSome, OnOk};
+ghost use Rattle.board_core.specs.Cause.{HasCause};
 ghost use Rattle.host_system.specs.Folder.{settled_file_of};
 ghost use Rattle.host_system.specs.FolderPast.{IsMissing};
 ghost use Rattle.host_system.specs.Steps.Quiet.{Quiet, HasNew};
@@ -14,7 +15,8 @@ use board_core::Failed;
 /// bytes, and all else as it was. Once it has answered `Ok` it is these bytes, and on the disk;
 /// after `Failed` it is the old store or the new one.
 pub fn replace_store<S: System>(bytes: &[u8], system: &mut S) -> Result<(), Failed>
-    ensures { Replaces bytes.now result (S.told system.old) (S.told system.new) }
+    ensures replaces { Replaces bytes.now result (S.told system.old) (S.told system.new) }
+    ensures cause { HasCause (S.faults system.old) (S.faults system.new) result }
 {
     write_new(bytes, system)?;
     system.rename()?;
@@ -26,6 +28,7 @@ fn write_new<S: System>(bytes: &[u8], system: &mut S) -> Result<(), Failed>
     ensures quiet { Quiet (S.told system.old) (S.told system.new) }
     ensures new { OnOk result
         (IfSome (S.told system.new) (HasNew (settled_file_of bytes.now))) }
+    ensures cause { HasCause (S.faults system.old) (S.faults system.new) result }
 {
     clear_new(system)?;
     system.make(FileName::New)?;
@@ -37,6 +40,7 @@ fn write_new<S: System>(bytes: &[u8], system: &mut S) -> Result<(), Failed>
 fn clear_new<S: System>(system: &mut S) -> Result<(), Failed>
     ensures quiet { Quiet (S.told system.old) (S.told system.new) }
     ensures missing { OnOk result (IfSome (S.told system.new) (IsMissing FileName.New)) }
+    ensures cause { HasCause (S.faults system.old) (S.faults system.new) result }
 {
     match system.find(FileName::New)? {
         Some(_) => system.remove(FileName::New),

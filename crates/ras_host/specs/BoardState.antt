@@ -6,11 +6,13 @@ use Rattle.ras_host.specs.declared.journal.JournalFiles.{JournalFiles}
 use Rattle.ras_host.specs.declared.kept.Kept.{Kept}
 
 -- what was done to the folder, where the system tells it; the journal's files and the device as the
--- board has them; how often its calls have failed; the calls that it lists, as they are noted
+-- board has them; how often its calls have failed, and how often the system's; the calls that it
+-- lists, as they are noted
 pub record BoardState : Type 0 where
   pub past : Option FolderPast
   pub files : JournalFiles
   pub kept : Kept
   pub faults : Faults
+  pub count : ℕ
   pub disk_calls : List (List ℕ × List ℕ)
   pub accesses : List (List ℕ × List ℕ)

@@ -1,5 +1,5 @@
 -- What a call does to the journal's files, and to a folder that they lie in.
-use Rattle.std.specs.Prelude.{◌≡◌, ℕ, ◌⊎◌, List, length, take, Bool, IsTrue, Option}
+use Rattle.std.specs.Prelude.{◌≡◌, ℕ, ◌⊎◌, List, length, take, Bool, IsTrue, Option, ◌==◌, if◌then◌else◌}
 use Rattle.board_core.specs.Clock.{Passes}
 use Rattle.board_core.specs.Stop.{Left}
 use Rattle.board_core.specs.declared.board.FileNo.{FileNo}
@@ -7,8 +7,6 @@ use Rattle.board_core.specs.declared.board.FileNo.TheVariants.{Zero, One}
 use Rattle.host_system.specs.BoardFile.{AreOpenable, IsReadable, IsUsable, KeepsStore}
 use Rattle.host_system.specs.FolderPast.{FolderPast, IfTold}
 use Rattle.host_system.specs.View.{HasSettledStore, HasWholeStore, clock_over, seen_now}
-use Rattle.ras_host.specs.declared.journal.Use.{Use}
-use Rattle.ras_host.specs.declared.journal.Use.TheVariants.{Alone, Reading}
 use Rattle.ras_host.specs.declared.journal.JournalFiles.{JournalFiles}
 use Rattle.ras_host.specs.declared.journal.JournalFiles.TheVariants.{Shut, Open, Unread, Seen}
 use Rattle.ras_host.specs.declared.reading.Pair.{Pair}
@@ -23,9 +21,10 @@ abbrev pub with_part : {T : Type 0} → FileNo → T → Pair T → Pair T
 with_part Zero part pair = record pair { zero = part }
 with_part One part pair = record pair { one = part }
 
-abbrev pub files_for : Use → JournalFiles
-files_for Alone = Shut
-files_for Reading = Unread
+-- the files of a board before their first use, by its kind: those of a run, of which the kind is 1, or
+-- a report's
+abbrev pub files_for : ℕ → JournalFiles
+files_for how = if how == 1 then Shut else Unread
 
 -- How many bytes of a journal file are read at most: one more than the longest has.
 abbrev pub most_read : ℕ

@@ -2,6 +2,7 @@
 pub mod BoardLaws
 pub mod KeptDevice
 pub mod Listed
+pub mod Once
 pub mod Settled
 pub mod Telling
 pub mod Written

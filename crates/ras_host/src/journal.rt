@@ -5,6 +5,7 @@ ghost use Rattle.board_core.specs.Stop.{Same, InFile, file_in};
 ghost use Rattle.board_core.specs.Told.{ReadsBytes, Torn};
 ghost use Rattle.host_system.specs.BoardFile.{SeesSame, SeesWritten, SeesTorn};
 ghost use Rattle.host_system.specs.View.{clock_over, seen_now};
+ghost use Rattle.ras_host.specs.Blame.{AreBlamed, AreUsed, FilesCause};
 ghost use Rattle.ras_host.specs.JournalFiles.{AreHeld, IsOneSound, Moves, files_for};
 
 use crate::reading::{Pair, ReadFile, read_journal};
@@ -13,16 +14,6 @@ use host_system::{
     System, file_size, open_files, read_file, sync_file, sync_names, sync_seen, write_file,
 };
 use std::alloc::Global;
-
-/// What a board is to do with the journal's files.
-#[derive(Clone, Copy, Debug, PartialEq, Eq)]
-pub enum Use {
-    /// Read and write them, as the only program that does. A file that is missing is made.
-    Alone,
-    /// Read them as they stand at the first use, though a run may be at work on them. A file that
-    /// is missing is empty.
-    Reading,
-}
 
 /// The journal's files, both of which are opened at the first use of one. What was written to a file
 /// before a sync that failed may be gone, though a later one goes well: so it isn't asked again.
@@ -41,13 +32,13 @@ pub enum JournalFiles {
 }
 
 impl JournalFiles {
-    /// Both files, neither of which is opened yet.
-    pub fn new(how: Use) -> JournalFiles
+    /// Both files, neither of which is opened yet: a run's if the number is 1, and else a report's.
+    pub fn new(how: u8) -> JournalFiles
         ensures { result ≡ files_for how }
     {
         match how {
-            Use::Alone => JournalFiles::Shut,
-            Use::Reading => JournalFiles::Unread,
+            1 => JournalFiles::Shut,
+            _ => JournalFiles::Unread,
         }
     }
 
@@ -58,12 +49,16 @@ impl JournalFiles {
         file: FileNo,
         system: &mut S,
     ) -> Result<u64, Failed>
-        requires { IfSome (S.told system.old) (AreHeld self.old) }
+        requires held { IfSome (S.told system.old) (AreHeld self.old) }
+        requires blamed { AreBlamed self.old (S.faults system.old) }
         ensures moves { Moves SeesSame Same self.old self.new (S.told system.old)
             (S.told system.new) }
         ensures held { IfSome (S.told system.new) (AreHeld self.new) }
         ensures length { IfOk result (λ n. IfSome (S.told system.old)
             (λ p. n ≡ length (file_in file (seen_now p)))) }
+        ensures blamed { AreBlamed self.new (S.faults system.new) }
+        ensures cause { FilesCause self.old self.new (S.faults system.old) (S.faults system.new)
+            result }
     {
         self.open(alloc, system)?;
         match self {
@@ -83,13 +78,17 @@ impl JournalFiles {
         buf: &mut [u8],
         system: &mut S,
     ) -> Result<usize, Failed>
-        requires { IfSome (S.told system.old) (AreHeld self.old) }
+        requires held { IfSome (S.told system.old) (AreHeld self.old) }
+        requires blamed { AreBlamed self.old (S.faults system.old) }
         ensures moves { Moves SeesSame Same self.old self.new (S.told system.old)
             (S.told system.new) }
         ensures held { IfSome (S.told system.new) (AreHeld self.new) }
         ensures within { IfOk result (λ n. n ≤ length buf.old) }
         ensures read { IfOk result (λ n. IfSome (S.told system.old)
             (λ p. ReadsBytes place n buf.new (file_in file (seen_now p)))) }
+        ensures blamed { AreBlamed self.new (S.faults system.new) }
+        ensures cause { FilesCause self.old self.new (S.faults system.old) (S.faults system.new)
+            result }
     {
         self.open(alloc, system)?;
         match self {
@@ -109,6 +108,7 @@ impl JournalFiles {
         system: &mut S,
     ) -> Result<(), Failed>
         requires held { IfSome (S.told system.old) (AreHeld self.old) }
+        requires blamed { AreBlamed self.old (S.faults system.old) }
         requires within { IfSome (S.told system.old)
             (λ p. place ≤ length (file_in file (seen_now p))) }
         ensures wrote { OnOk result (Moves (SeesWritten file place bytes.now)
@@ -118,6 +118,9 @@ impl JournalFiles {
             (InFile file (Torn place (length bytes.now))) self.old self.new
             (S.told system.old) (S.told system.new)) }
         ensures held { IfSome (S.told system.new) (AreHeld self.new) }
+        ensures blamed { AreBlamed self.new (S.faults system.new) }
+        ensures cause { FilesCause self.old self.new (S.faults system.old) (S.faults system.new)
+            result }
     {
         self.open(alloc, system)?;
         match self {
@@ -133,13 +136,17 @@ impl JournalFiles {
         file: FileNo,
         system: &mut S,
     ) -> Result<(), Failed>
-        requires { IfSome (S.told system.old) (AreHeld self.old) }
+        requires held { IfSome (S.told system.old) (AreHeld self.old) }
+        requires blamed { AreBlamed self.old (S.faults system.old) }
         ensures moves { Moves SeesSame Same self.old self.new (S.told system.old)
             (S.told system.new) }
         ensures held { IfSome (S.told system.new) (AreHeld self.new) }
         ensures synced { OnOk result (IfSome (S.told system.old)
             (λ p. IsSynced file (file_in file (seen_now p)) (clock_over (S.told system.new)))) }
         ensures sound { OnOk result (IsOneSound self.new) }
+        ensures blamed { AreBlamed self.new (S.faults system.new) }
+        ensures cause { FilesCause self.old self.new (S.faults system.old) (S.faults system.new)
+            result }
     {
         self.open(alloc, system)?;
         match self {
@@ -159,10 +166,15 @@ impl JournalFiles {
 
     // Opens or reads both files if that isn't done.
     fn open<S: System>(&mut self, alloc: Global, system: &mut S) -> Result<(), Failed>
-        requires { IfSome (S.told system.old) (AreHeld self.old) }
+        requires held { IfSome (S.told system.old) (AreHeld self.old) }
+        requires blamed { AreBlamed self.old (S.faults system.old) }
         ensures moves { Moves SeesSame Same self.old self.new (S.told system.old)
             (S.told system.new) }
         ensures held { IfSome (S.told system.new) (AreHeld self.new) }
+        ensures used { OnOk result (AreUsed self.new) }
+        ensures blamed { AreBlamed self.new (S.faults system.new) }
+        ensures cause { FilesCause self.old self.new (S.faults system.old) (S.faults system.new)
+            result }
     {
         match self {
             JournalFiles::Shut => {
@@ -173,9 +185,10 @@ impl JournalFiles {
             }
             JournalFiles::Unread => {
                 let files = read_journal(alloc, system)?;
-                let is_sound = sync_names(system).is_ok();
+                let answer = sync_names(system);
+                let is_sound = answer.is_ok();
                 *self = JournalFiles::Seen(files, both(is_sound));
-                Ok(())
+                answer
             }
             JournalFiles::Open(_) | JournalFiles::Seen(..) => Ok(()),
         }

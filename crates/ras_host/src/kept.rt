@@ -7,6 +7,7 @@ ghost use Rattle.erst_store.specs.Device.{Device, act, with_put};
 ghost use Rattle.erst_store.specs.DeviceLaws.{IsDevice, MayChange};
 ghost use Rattle.erst_store.specs.Store.{AnswersRefusal, refusal_of};
 ghost use Rattle.host_system.specs.View.{HasWholeStore, seen_now};
+ghost use Rattle.ras_host.specs.Steps.Once.{CountsOnce};
 ghost use Rattle.ras_host.specs.Steps.KeptDevice.{Acts, Does, IfRefused, IsHere, IsInStep, IsSaved, IsThere, IsUsed, Keeps, KeepsOrLoses, Looks, Puts, Stays, Turned, after_answer, device_in};
 ghost use Rattle.ras_host.specs.Steps.Written.{Writes};
 
@@ -44,6 +45,7 @@ impl Kept {
         ensures told { S.told system.new ≡ S.told system.old }
         ensures lost { OnErr result (IfSome (S.told system.old) (Keeps self.old self.new)) }
         ensures in_step { OnErr result (IfSome (S.told system.new) (IsInStep self.new)) }
+        ensures once { CountsOnce (S.faults system.old) (S.faults system.new) result }
     {
         match replace(self, Kept::Unreadable) {
             Kept::Here(saved) => Ok(saved),
@@ -57,7 +59,8 @@ impl Kept {
 
     /// Whether each change of the device came into the store's file.
     pub fn is_saved(&self) -> bool
-        ensures { IsTrue result → IsSaved self.now }
+        ensures saved { IsTrue result → IsSaved self.now }
+        ensures lost { IsSaved self.now → IsTrue result }
     {
         !matches!(self, Kept::Lost { .. })
     }
@@ -83,6 +86,7 @@ impl Kept {
             (λ p. n ≡ register_in reg (device_in self.old p))) }
         ensures reads { IfOk result (λ n. (d : Device) → IsHere self.new d → n ≡ register_in reg d) }
         ensures looks { Looks self.old self.new result (S.told system.old) (S.told system.new) }
+        ensures once { CountsOnce (S.faults system.old) (S.faults system.new) result }
     {
         let saved = self.take(alloc, system)?;
         let number = register_of(reg, &saved.device);
@@ -103,6 +107,7 @@ impl Kept {
         ensures turned { Turned (after_reg_write reg value) self.old self.new result
             (S.told system.old) (S.told system.new) }
         ensures does { OnOk result (Does (after_reg_write reg value) self.old self.new) }
+        ensures once { CountsOnce (S.faults system.old) (S.faults system.new) result }
     {
         let saved = self.take(alloc, system)?;
         match reg {
@@ -146,6 +151,7 @@ impl Kept {
         ensures turned { Turned (act action) (Kept.Here saved) self.new result
             (S.told system.old) (S.told system.new) }
         ensures here { OnOk result (IsHere self.new (act action saved.device)) }
+        ensures once { CountsOnce (S.faults system.old) (S.faults system.new) result }
     {
         file_laws();
         let Ok(before) = saved.device.without_store(alloc) else {
@@ -184,6 +190,7 @@ impl Kept {
         ensures writes { Writes had.now saved.file.items result (S.told system.old)
             (S.told system.new) }
         ensures kept { KeepsOrLoses result before saved self.new }
+        ensures once { CountsOnce (S.faults system.old) (S.faults system.new) result }
     {
         if write_store(had, &saved.file, system).is_err() {
             *self = Kept::Lost {
@@ -211,6 +218,7 @@ impl Kept {
         ensures copies { OnOk result ((d : Device) → IsHere self.new d
             → buf.new ≡ take (length buf.old) (drop place d.range)) }
         ensures looks { Looks self.old self.new result (S.told system.old) (S.told system.new) }
+        ensures once { CountsOnce (S.faults system.old) (S.faults system.new) result }
     {
         let saved = self.take(alloc, system)?;
         saved.device.range_read(place, buf);
@@ -233,6 +241,7 @@ impl Kept {
         ensures does { OnOk result (Does (after_range_write place bytes.now) self.old self.new) }
         ensures answers { IsThere self.old → IsOk result }
         ensures told { S.told system.new ≡ S.told system.old }
+        ensures once { CountsOnce (S.faults system.old) (S.faults system.new) result }
     {
         let mut saved = self.take(alloc, system)?;
         saved.device.range_write(place, bytes);
@@ -258,6 +267,7 @@ impl Kept {
             (λ p. AnswersPut result (refusal_of id bytes.now (seen_now p).store)) }
         ensures refused { IfRefused result (Stays self.old self.new (S.told system.old)
             (S.told system.new)) }
+        ensures once { CountsOnce (S.faults system.old) (S.faults system.new) (put_failure result) }
     {
         match self.take(alloc, system) {
             Ok(saved) => self.put_into(alloc, saved, id, bytes, system),
@@ -282,6 +292,7 @@ impl Kept {
             (IsHere self.new (after_answer id bytes.now result saved.device)) }
         ensures refused { IfRefused result (Stays (Kept.Here saved) self.new (S.told system.old)
             (S.told system.new)) }
+        ensures once { CountsOnce (S.faults system.old) (S.faults system.new) (put_failure result) }
     {
         file_laws();
         let Saved { mut device, file } = saved;

@@ -18,9 +18,10 @@ mod reading;
 mod real_input;
 mod real_system;
 mod saved;
+mod uses;
 
 pub use file_board::FileBoard;
 pub use file_source::FileSource;
-pub use journal::Use;
 pub use real_input::RealInput;
 pub use real_system::RealSystem;
+pub use uses::{Alone, Reading, Use};

@@ -4,6 +4,7 @@ ghost use Rattle.board_core.specs.Stop.{file_in};
 ghost use Rattle.board_core.specs.Told.{ReadsBytes};
 ghost use Rattle.host_system.specs.BoardFile.{AreOpenable, IsOpenable};
 ghost use Rattle.host_system.specs.View.{seen_now};
+ghost use Rattle.ras_host.specs.Steps.Once.{CountsOnce};
 ghost use Rattle.ras_host.specs.JournalFiles.{AreRead, IsRead, most_read, part_of, with_part};
 
 use board_core::{Failed, FileNo};
@@ -93,6 +94,7 @@ pub(crate) fn read_journal<S: System>(
     requires { IfSome (S.told system.old) AreOpenable }
     ensures read { IfOk result (λ files. IfSome (S.told system.old) (AreRead files)) }
     ensures told { S.told system.new ≡ S.told system.old }
+    ensures once { CountsOnce (S.faults system.old) (S.faults system.new) result }
 {
     for _ in 0..MOST_READINGS {
         let zero = read_first(alloc, FileNo::Zero, MOST_READ, system)?;
@@ -119,6 +121,7 @@ fn read_first<S: System>(
     ensures read { IfOk result (λ bytes. IfSome (S.told system.old)
         (λ p. bytes.items ≡ take most (file_in file (seen_now p)))) }
     ensures told { S.told system.new ≡ S.told system.old }
+    ensures once { CountsOnce (S.faults system.old) (S.faults system.new) result }
 {
     let found = system.read(FileName::Journal(file), most)?;
     Ok(found.unwrap_or(Vec::new(alloc)))
@@ -131,6 +134,7 @@ fn with_length<S: System>(file: FileNo, bytes: Vec<u8>, system: &mut S) -> Resul
     ensures read { IfOk result (λ read. IfSome (S.told system.old)
         (λ p. IsRead read (file_in file (seen_now p)))) }
     ensures told { S.told system.new ≡ S.told system.old }
+    ensures once { CountsOnce (S.faults system.old) (S.faults system.new) result }
 {
     let length = bytes.len() as u64;
     if length < MOST_READ {

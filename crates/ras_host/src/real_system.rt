@@ -1,5 +1,6 @@
 //! The working folder and standard output of the process. Each method makes the one call that its
-//! name says, and looks at names as the module `names` does; no clause speaks of it.
+//! name says, and looks at names as the module `names` does. Of what that does no clause speaks: they
+//! say that a call which fails is counted.
 //!
 //! The library's calls on a whole file, `read_exact_at` and `write_all_at` go on after a short read
 //! or write, and make a call again that a signal interrupted.
@@ -7,7 +8,7 @@ ghost use Rattle.std.specs.Prelude.{◌≡◌, [], None, replicate};
 
 use crate::names::{check_names, is_there, look, number, open_linked, open_to_read, path};
 use board_core::{Failed, FileNo};
-use host_system::{FileName, System};
+use host_system::{FileName, System, counted};
 use std::fs::{File, OpenOptions, remove_file, rename};
 use std::io;
 use std::io::{ErrorKind, Read, Write};
@@ -31,6 +32,90 @@ const LEFT: &str = "rasd.left";
 /// The working folder and standard output of the process, which tell nothing.
 #[derive(Drop)]
 pub struct RealSystem {
+    calls: Calls,
+    faults: u64,
+}
+
+impl RealSystem {
+    /// The process's folder and output, with no file open and no faults.
+    pub fn new(rt: HostRuntime) -> RealSystem
+        ensures process { result.calls.rt ≡ rt }
+        ensures shut { result.calls.files ≡ replicate 4 None }
+        ensures unlinked { result.calls.linked.items ≡ [] }
+        ensures quiet { result.faults ≡ 0 }
+    {
+        let calls = Calls {
+            rt,
+            files: [None, None, None, None],
+            lengths: [0, 0, 0, 0],
+            linked: Vec::new(rt.alloc()),
+        };
+        RealSystem { calls, faults: 0 }
+    }
+}
+
+// Each call, and its fault counted if it failed.
+impl System for RealSystem {
+    ghost told = { λ _. None };
+
+    ghost faults = { λ s. s.faults };
+
+    fn find(&mut self, name: FileName) -> Result<Option<u64>, Failed> {
+        counted(self.calls.find(name), &mut self.faults)
+    }
+
+    fn open(&mut self, name: FileName) -> Result<(), Failed> {
+        counted(self.calls.open(name), &mut self.faults)
+    }
+
+    fn make(&mut self, name: FileName) -> Result<(), Failed> {
+        counted(self.calls.make(name), &mut self.faults)
+    }
+
+    fn lock(&mut self, name: FileName) -> Result<(), Failed> {
+        counted(self.calls.lock(name), &mut self.faults)
+    }
+
+    fn read(&mut self, name: FileName, most: u64) -> Result<Option<Vec<u8>>, Failed> {
+        counted(self.calls.read(name, most), &mut self.faults)
+    }
+
+    fn read_at(&mut self, name: FileName, place: u64, buf: &mut [u8]) -> Result<(), Failed> {
+        counted(self.calls.read_at(name, place, buf), &mut self.faults)
+    }
+
+    fn write_at(&mut self, name: FileName, place: u64, bytes: &[u8]) -> Result<(), Failed> {
+        counted(self.calls.write_at(name, place, bytes), &mut self.faults)
+    }
+
+    fn sync(&mut self, name: FileName) -> Result<(), Failed> {
+        counted(self.calls.sync(name), &mut self.faults)
+    }
+
+    fn sync_read(&mut self, file: FileNo) -> Result<(), Failed> {
+        counted(self.calls.sync_read(file), &mut self.faults)
+    }
+
+    fn remove(&mut self, name: FileName) -> Result<(), Failed> {
+        counted(self.calls.remove(name), &mut self.faults)
+    }
+
+    fn rename(&mut self) -> Result<(), Failed> {
+        counted(self.calls.rename(), &mut self.faults)
+    }
+
+    fn sync_names(&mut self) -> Result<(), Failed> {
+        counted(self.calls.sync_names(), &mut self.faults)
+    }
+
+    fn print(&mut self, bytes: &[u8]) -> Result<(), Failed> {
+        counted(self.calls.print(bytes), &mut self.faults)
+    }
+}
+
+// The calls of the process, and what it has open for them.
+#[derive(Drop)]
+struct Calls {
     rt: HostRuntime,
     // Each file that is open, at its name's number.
     files: [Option<File>; 4],
@@ -40,21 +125,7 @@ pub struct RealSystem {
     linked: Vec<File>,
 }
 
-impl RealSystem {
-    /// The process's folder and output, with no file open.
-    pub fn new(rt: HostRuntime) -> RealSystem
-        ensures process { result.rt ≡ rt }
-        ensures shut { result.files ≡ replicate 4 None }
-        ensures unlinked { result.linked.items ≡ [] }
-    {
-        RealSystem {
-            rt,
-            files: [None, None, None, None],
-            lengths: [0, 0, 0, 0],
-            linked: Vec::new(rt.alloc()),
-        }
-    }
-
+impl Calls {
     fn opened(&self, name: FileName) -> Result<&File, Failed> {
         self.files[number(name)].as_ref().ok_or(Failed)
     }
@@ -74,28 +145,8 @@ impl RealSystem {
         }
         Ok(())
     }
-}
 
-// Whether a sync was refused by a file system that can be read alone, or that has none.
-fn is_without_sync(kind: ErrorKind) -> bool {
-    matches!(
-        kind,
-        ErrorKind::ReadOnlyFilesystem | ErrorKind::InvalidInput
-    )
-}
-
-// Brings a file's bytes to the disk, by its length.
-fn sync_bytes(file: &File, length: u64) -> io::Result<()> {
-    if length <= INLINE_LENGTH {
-        return file.sync_all();
-    }
-    file.sync_data()
-}
-
-impl System for RealSystem {
-    ghost told = { λ _. None };
-
-    fn find(&mut self, name: FileName) -> Result<Option<u64>, Failed> {
+    fn find(&self, name: FileName) -> Result<Option<u64>, Failed> {
         let found = match self.opened(name) {
             Ok(file) => file.metadata().map(Some),
             Err(Failed) => look(&self.rt, name),
@@ -123,7 +174,7 @@ impl System for RealSystem {
         open_linked(&self.rt, name, &mut self.linked).map_err(|_| Failed)
     }
 
-    fn read(&mut self, name: FileName, most: u64) -> Result<Option<Vec<u8>>, Failed> {
+    fn read(&self, name: FileName, most: u64) -> Result<Option<Vec<u8>>, Failed> {
         if name != FileName::Store {
             check_names(&self.rt, &self.files).map_err(|_| Failed)?;
         }
@@ -135,7 +186,7 @@ impl System for RealSystem {
         Ok(Some(bytes))
     }
 
-    fn read_at(&mut self, name: FileName, place: u64, buf: &mut [u8]) -> Result<(), Failed> {
+    fn read_at(&self, name: FileName, place: u64, buf: &mut [u8]) -> Result<(), Failed> {
         let file = self.opened(name)?;
         file.read_exact_at(buf, place).map_err(|_| Failed)
     }
@@ -158,7 +209,7 @@ impl System for RealSystem {
         Ok(())
     }
 
-    fn sync(&mut self, name: FileName) -> Result<(), Failed> {
+    fn sync(&self, name: FileName) -> Result<(), Failed> {
         let file = self.opened(name)?;
         // The owner and the mode of a new store's file are to be on the disk too.
         let answer = match name {
@@ -170,7 +221,7 @@ impl System for RealSystem {
 
     // What a run that was ended wrote there may not be on the disk yet. Of a file system that can be
     // read alone nothing is awaited, as after a fault of its disk.
-    fn sync_read(&mut self, file: FileNo) -> Result<(), Failed> {
+    fn sync_read(&self, file: FileNo) -> Result<(), Failed> {
         let opened = open_to_read(&self.rt, FileName::Journal(file)).map_err(|_| Failed)?;
         let Some(opened) = opened else {
             return Ok(());
@@ -184,7 +235,7 @@ impl System for RealSystem {
 
     // A file system without a journal may lose the rename of a new store half: then it stands under its
     // first name, and no store is there. So it isn't removed then, but kept under another name.
-    fn remove(&mut self, name: FileName) -> Result<(), Failed> {
+    fn remove(&self, name: FileName) -> Result<(), Failed> {
         let is_alone = !is_there(&self.rt, path(FileName::Store)).map_err(|_| Failed)?;
         if name != FileName::New || !is_alone {
             return remove_file(&self.rt, path(name)).map_err(|_| Failed);
@@ -203,7 +254,7 @@ impl System for RealSystem {
     // A run has its files open, a report none. What a run told is on the disk, since the run itself
     // brought the names there first. So a report goes on where it may search the folder and not open
     // it, or where the folder can't be synced, as it does with a file.
-    fn sync_names(&mut self) -> Result<(), Failed> {
+    fn sync_names(&self) -> Result<(), Failed> {
         let is_report = self.files.iter().all(|file| file.is_none());
         match self.sync_folders().map_err(|error| error.kind()) {
             Err(ErrorKind::PermissionDenied) if is_report => Ok(()),
@@ -212,9 +263,25 @@ impl System for RealSystem {
         }
     }
 
-    fn print(&mut self, bytes: &[u8]) -> Result<(), Failed> {
+    fn print(&self, bytes: &[u8]) -> Result<(), Failed> {
         self.rt.stdout().write_all(bytes).map_err(|_| Failed)
     }
+}
+
+// Whether a sync was refused by a file system that can be read alone, or that has none.
+fn is_without_sync(kind: ErrorKind) -> bool {
+    matches!(
+        kind,
+        ErrorKind::ReadOnlyFilesystem | ErrorKind::InvalidInput
+    )
+}
+
+// Brings a file's bytes to the disk, by its length.
+fn sync_bytes(file: &File, length: u64) -> io::Result<()> {
+    if length <= INLINE_LENGTH {
+        return file.sync_all();
+    }
+    file.sync_data()
 }
 
 // Makes a file and opens it. Two runs may both want to make it: they meet at its lock. No file is made

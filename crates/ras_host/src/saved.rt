@@ -5,6 +5,7 @@ ghost use Rattle.erst_store.specs.Device.{new_device};
 ghost use Rattle.erst_store.specs.StoreFile.{store_bytes};
 ghost use Rattle.host_system.specs.FolderPast.{bytes_named};
 ghost use Rattle.host_system.specs.View.{HasWholeStore, seen_now, store_in};
+ghost use Rattle.ras_host.specs.Steps.Once.{CountsOnce};
 ghost use Rattle.ras_host.specs.Steps.Written.{Writes};
 
 use board_core::Failed;
@@ -35,6 +36,7 @@ impl Saved {
             (λ p. saved.device ≡ new_device (seen_now p).store 0)) }
         ensures fresh { IfOk result (λ saved. saved.device ≡ new_device saved.device.store 0) }
         ensures told { S.told system.new ≡ S.told system.old }
+        ensures once { CountsOnce (S.faults system.old) (S.faults system.new) result }
     {
         let found = read_store(system)?;
         let store = store_from(alloc, found)?;
@@ -55,6 +57,7 @@ fn read_store<S: System>(system: &mut S) -> Result<Option<Vec<u8>>, Failed>
     ensures read { IfOk result (λ found. IfSome (S.told system.old)
         (λ p. option_map (λ v. v.items) found ≡ bytes_named FileName.Store p)) }
     ensures told { S.told system.new ≡ S.told system.old }
+    ensures once { CountsOnce (S.faults system.old) (S.faults system.new) result }
 {
     match system.find(FileName::Store)? {
         Some(length) if length > LONGEST_STORE => Err(Failed),
@@ -76,7 +79,8 @@ fn store_from(alloc: Global, found: Option<Vec<u8>>) -> Result<Store, Failed>
 /// Puts a file of these bytes in the place of the record store's, unless they are those that it has.
 pub fn write_store<S: System>(had: &[u8], bytes: &[u8], system: &mut S) -> Result<(), Failed>
     requires { IfSome (S.told system.old) HasWholeStore }
-    ensures { Writes had.now bytes.now result (S.told system.old) (S.told system.new) }
+    ensures writes { Writes had.now bytes.now result (S.told system.old) (S.told system.new) }
+    ensures once { CountsOnce (S.faults system.old) (S.faults system.new) result }
 {
     if bytes == had {
         return Ok(());
