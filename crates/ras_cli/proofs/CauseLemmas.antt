@@ -8,7 +8,7 @@ use Rattle.ras_daemon.specs.Ahead.{TakesBy}
 use Rattle.ras_daemon.specs.Promises.{Caused}
 use Rattle.ras_daemon.specs.Task.{ReadsBy}
 use Rattle.ras_daemon.specs.declared.word.Task.{Task}
-use Rattle.ras_daemon.specs.declared.word.Task.TheVariants.{Run, Report, Load, Pcie, Klog, TraceLines, KlogLines, Help, Version}
+use Rattle.ras_daemon.specs.declared.word.Task.TheVariants.{Run, Report, Load, Pcie, Klog, TraceLines, KlogLines, GhesLines, Help, Version}
 use Rattle.ras_exit.specs.Causes.{BoardCauseBy, SourceCause}
 use Rattle.ras_exit.specs.Endings.{CallEnding, answered, ending_of, faulted, source_failed, starved}
 use Rattle.ras_exit.specs.declared.exit.Exit.{Exit}
@@ -58,6 +58,7 @@ module _ (how count : ℕ) (files : JournalFiles) (kept : Kept) (faults : Faults
   by_disk (Some (Klog boot cap)) alone d r p = once_most count faults.disk faults.registers faults.prints caused.each (omega (arith, d, r, p))
   by_disk (Some (TraceLines boot)) alone d r p = once_most count faults.disk faults.registers faults.prints caused.each (omega (arith, d, r, p))
   by_disk (Some (KlogLines boot cap)) alone d r p = once_most count faults.disk faults.registers faults.prints caused.each (omega (arith, d, r, p))
+  by_disk (Some (GhesLines boot began)) alone d r p = once_most count faults.disk faults.registers faults.prints caused.each (omega (arith, d, r, p))
   by_disk (Some Help) alone d r p = once_most count faults.disk faults.registers faults.prints caused.each (omega (arith, d, r, p))
   by_disk (Some Version) alone d r p = once_most count faults.disk faults.registers faults.prints caused.each (omega (arith, d, r, p))
 
@@ -99,6 +100,7 @@ reads_as (Some Pcie) Takes Same Takes' Same' takes same is = takes is
 reads_as (Some (Klog boot cap)) Takes Same Takes' Same' takes same is = takes is
 reads_as (Some (TraceLines boot)) Takes Same Takes' Same' takes same is = takes is
 reads_as (Some (KlogLines boot cap)) Takes Same Takes' Same' takes same is = takes is
+reads_as (Some (GhesLines boot began)) Takes Same Takes' Same' takes same is = takes is
 reads_as None Takes Same Takes' Same' takes same is = same is
 reads_as (Some (Report listing)) Takes Same Takes' Same' takes same is = same is
 reads_as (Some (Load n)) Takes Same Takes' Same' takes same is = same is
