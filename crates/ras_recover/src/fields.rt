@@ -1,13 +1,15 @@
 //! The fields of a journal file.
 ghost use Rattle.std.specs.Prelude.{◌≡◌, ◌+◌, ◌^◌, ◌<◌, ◌≤◌, length, None, Some, IfSome, IfOk, OnOk};
+ghost use Rattle.journal_format.specs.Checkpoints.{IsCheckpoint};
 ghost use Rattle.journal_format.specs.CheckpointReading.{checkpoint_of};
 ghost use Rattle.ras_journal.specs.Fields.{part, field, version_of, generation_of, number_of, is_open_of};
 ghost use Rattle.ras_recover.specs.Steps.Reading.{AnswersFront};
 
 use crate::place::Unread;
 use entry_format::Version;
-use journal_format::{CheckpointRefused, read_checkpoint};
+use journal_format::{CheckpointRefused, is_checkpoint_of, read_checkpoint};
 use ras_account::Account;
+use ras_base::NoMemory;
 use ras_base::little_endian::{u32_at, u64_at};
 use ras_journal::{LAST_GENERATION, OPEN_GATE};
 use std::alloc::Global;
@@ -106,10 +108,37 @@ pub(crate) fn payload_count_at(place: usize, file: &[u8]) -> Result<u64, usize>
     }
 }
 
-// The account of a checkpoint of `count` bytes.
+// An account that is there already, if the bytes are its checkpoint.
+fn account_there(
+    alloc: Global,
+    version: Version,
+    before: Option<Account>,
+    bytes: &[u8],
+) -> Result<Option<Account>, NoMemory>
+    ensures { IfOk result (λ found. IfSome found
+        (λ account. IsCheckpoint version account.state bytes.now)) }
+{
+    let Some(account) = before else {
+        return Ok(None);
+    };
+    match version {
+        Version::One => Ok(None),
+        Version::Two => {
+            if is_checkpoint_of(alloc, &account, bytes)? {
+                Ok(Some(account))
+            } else {
+                Ok(None)
+            }
+        }
+    }
+}
+
+// The account of a checkpoint of `count` bytes. If it is the one that the other file ended with, as
+// after a switch, that one goes on, and no second account is made.
 pub(crate) fn checkpoint_at(
     alloc: Global,
     version: Version,
+    before: Option<Account>,
     count: u64,
     file: &[u8],
 ) -> Result<Account, Unread>
@@ -119,6 +148,11 @@ pub(crate) fn checkpoint_at(
     let Some(bytes) = part(25, count, file) else {
         return Err(Unread::Damaged(25));
     };
+    match account_there(alloc, version, before, bytes) {
+        Ok(Some(account)) => return Ok(account),
+        Ok(None) => {}
+        Err(NoMemory) => return Err(Unread::NoMemory),
+    }
     match read_checkpoint(alloc, version, bytes) {
         Ok(account) => Ok(account),
         Err(CheckpointRefused::Bad) => Err(Unread::Damaged(25)),

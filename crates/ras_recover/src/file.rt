@@ -27,11 +27,13 @@ pub(crate) fn is_shut(file: &[u8]) -> bool
     file.len() > 1 && file[0] != OPEN_GATE
 }
 
-// The place of the first gate of the chain, and the account of the checkpoint.
+// The place of the first gate of the chain, and the account of the checkpoint. The account that the
+// other file ended with may be given.
 #[tactic(auto, unfolding(ras_journal::specs::File::first_front))]
 pub(crate) fn first_place(
     alloc: Global,
     taken: Option<u64>,
+    before: Option<Account>,
     file: &[u8],
 ) -> Result<(Place, Account), Unread>
     ensures read { AnswersFront (λ r. front_at r.0 r.1.state) result (first_front taken file.now) }
@@ -50,7 +52,7 @@ pub(crate) fn first_place(
         Ok(count) => count,
         Err(at) => return Err(Unread::Damaged(at)),
     };
-    match checkpoint_at(alloc, version, count, file) {
+    match checkpoint_at(alloc, version, before, count, file) {
         Ok(account) => {
             let gate = CHECKPOINT_PLACE + count as usize;
             let place = Place {

@@ -3,6 +3,7 @@
 //! journal over any calls and stops.
 #![tactic(auto)]
 
+mod by_age;
 mod fields;
 mod file;
 mod formatting;

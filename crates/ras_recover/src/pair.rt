@@ -14,6 +14,7 @@ ghost use Rattle.ras_recover.specs.Steps.Windows.{LooksAt};
 ghost use Rattle.ras_recover.specs.Steps.Pair.{AreRead};
 
 use crate::OpenRefused;
+use crate::by_age::read_by_age;
 use crate::place::{Place, ReadRefused};
 use crate::walking::{FileRead, read_file};
 use crate::window::SizedFile;
@@ -61,7 +62,7 @@ fn read_one<B: Board>(
         FileNo::Zero => 0,
         FileNo::One => 1,
     };
-    match read_file(alloc, taken, file, board) {
+    match read_file(alloc, taken, None, file, board) {
         Ok(read) => Ok(read),
         Err(ReadRefused::Disk) => Err(OpenRefused::Disk),
         Err(ReadRefused::Damaged(at)) => Err(OpenRefused::Damaged {
@@ -104,8 +105,8 @@ fn generation_in(front: &Option<(Place, Account)>) -> Option<u64>
     }
 }
 
-// Which of the two files is current, and what it holds.
-pub(crate) fn read_both<B: Board>(
+// Which of the two files is current, and what it holds: file 0 is read, and then file 1.
+fn read_one_by_one<B: Board>(
     alloc: Global,
     sizes: (usize, usize),
     board: &mut B,
@@ -140,6 +141,43 @@ pub(crate) fn read_both<B: Board>(
             journal: greater(zero.front, one.front),
         }),
         Err(refused) => Err(refused),
+    }
+}
+
+// The same, with the older file read first if both stand: a damaged one is told as if they were read
+// one by one.
+pub(crate) fn read_both<B: Board>(
+    alloc: Global,
+    sizes: (usize, usize),
+    board: &mut B,
+) -> Result<BothRead, OpenRefused>
+    requires short { (sizes.0 ≤ LONGEST_FILE) × (sizes.1 ≤ LONGEST_FILE) }
+    requires sizes { IfSome (B.told board.old)
+        (λ t. (sizes.0 ≡ length t.here.file0) × (sizes.1 ≡ length t.here.file1)) }
+    ensures read { IfSome (B.told board.old)
+        (λ t. TellsHeld (λ r. option_map (λ j. record { file = j.0; front = front_at j.1 j.2.state })
+        r.journal) result (journal_of t.here.file0 t.here.file1)) }
+    ensures shut { IfOk result (λ r. IfSome (B.told board.old)
+        (λ t. (r.shut.0 ≡ is_shut t.here.file0) × (r.shut.1 ≡ is_shut t.here.file1))) }
+    ensures looks { LooksAt open_failure result (λ t. ReadsBoth t.here)
+        (B.told board.old) (B.clock board.old) (B.faults board.old)
+        (B.told board.new) (B.clock board.new) (B.faults board.new) }
+{
+    let file_zero = SizedFile {
+        no: FileNo::Zero,
+        size: sizes.0,
+    };
+    let file_one = SizedFile {
+        no: FileNo::One,
+        size: sizes.1,
+    };
+    let found = match read_by_age(alloc, file_zero, file_one, board) {
+        Ok(found) => found,
+        Err(refused) => return Err(refused),
+    };
+    match found {
+        Some(both) => Ok(both),
+        None => read_one_by_one(alloc, sizes, board),
     }
 }
 

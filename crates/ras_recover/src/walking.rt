@@ -164,10 +164,12 @@ fn hold_front<B: Board>(
     window.hold(file, 0, count, board)
 }
 
-// The place of the first gate of the chain, and the account of the checkpoint.
+// The place of the first gate of the chain, and the account of the checkpoint. The account that the
+// other file ended with may be given.
 fn first_in<B: Board>(
     alloc: Global,
     taken: Option<u64>,
+    before: Option<Account>,
     file: SizedFile,
     window: &mut Window,
     board: &mut B,
@@ -198,7 +200,7 @@ fn first_in<B: Board>(
             front: None,
         });
     }
-    match first_place(alloc, taken, front) {
+    match first_place(alloc, taken, before, front) {
         Ok(first) => Ok(FileRead {
             shut: false,
             front: Some(first),
@@ -209,10 +211,11 @@ fn first_in<B: Board>(
 }
 
 // The place of the closed gate that ends the chain of a file, and the account there, if the file
-// stands. The other file may have taken a generation.
+// stands. The other file may have taken a generation, and the account that it ended with may be given.
 pub(crate) fn read_file<B: Board>(
     alloc: Global,
     taken: Option<u64>,
+    before: Option<Account>,
     file: SizedFile,
     board: &mut B,
 ) -> Result<FileRead, ReadRefused>
@@ -228,7 +231,7 @@ pub(crate) fn read_file<B: Board>(
         (B.told board.new) (B.clock board.new) (B.faults board.new) }
 {
     let mut window = Window::new(alloc);
-    let FileRead { shut, front } = match first_in(alloc, taken, file, &mut window, board) {
+    let FileRead { shut, front } = match first_in(alloc, taken, before, file, &mut window, board) {
         Ok(begun) => begun,
         Err(refused) => return Err(refused),
     };
