@@ -405,7 +405,7 @@ still_told exit (Some Version) left rest before now old new other did = did.devi
 
 module _ (exit : Exit) (task : Option Task) (left rest : Option (List ℕ)) (past now : Option FolderPast) (old new : BoardState) (begun : Begun past old) (over : new.past ≡ now)
     (did : ByTask exit task left rest (told_of old) (told_of new) (clock_of old) (clock_of new)) where
-  prints : (p : FolderPast) → IsOther task → past ≡ Some p → IsSomeAnd now (PrintsAlone exit task left p)
+  prints : (p : FolderPast) → IsOther task → past ≡ Some p → IsSomeAnd now (PrintsAlone exit task left rest p)
   prints p other is_past = by (told_of new) refl from_p
     where
       from_p : ByTask exit task left rest (Some (begun_over p)) (told_of new) (clock_over (Some p)) (clock_of new)
@@ -413,18 +413,17 @@ module _ (exit : Exit) (task : Option Task) (left rest : Option (List ℕ)) (pas
           subst (λ (o : Option FolderPast). ByTask exit task left rest (Some (begun_over p)) (told_of new) (clock_over o) (clock_of new)) (past_begun past old p begun is_past)
           (subst (λ (o : Option Told). ByTask exit task left rest o (told_of new) (clock_of old) (clock_of new)) (told_begun past old p begun is_past) did)
 
-      by : (told : Option Told) → told_of new ≡ told → ByTask exit task left rest (Some (begun_over p)) told (clock_over (Some p)) (clock_of new) → IsSomeAnd now (PrintsAlone exit task left p)
+      by : (told : Option Told) → told_of new ≡ told → ByTask exit task left rest (Some (begun_over p)) told (clock_over (Some p)) (clock_of new) → IsSomeAnd now (PrintsAlone exit task left rest p)
       by None is from = absurd (still_told exit task left rest (begun_over p) None (clock_over (Some p)) (clock_of new) other from)
       by (Some t) is from =
           let the_end : Ended new t = ended new t is in
-          subst (λ (o : Option FolderPast). IsSomeAnd o (PrintsAlone exit task left p)) (sym the_end.over ∙ over) (
-            rest,
-            subst (λ (o : Option FolderPast). ByTask exit task left rest (Some (begun_over p)) (Some (begun_over the_end.now)) (clock_over (Some p)) (clock_over o)) the_end.over
-                (by_other exit rest p the_end.now (clock_of new) task left t other the_end.here from),
-          )
+          subst (λ (o : Option FolderPast). IsSomeAnd o (PrintsAlone exit task left rest p)) (sym the_end.over ∙ over)
+          (subst (λ (o : Option FolderPast). ByTask exit task left rest (Some (begun_over p)) (Some (begun_over the_end.now)) (clock_over (Some p)) (clock_over o)) the_end.over
+          (by_other exit rest p the_end.now (clock_of new) task left t other the_end.here from))
 
-  -- by what an input had left, of which the board's source was made
-  pub commands : (input : Option (List ℕ)) → left ≡ input → OverOther (λ p. IsSomeAnd now (PrintsAlone exit task input p)) task past
-  commands input is =
-      subst (λ (script : Option (List ℕ)). OverOther (λ p. IsSomeAnd now (PrintsAlone exit task script p)) task past) is
-      (over_other (λ p. IsSomeAnd now (PrintsAlone exit task left p)) task past prints)
+  -- by what the input had left at the start and has at the end, which the source was made of and gives back
+  pub commands : (first last : Option (List ℕ)) → left ≡ first → last ≡ rest → OverOther (λ p. IsSomeAnd now (PrintsAlone exit task first last p)) task past
+  commands first last is_first is_last =
+      subst (λ (script : Option (List ℕ)). OverOther (λ p. IsSomeAnd now (PrintsAlone exit task script last p)) task past) is_first
+      (subst (λ (script : Option (List ℕ)). OverOther (λ p. IsSomeAnd now (PrintsAlone exit task left script p)) task past) (sym is_last)
+      (over_other (λ p. IsSomeAnd now (PrintsAlone exit task left rest p)) task past prints))

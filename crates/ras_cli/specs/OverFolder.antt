@@ -112,6 +112,6 @@ OverOther P task past = IfSome past P
 -- Such a command, or words that are none, print the text that `ByTask` names, by what was left of the
 -- input before and after. Of the folder nothing else changes, and a crash at any moment leaves no more
 -- than one at the start, with a beginning of that text printed.
-abbrev pub PrintsAlone : Exit → Option Task → Option (List ℕ) → FolderPast → FolderPast → Type 0
-PrintsAlone exit task script past now =
-    (left : Option (List ℕ)) × ByTask exit task script left (Some (begun_over past)) (Some (begun_over now)) (clock_over (Some past)) (clock_over (Some now))
+abbrev pub PrintsAlone : Exit → Option Task → Option (List ℕ) → Option (List ℕ) → FolderPast → FolderPast → Type 0
+PrintsAlone exit task script left past now =
+    ByTask exit task script left (Some (begun_over past)) (Some (begun_over now)) (clock_over (Some past)) (clock_over (Some now))

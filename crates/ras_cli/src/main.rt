@@ -5,7 +5,7 @@ mod laws;
 mod over_folder;
 
 pub use laws::folder_eras;
-pub use over_folder::rasd_over;
+pub use over_folder::{Ended, rasd_over};
 use ras_base::NoMemory;
 use ras_daemon::{Exit, RasWord};
 use ras_host::{RealInput, RealSystem};
@@ -19,7 +19,7 @@ fn main(rt: HostRuntime) -> ExitCode {
     let exit = match words_of(rt) {
         Ok(words) => {
             let (input, system) = (RealInput::new(rt), RealSystem::new(rt));
-            rasd_over(rt.alloc(), &words, input, system).0
+            rasd_over(rt.alloc(), &words, input, system).exit
         }
         Err(NoMemory) => Exit::NoMemory,
     };
