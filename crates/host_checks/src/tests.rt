@@ -3,7 +3,7 @@
 mod store;
 
 use board_core::{Board, Failed, FileNo};
-use ras_host::{FileBoard, RealSystem, Use};
+use ras_host::{Alone, FileBoard, Reading, RealSystem, Use};
 use std::env::Env;
 use std::fs;
 use std::test::Fail;
@@ -21,8 +21,8 @@ fn leave(rt: &HostRuntime, name: &str) -> Result<(), Fail> {
     Ok(())
 }
 
-fn board(rt: HostRuntime, how: Use) -> FileBoard<RealSystem> {
-    FileBoard::new(rt.alloc(), how, RealSystem::new(rt))
+fn board<U: Use>(rt: HostRuntime) -> FileBoard<RealSystem, U> {
+    FileBoard::new(rt.alloc(), RealSystem::new(rt))
 }
 
 fn is_missing(rt: &HostRuntime, name: &str) -> bool {
@@ -35,13 +35,16 @@ fn holds(rt: &HostRuntime, name: &str, bytes: &[u8]) -> bool {
 }
 
 // How many bytes of file 1 are read at a place, and a buffer that they are read into.
-fn read(board: &mut FileBoard<RealSystem>, place: u64) -> (Result<usize, Failed>, [u8; 4]) {
+fn read<U: Use>(
+    board: &mut FileBoard<RealSystem, U>,
+    place: u64,
+) -> (Result<usize, Failed>, [u8; 4]) {
     let mut buf = [0; 4];
     (board.read_at(FileNo::One, place, &mut buf), buf)
 }
 
 // Whether bytes are written to file 1, and whether it is synced.
-fn write(board: &mut FileBoard<RealSystem>, bytes: &[u8]) -> (bool, bool) {
+fn write<U: Use>(board: &mut FileBoard<RealSystem, U>, bytes: &[u8]) -> (bool, bool) {
     let is_written = board.write_at(FileNo::One, 0, bytes).is_ok();
     (is_written, board.sync(FileNo::One).is_ok())
 }
@@ -51,14 +54,14 @@ fn write(board: &mut FileBoard<RealSystem>, bytes: &[u8]) -> (bool, bool) {
 #[test]
 fn reading_board_changes_nothing(rt: HostRuntime) -> Result<(), Fail> {
     enter(&rt, "reading")?;
-    let mut reader = board(rt, Use::Reading);
+    let mut reader = board::<Reading>(rt);
     assert!(rt; reader.size(FileNo::One) == Ok(0) && read(&mut reader, 0) == (Ok(0), [0; 4]));
     assert!(rt; write(&mut reader, b"x") == (false, true));
     assert!(rt; is_missing(&rt, "rasd.0") && is_missing(&rt, "rasd.1"));
-    let mut writer = board(rt, Use::Alone);
+    let mut writer = board::<Alone>(rt);
     assert!(rt; write(&mut writer, b"abcdef") == (true, true));
     assert!(rt; reader.size(FileNo::One) == Ok(0) && read(&mut reader, 0) == (Ok(0), [0; 4]));
-    let mut later = board(rt, Use::Reading);
+    let mut later = board::<Reading>(rt);
     assert!(rt; later.size(FileNo::One) == Ok(6) && read(&mut later, 1) == (Ok(4), *b"bcde"));
     assert!(rt; read(&mut later, 4) == (Ok(2), *b"ef\0\0"));
     assert!(rt; read(&mut later, 7) == (Ok(0), [0; 4]));
