@@ -27,6 +27,7 @@ pub record BlockProgress : Type 0 where
   pub reports : Reporting
   pub taken : ℕ
 
+-- the filter that goes on from here
 abbrev pub blocks_make : BlockProgress → Filter
 blocks_make log = record {
   answers = block_answers log.taken log.reports;

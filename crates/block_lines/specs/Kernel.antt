@@ -59,6 +59,7 @@ abbrev pub error_text : ℕ → ℕ → List ℕ
 error_text number severity =
     codes " Error " ++ (decimal number ++ 44 ∷ (codes " type: " ++ severity_word severity))
 
+-- `<number>, <words>`
 abbrev pub kind_text : List ℕ → ℕ → List ℕ
 kind_text name kind = decimal kind ++ 44 ∷ name
 
@@ -73,6 +74,7 @@ location_text node card number others =
 
 -- ---- a section
 
+-- the name of a section's time stamp
 abbrev pub time_name : Bool → List ℕ
 time_name is_precise = if is_precise then codes " precise tstamp: " else codes " imprecise tstamp: "
 
@@ -86,6 +88,7 @@ abbrev pub unless_empty : List ℕ → List (List ℕ) → List (List ℕ)
 unless_empty [] more = more
 unless_empty (b ∷ text) more = (codes "  " ++ b ∷ text) ∷ more
 
+-- the texts of the fields of a memory section, and more after them
 abbrev pub field_texts : PrintedError → List (List ℕ) → List (List ℕ)
 field_texts p more =
     optional (codes "   error_status: ") p.status (

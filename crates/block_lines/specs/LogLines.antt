@@ -11,6 +11,7 @@ use Rattle.block_lines.specs.declared.log_line.ReportLogLine.{ReportLogLine}
 use Rattle.block_lines.specs.declared.log_line.OwnLine.{OwnLine}
 use Rattle.block_lines.specs.Lines.{report_line_of}
 
+-- the prefix of the text, after the brace
 abbrev pub error_mark : List ℕ
 error_mark = codes "[Hardware Error]: "
 

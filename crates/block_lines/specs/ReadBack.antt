@@ -19,6 +19,7 @@ pub record IsLocation (at : ErrorLocation) : Type 0 where
   pub card : IfSome at.card (λ n. n < 2 ^ 16)
   pub «module» : IfSome at.«module» (λ n. n < 2 ^ 16)
 
+-- the numbers of an error fit their types
 pub record IsError (error : MemoryError) : Type 0 where
   pub severity : error.severity < 2 ^ 32
   pub physical : IfSome error.physical (λ n. n < 2 ^ 64)

@@ -222,9 +222,11 @@ reporting_after r line = line_taken (ended_at r line) line
 
 -- ---- what always holds
 
+-- the error of the last section of the open report, if there is one
 abbrev pub work_errors : Option OpenReport → List MemoryError
 work_errors work = option_map_or (λ (report : OpenReport). section_errors report.section) work []
 
+-- A filter stores no more errors and sources than its limits.
 pub record IsReporting (r : Reporting) : Type 0 where
   pub errors : length (r.errors ++ work_errors r.work) ≤ MOST_ERRORS
   pub sources : length r.sources ≤ MOST_SOURCES

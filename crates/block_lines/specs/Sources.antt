@@ -14,6 +14,7 @@ is_listed sources source = list_any (λ known. known == source) sources
 abbrev pub kept_sources : List ℕ → List ℕ
 kept_sources sources = if nat_lt (length sources) MOST_SOURCES then sources else []
 
+-- the sources of a table with one more, unless the table has it
 abbrev pub sources_with : List ℕ → ℕ → List ℕ
 sources_with sources source =
     if is_listed sources source then sources else kept_sources sources ++ source ∷ []

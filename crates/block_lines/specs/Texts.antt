@@ -53,11 +53,13 @@ abbrev pub table_text : List ℕ → ℕ → List ℕ
 table_text sources source =
     if is_listed sources source then [] else hest_line (kept_sources sources ++ source ∷ []) ++ 10 ∷ []
 
+-- the text of a report's block, if the report has errors, after its table if one is due
 abbrev pub block_text : Reporting → OpenReport → List ℕ
 block_text r report =
     if has_error r.errors report.section
     then table_text r.sources report.source ++ ghes_line r report ++ 10 ∷ [] else []
 
+-- the comment of a report that is cut
 abbrev pub cut_text : OpenReport → List ℕ
 cut_text report =
     if ends_early report.section then cut_report_line report.source report.begun ++ 10 ∷ [] else []
@@ -66,6 +68,7 @@ cut_text report =
 abbrev pub report_text : Reporting → OpenReport → List ℕ
 report_text r report = block_text r report ++ cut_text report
 
+-- the text of the open report, if there is one
 abbrev pub end_text : Reporting → List ℕ
 end_text r = option_map_or (report_text r) r.work []
 

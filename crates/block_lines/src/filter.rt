@@ -18,9 +18,9 @@ use std::marker::Model;
 /// A report is printed at the line that ends it: a line of another report, or any other line that
 /// the kernel printed more than a tenth of a second later. If no line ends a report, the log may
 /// lack some of its lines, so the report becomes a comment after all lines instead of a block.
-/// Comments are also printed for sections about anything but memory, for the thirteenth error of a
-/// report, for a report that is cut, and for each line that begins like a report's and is in no
-/// report. Only lines that the kernel itself printed count. No line is refused.
+/// Comments are also printed for sections about anything but memory, for every error of a report
+/// after its twelfth, for a report that is cut, and for each line that begins like a report's and
+/// is in no report. Only lines that the kernel itself printed count. No line is refused.
 #[derive(Drop)]
 pub struct BlockFilter {
     reports: Reports,

@@ -117,6 +117,7 @@ SeesTorn file place count old new = InFile file (Torn place count) (seen_now old
 abbrev pub SeesPrinted : List ℕ → FolderPast → FolderPast → Type 0
 SeesPrinted piece old new = seen_now new ≡ record (seen_now old) { out = (seen_now old).out ++ piece }
 
+-- A board sees a beginning of a piece appended to the output.
 abbrev pub SeesBegun : List ℕ → FolderPast → FolderPast → Type 0
 SeesBegun piece old new = InOut (Begins piece) (seen_now old) (seen_now new)
 

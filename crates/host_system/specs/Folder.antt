@@ -80,12 +80,15 @@ after_writing place count bytes file = record {
   disk = with_range place count file.disk;
 }
 
+-- a file after a sync: all its bytes are durable
 abbrev pub after_syncing : FolderFile → FolderFile
 after_syncing file = record { bytes = file.bytes; disk = settled_file file.bytes }
 
+-- a name whose present file, if it has one, changed so
 abbrev pub with_now : (FolderFile → FolderFile) → NameEntry → NameEntry
 with_now step entry = record entry { now = option_map step entry.now }
 
+-- what the disk has of a file that may be missing
 abbrev pub on_disk : Option FolderFile → Option DiskFile
 on_disk file = option_map (λ f. f.disk) file
 
@@ -116,9 +119,11 @@ pub data FolderChange : Type 0 where
   synced_names : FolderChange
   printed : List ℕ → FolderChange
 
+-- the folder with one name changed so
 abbrev pub change_name : FileName → (NameEntry → NameEntry) → Folder → Folder
 change_name name step folder = with_entry_named name (step (entry_named name folder)) folder
 
+-- the folder after a change
 abbrev pub folder_after : FolderChange → Folder → Folder
 folder_after (wrote name place count bytes) folder = change_name name (with_now (after_writing place count bytes)) folder
 folder_after (synced name) folder = change_name name (with_now after_syncing) folder
@@ -154,12 +159,14 @@ pub record Stopped : Type 0 where
   pub new : Option (List ℕ)
   pub out : List ℕ
 
+-- A crash may leave this of a file that may be missing.
 abbrev pub MayLeaveOne : Option DiskFile → Option (List ℕ) → Type 0
 MayLeaveOne None None = Unit {0}
 MayLeaveOne None (Some bytes) = ⊥
 MayLeaveOne (Some file) None = ⊥
 MayLeaveOne (Some file) (Some bytes) = MayLeaveFile file bytes
 
+-- A crash may leave this of one of these files.
 abbrev pub MayLeaveAny : List (Option DiskFile) → Option (List ℕ) → Type 0
 MayLeaveAny [] left = ⊥
 MayLeaveAny (file ∷ files) left = MayLeaveOne file left ⊎ MayLeaveAny files left
@@ -188,6 +195,7 @@ During change folder left = MayLeaveFolder folder left ⊎ MayLeaveFolder (folde
 abbrev pub settled_file_of : List ℕ → FolderFile
 settled_file_of bytes = record { bytes = bytes; disk = settled_file bytes }
 
+-- a name whose file is durable, with these bytes, or is missing
 abbrev pub entry_from : Option (List ℕ) → NameEntry
 entry_from bytes = record { now = option_map settled_file_of bytes; others = [] }
 

@@ -41,12 +41,14 @@ abbrev pub bytes_or : Option (List ℕ) → List ℕ
 bytes_or None = []
 bytes_or (Some bytes) = bytes
 
+-- the bytes that a read of the name returns now, if the file exists
 abbrev pub bytes_named : FileName → FolderPast → Option (List ℕ)
 bytes_named name past = bytes_now (entry_named name (folder_of past))
 
 abbrev pub file_bytes : FileName → FolderPast → List ℕ
 file_bytes name past = bytes_or (bytes_named name past)
 
+-- the length of the file with this name in bytes, if the file exists
 abbrev pub length_told : FileName → FolderPast → Option ℕ
 length_told name past = option_map length (bytes_named name past)
 

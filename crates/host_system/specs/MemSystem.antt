@@ -14,6 +14,7 @@ use Rattle.host_system.specs.FolderPast.{FolderPast, changed_by}
 abbrev pub items_in : Option (Vec ℕ Global) → Option (List ℕ)
 items_in bytes = option_map (λ v. v.items) bytes
 
+-- the files of a crash image, as the specification has them
 abbrev pub as_stopped : LeftFolder → Stopped
 as_stopped left = record {
   zero = items_in left.zero;
@@ -43,6 +44,7 @@ begun_over start = record { past = record { first = record start { out = [] }; c
 
 -- ---- what was done, as numbers and bytes
 
+-- the item of a list with this index, or `last` if the list has no such item
 abbrev pub nth_or : {T : Type 0} → T → ℕ → List T → T
 nth_or last n [] = last
 nth_or last zero (x ∷ xs) = x

@@ -18,6 +18,7 @@ abbrev pub store_or : Result (List Stored) StoreRefused → List Stored
 store_or (Ok records) = records
 store_or (Err refused) = []
 
+-- the store in a file that may be missing
 abbrev pub store_in : Option (List ℕ) → List Stored
 store_in None = []
 store_in (Some bytes) = store_or (file_at bytes)
@@ -52,14 +53,17 @@ told_over past = option_map seen_now past
 
 -- ---- the record store's file
 
+-- whether a list is empty
 abbrev pub is_none_of : {T : Type 0} → List T → Bool
 is_none_of [] = true
 is_none_of (x ∷ xs) = false
 
+-- whether all bytes of a file that may be missing are durable
 abbrev pub is_settled_file : Option FolderFile → Bool
 is_settled_file None = true
 is_settled_file (Some file) = is_none_of file.disk.written
 
+-- whether a name and all bytes of its file are durable
 abbrev pub is_settled : NameEntry → Bool
 is_settled entry = is_none_of entry.others && is_settled_file entry.now
 

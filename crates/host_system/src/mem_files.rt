@@ -50,6 +50,7 @@ pub struct MemEntry {
     pub others: Vec<Option<MemFile>>,
 }
 
+/// The four files of the folder, by name.
 #[derive(Drop)]
 pub struct MemFiles {
     pub zero: MemEntry,
@@ -231,6 +232,7 @@ impl MemEntry {
 }
 
 impl MemFiles {
+    /// Returns what a name refers to.
     pub fn get(&self, name: FileName) -> &MemEntry
         ensures { result.now ≡ mem_entry name self.now }
     {

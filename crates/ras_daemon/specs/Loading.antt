@@ -14,6 +14,7 @@ use Rattle.ras_daemon.specs.Script.{reads_of}
 abbrev pub nothing_there : Left
 nothing_there = record { file0 = []; file1 = []; store = []; out = [] }
 
+-- where the run starts: with the empty account, over a device that is never busy
 abbrev pub load_start : Start
 load_start = record { account = account_of empty; standing = standing_opened [] []; store = []; slow = 0 }
 
@@ -21,5 +22,6 @@ load_start = record { account = account_of empty; standing = standing_opened [] 
 abbrev pub load_account : ℕ → State
 load_account n = account_at load_start (reads_of (load_script n))
 
+-- the line that sums up the run of n reports
 abbrev pub load_output : ℕ → List ℕ
 load_output n = load_line n (load_account n)

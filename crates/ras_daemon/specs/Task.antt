@@ -77,8 +77,8 @@ IsTask (Load n) = n ≤ MOST_LINES
 IsTask (GhesLines boot began) = began ≤ LAST_SECOND
 IsTask task = ⊤
 
--- What holds of the source, by what the words ask for: a command that reads takes of it, and every other
--- leaves it as it was.
+-- What a command does to its source: `Takes` if the command reads the source, and `Same`, which says that
+-- the source is as it was, if it doesn't.
 abbrev pub ReadsBy : Option Task → Type 0 → Type 0 → Type 0
 ReadsBy (Some Run) Takes Same = Takes
 ReadsBy (Some Pcie) Takes Same = Takes

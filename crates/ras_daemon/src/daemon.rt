@@ -140,8 +140,7 @@ pub fn promise_laws<S: Source, B: Board>()
         → Always (B.clock old) (B.clock old).now HasFewLinks
         → Always (B.clock new) (B.clock old).now HasFewLinks }
 
-    // If no count of faults rose, a run none of whose lines is refused is done, unless memory ran
-    // out.
+    // If no count of faults rose, a run that refuses no line is done, unless memory ran out.
     ensures complete { (exit : Exit) (first last : S) (start : Start) (script left : List ℕ)
         (before now : Told) (count after : ℕ) (faults then : Faults)
         → Ran exit (last ≡ first) start script before left now

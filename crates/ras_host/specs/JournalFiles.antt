@@ -34,6 +34,7 @@ pub record IsRead (read : ReadFile) (whole : List ℕ) : Type 0 where
   pub size : read.length ≡ length whole
   pub items : read.bytes.items ≡ take most_read whole
 
+-- This was read of both files.
 pub record AreRead (files : Pair ReadFile) (past : FolderPast) : Type 0 where
   pub zero : IsRead files.zero (seen_now past).file0
   pub one : IsRead files.one (seen_now past).file1

@@ -27,6 +27,7 @@ ReadsStanding file bytes calls =
     (taken : Option ℕ) (front : FileFront) (place : ℕ)
     → front_of taken bytes ≡ Ok (Some front) → place ≤ front.gate → Any (ReadsPlace file place) calls
 
+-- These calls read both files up to their closed gates, if the files are valid.
 pub record ReadsBoth (here : Left) (calls : List DiskCall) : Type 0 where
   pub zero : ReadsStanding Zero here.file0 calls
   pub one : ReadsStanding One here.file1 calls

@@ -70,5 +70,6 @@ open_refused_end TooLong = gave_up
 open_refused_end (Damaged file place) = gave_up
 open_refused_end NoMemory = gave_up
 
+-- how a recovery or an opening ended
 abbrev pub open_end : {T : Type 0} → Result T OpenRefused → Ended
 open_end result = ended_by open_refused_end result

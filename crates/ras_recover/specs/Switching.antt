@@ -32,6 +32,7 @@ switched standing account = record {
 abbrev pub next_bytes : Standing → State → List ℕ
 next_bytes standing account = behind_gate (standing.generation + 1) (checkpoint_bytes Two account)
 
+-- the acts of a switch: the other file is formatted
 abbrev pub switch_acts : Standing → State → List Act
 switch_acts standing account = formatting_acts (other standing.file) standing.shut (next_bytes standing account)
 

@@ -63,8 +63,9 @@ fn format_first<B: Board>(
     }))
 }
 
-/// Recovers the account as `recover` does, and returns it with its journal, ready to append. If
-/// neither file is valid, formats file 0 with generation 1.
+/// Recovers the account as `recover` does, and returns it with its journal, which hasn't failed. If
+/// neither file is valid, formats file 0 with generation 1. A journal of version 1 has to be
+/// switched before a link is appended.
 ///
 /// # Errors
 ///
