@@ -8,14 +8,14 @@ use Rattle.std.proofs.lemmas.Bool.Decides.{nat_tests}
 use Rattle.std.proofs.lemmas.Fmt.{decimal_nonempty}
 use Rattle.ras_klog.specs.Reading.{provided, read_then}
 use Rattle.ras_script.proofs.WrittenNumberLemmas.{decimal_read}
-use Rattle.ras_script.specs.Number.{decimal_of, hexadecimal_of}
+use Rattle.ras_script.specs.Number.{decimal_of}
 use Rattle.ras_script.specs.SplittingLaws.{Lacks}
 use Rattle.bank_lines.specs.Kernel.{register}
 use Rattle.bank_lines.specs.LogHeads.{after, is_own, up_to, without_spaces}
 use Rattle.bank_lines.specs.Parts.{value_after}
 use Rattle.bank_lines.proofs.KernelLemmas.{register_read}
 use Rattle.bank_lines.proofs.NumeralLemmas.{decimal_lacks}
-use Rattle.block_lines.specs.Kernel.{AreOthers, IsPrinted, PrintedError, error_of, error_text, error_texts, errors_texts, event_text, field_texts, kind_text, location_text, optional, printed_line, severity_word, start_text, time_name, unless_empty, with_number}
+use Rattle.block_lines.specs.Kernel.{IsPrinted, PrintedError, error_of, error_text, error_texts, errors_texts, event_text, field_texts, kind_text, location_text, optional, printed_line, severity_word, start_text, time_name, unless_empty, with_number}
 use Rattle.block_lines.specs.Lines.{after_named, location_of, number_named, report_line_of, section_said, severity_of}
 use Rattle.block_lines.specs.LogLines.{error_mark, own_after, own_line_of}
 use Rattle.block_lines.specs.Reading.{ErrorsRead, errors_read, line_read, texts_read}
@@ -23,7 +23,6 @@ use Rattle.block_lines.specs.Reports.{blank_error, section_errors}
 use Rattle.block_lines.specs.declared.log_line.OwnLine.{OwnLine}
 use Rattle.block_lines.specs.declared.memory.ErrorLocation.{ErrorLocation}
 use Rattle.block_lines.specs.declared.memory.MemoryError.{MemoryError}
-use Rattle.block_lines.specs.declared.memory.MemoryField.{MemoryField}
 use Rattle.block_lines.specs.declared.memory.MemoryField.TheVariants.{Physical, Mask, At, Kind}
 use Rattle.block_lines.specs.declared.report.OpenSection.{OpenSection}
 use Rattle.block_lines.specs.declared.report.OpenSection.TheVariants.{Absent, Begun, Memory, LeftOut}

@@ -1,10 +1,9 @@
 -- A report that the kernel prints is read, line by line.
-use Rattle.std.proofs.Common.{◌≡◌, ℕ, zero, suc, ◌+◌, ◌^◌, ◌<◌, ◌≤◌, ◌==◌, ◌||◌, nat_eq, Bool, true, false, List, [], ◌∷◌, ◌++◌, codes, length, map, refl, sym, ap, subst, ◌∙◌, arith, Option, Some, None}
+use Rattle.std.proofs.Common.{◌≡◌, ℕ, ◌+◌, ◌^◌, ◌<◌, ◌≤◌, ◌==◌, ◌||◌, nat_eq, Bool, true, false, List, [], ◌∷◌, ◌++◌, codes, length, map, refl, sym, ap, subst, ◌∙◌, arith, Option, Some, None}
 use Rattle.std.specs.Prelude.{not, unwrap_or, IfSome, if◌then◌else◌}
 use Rattle.std.specs.List.{AllByRecursion, ends_with}
 use Rattle.std.specs.Option.{option_map}
 use Rattle.std.proofs.lemmas.Bool.Decides.{nat_tests}
-use Rattle.ras_script.specs.SplittingLaws.{Lacks}
 use Rattle.bank_lines.specs.Kernel.{register}
 use Rattle.bank_lines.specs.LogHeads.{up_to}
 use Rattle.bank_lines.specs.LogLines.{log_stamp_of}
@@ -13,13 +12,10 @@ use Rattle.block_lines.specs.Kernel.{IsPrinted, PrintedError, error_of, error_te
 use Rattle.block_lines.specs.Lines.{location_of, report_line_of, section_said}
 use Rattle.block_lines.specs.LogLines.{own_line_of, report_log_line, without_return}
 use Rattle.block_lines.specs.Printed.{AreHeaded, HasReport, IsHead, printed_lines, severity_texts}
-use Rattle.block_lines.specs.Reading.{ErrorsRead, errors_read, line_read, texts_read}
-use Rattle.block_lines.specs.Reports.{Reporting, ended_at, gone_on, is_end, is_start, own_taken, reporting_after, severity_after}
-use Rattle.block_lines.specs.declared.log_line.OwnLine.{OwnLine}
+use Rattle.block_lines.specs.Reading.{ErrorsRead, line_read, texts_read}
+use Rattle.block_lines.specs.Reports.{Reporting, ended_at, is_end, is_start, own_taken, reporting_after, severity_after}
 use Rattle.block_lines.specs.declared.log_line.ReportLogLine.{ReportLogLine}
-use Rattle.block_lines.specs.declared.memory.ErrorLocation.{ErrorLocation}
 use Rattle.block_lines.specs.declared.memory.MemoryField.TheVariants.{Physical, Mask, At, Kind}
-use Rattle.block_lines.specs.declared.report.OpenReport.{OpenReport}
 use Rattle.block_lines.specs.declared.report.OpenSection.TheVariants.{Absent}
 use Rattle.block_lines.specs.declared.report_line.ReportLine.{ReportLine}
 use Rattle.block_lines.specs.declared.report_line.ReportLine.TheVariants as lines

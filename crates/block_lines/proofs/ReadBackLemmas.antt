@@ -1,12 +1,12 @@
 -- The blocks that are made are read back.
-use Rattle.std.proofs.Common.{◌≡◌, ℕ, ◌+◌, ◌*◌, ◌^◌, ◌<◌, ◌≤◌, ◌==◌, ◌&&◌, Bool, true, false, nat_eq, nat_lt, nat_le, List, [], ◌∷◌, ◌++◌, length, map, take, drop, refl, sym, ap, ◌∙◌, arith, append-nil, length-append, lit<, Option, Some, None, Result, Ok, Err}
+use Rattle.std.proofs.Common.{◌≡◌, ℕ, ◌+◌, ◌*◌, ◌^◌, ◌<◌, ◌≤◌, ◌==◌, ◌&&◌, Bool, true, false, nat_lt, List, [], ◌∷◌, ◌++◌, length, map, take, drop, refl, sym, ap, ◌∙◌, arith, append-nil, length-append, lit<, Option, Some, None, Ok, Err}
 use Rattle.std.specs.Prelude.{is_err, is_some, slice_index, unwrap_or, if◌then◌else◌, IfSome}
 use Rattle.std.proofs.lemmas.Bool.Decides.{nat_tests}
 use Rattle.std.proofs.lemmas.List.{take_all}
 use Rattle.std.specs.List.{AllByRecursion, concat, flat_map, list_any}
 use Rattle.ras_base.specs.Bits.{is_set}
 use Rattle.ras_base.specs.LittleEndian.{number_at, u16_bytes, u32_bytes, u64_bytes}
-use Rattle.ras_base.specs.Steps.LittleEndianLemmas.{length-u32_bytes, number_at-append, number_at-cut, number_at-u16_bytes, number_at-u32_bytes, number_at-u64_bytes}
+use Rattle.ras_base.specs.Steps.LittleEndianLemmas.{number_at-cut, number_at-u16_bytes, number_at-u32_bytes, number_at-u64_bytes}
 use Rattle.cper_sections.specs.Fields.{if_valid}
 use Rattle.cper_sections.specs.Guids.{memory_guid, section_type_of}
 use Rattle.cper_sections.specs.Memory.{memory_of, rank_of}
@@ -19,8 +19,7 @@ use Rattle.apei_sources.specs.Entries.{entries_of, entry_data, entry_guid, entry
 use Rattle.apei_sources.specs.Laid.{IsEntry}
 use Rattle.apei_sources.proofs.EntryLemmas.{entries_of-concat}
 use Rattle.block_lines.specs.Blocks.{address_bytes, block_bytes, made_status, error_entry_bytes, flag, block_front, entry_header_bytes, kind_bytes, location_bytes, memory_section_bytes, validation_of}
-use Rattle.block_lines.specs.ReadBack.{IsError, IsLocation, section_told}
-use Rattle.block_lines.specs.declared.memory.ErrorLocation.{ErrorLocation}
+use Rattle.block_lines.specs.ReadBack.{IsError, section_told}
 use Rattle.block_lines.specs.declared.memory.MemoryError.{MemoryError}
 
 -- ---- numbers

@@ -1,7 +1,7 @@
 -- What the kernel prints of a firmware's report, line by line, after the prefix: the functions
 -- `__ghes_print_estatus` of drivers/acpi/apei/ghes.c, and `cper_estatus_print`, `cper_estatus_print_section`,
 -- `cper_print_mem` and `cper_mem_err_location` of drivers/firmware/efi/cper.c.
-use Rattle.std.specs.Prelude.{ℕ, ◌^◌, ◌-◌, ◌||◌, List, codes, drop, length, Option, None, Some, if◌then◌else◌}
+use Rattle.std.specs.Prelude.{ℕ, ◌^◌, ◌-◌, ◌||◌, List, codes, Option, None, Some, if◌then◌else◌}
 use Rattle.std.specs.Option.{option_map, option_map_or}
 use Rattle.std.specs.Str.{bytes_eq}
 use Rattle.ras_klog.specs.Reading.{read_then}

@@ -1,6 +1,6 @@
 -- The lines of a kernel log that belong to a firmware's report: `{<number>}[Hardware Error]: ` comes before
 -- their text, and the number counts the reports since the boot.
-use Rattle.std.specs.Prelude.{ℕ, ◌^◌, ◌-◌, List, [], ◌∷◌, codes, length, nat_eq, take, Option, None, Some, if◌then◌else◌}
+use Rattle.std.specs.Prelude.{ℕ, ◌^◌, ◌-◌, List, [], ◌∷◌, codes, length, nat_eq, take, Option, Some, if◌then◌else◌}
 use Rattle.std.specs.List.{ends_with}
 use Rattle.ras_klog.specs.Reading.{provided, read_then}
 use Rattle.ras_script.specs.Number.{decimal_of}

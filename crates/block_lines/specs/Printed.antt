@@ -3,7 +3,7 @@ use Rattle.std.specs.Prelude.{◌≡◌, ℕ, ◌==◌, true, false, List, [], �
 use Rattle.std.specs.List.{ends_with}
 use Rattle.ras_script.specs.SplittingLaws.{Lacks}
 use Rattle.bank_lines.specs.LogHeads.{is_own}
-use Rattle.block_lines.specs.Kernel.{PrintedError, errors_texts, event_text, printed_line, start_text}
+use Rattle.block_lines.specs.Kernel.{PrintedError, errors_texts, event_text, printed_line}
 use Rattle.block_lines.specs.ReadBack.{report_errors}
 use Rattle.block_lines.specs.Reports.{Reporting}
 use Rattle.block_lines.specs.declared.memory.MemoryError.{MemoryError}

@@ -1,5 +1,5 @@
 -- What the filter's blocks and lines are read as.
-use Rattle.std.specs.Prelude.{◌≡◌, ℕ, ◌+◌, ◌/◌, ◌^◌, ◌<◌, ◌≤◌, List, ◌++◌, None, IfSome}
+use Rattle.std.specs.Prelude.{◌+◌, ◌/◌, ◌^◌, ◌<◌, ◌≤◌, List, ◌++◌, None, IfSome}
 use Rattle.cper_sections.specs.declared.memory.MemSection.{MemSection}
 use Rattle.ras_facts.specs.declared.name.Name.{Name}
 use Rattle.ras_facts.specs.declared.name.Name.TheVariants as names

@@ -1,5 +1,5 @@
 -- What the texts of a report say of its errors, one text after another.
-use Rattle.std.specs.Prelude.{ℕ, List, [], ◌∷◌, ◌++◌, length, map}
+use Rattle.std.specs.Prelude.{ℕ, List, [], ◌∷◌, ◌++◌, length}
 use Rattle.block_lines.specs.Lines.{report_line_of}
 use Rattle.block_lines.specs.Reports.{errors_after, section_after, section_errors}
 use Rattle.block_lines.specs.declared.memory.MemoryError.{MemoryError}

@@ -1,5 +1,5 @@
 -- The lines printed of a report, and about lines that are in no report.
-use Rattle.std.specs.Prelude.{ℕ, ◌+◌, ◌/◌, ◌≤◌, Bool, List, [], ◌∷◌, ◌++◌, codes, decimal, length, Option, None, Some, if◌then◌else◌}
+use Rattle.std.specs.Prelude.{ℕ, ◌+◌, ◌/◌, List, [], ◌∷◌, ◌++◌, codes, decimal, if◌then◌else◌}
 use Rattle.std.specs.Option.{option_map_or}
 use Rattle.ras_script.specs.LineLaws.{line_text}
 use Rattle.ras_script.specs.declared.line.ErrorReport.TheVariants.{Block}

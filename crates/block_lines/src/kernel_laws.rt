@@ -30,10 +30,10 @@ pub fn printed_texts_are_read()
         → report_line_of (start_text source) ≡ Start source }
     ensures event { (severity : ℕ) → severity < 4
         → report_line_of (event_text severity) ≡ Event severity }
-    ensures errors { (printed : List PrintedError) → AllByRecursion IsPrinted printed
-        → length printed ≤ MOST_ERRORS
-        → errors_read (texts_read (record { ended = []; section = Absent }) (errors_texts 0 printed))
-        ≡ map error_of printed }
+    ensures errors { (errors : List PrintedError) → AllByRecursion IsPrinted errors
+        → length errors ≤ MOST_ERRORS
+        → errors_read (texts_read (record { ended = []; section = Absent }) (errors_texts 0 errors))
+        ≡ map error_of errors }
 {}
 
 /// What holds after the lines of a report, as the kernel prints them after heads that show them as

@@ -1,5 +1,5 @@
 -- Both files of a board, the older one read first.
-use Rattle.std.proofs.Common.{◌≡◌, ◌∙◌, ℕ, ◌≤◌, ◌<◌, List, ◌++◌, length, Option, None, Some, Result, Ok, Err, refl, sym, ap, subst, arith}
+use Rattle.std.proofs.Common.{◌≡◌, ◌∙◌, ℕ, ◌≤◌, ◌<◌, List, ◌++◌, length, Option, None, Some, Result, Ok, Err, refl, ap, subst, arith}
 use Rattle.std.specs.Prelude.{true, false, nat_lt, IfOk, IfSome}
 use Rattle.std.specs.Option.{option_map}
 use Rattle.std.proofs.lemmas.Bool.Decides.{nat_tests}
@@ -9,7 +9,7 @@ use Rattle.board_core.specs.declared.board.DiskCall.{DiskCall}
 use Rattle.board_core.specs.Cause.{Faults, disk_call, FailsAs}
 use Rattle.board_core.specs.Clock.{Clock}
 use Rattle.board_core.specs.Stop.{Left, file_in}
-use Rattle.board_core.specs.Told.{Told, Relates, file_of}
+use Rattle.board_core.specs.Told.{Told, file_of}
 use Rattle.ras_account.specs.declared.account.Account.{Account}
 use Rattle.ras_journal.specs.declared.limits.TheConstants.{LONGEST_FILE}
 use Rattle.ras_journal.specs.Fields.{is_taken}

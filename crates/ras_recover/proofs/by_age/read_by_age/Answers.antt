@@ -1,4 +1,4 @@
-use Rattle.std.proofs.Common.{◌∙◌, List, Ok, None, sym, ap}
+use Rattle.std.proofs.Common.{◌∙◌, List, None, sym, ap}
 use Rattle.board_core.specs.Stop.{Left}
 use Rattle.board_core.specs.Told.{Told}
 use Rattle.board_core.specs.declared.board.DiskCall.{DiskCall}

@@ -1,5 +1,4 @@
 use Rattle.std.proofs.Common.{List, Ok, Some}
-use Rattle.std.specs.Option.{option_map}
 use Rattle.board_core.specs.Stop.{Left}
 use Rattle.board_core.specs.Told.{Told}
 use Rattle.board_core.specs.declared.board.DiskCall.{DiskCall}
