@@ -1,6 +1,6 @@
 -- What Linux prints of a report of memory errors: `__ghes_print_estatus` of drivers/acpi/apei/ghes.c, and
 -- `cper_estatus_print`, `cper_estatus_print_section`, `cper_print_mem` and `cper_mem_err_location` of
--- drivers/firmware/efi/cper.c, of versions 6.1.192 and 6.12.117. A text stands behind the mark of a line.
+-- drivers/firmware/efi/cper.c, of versions 6.1.192 and 6.12.117. A text follows the prefix of a line.
 use Rattle.std.specs.Prelude.{◌≡◌, ℕ, ◌+◌, ◌^◌, ◌<◌, ◌==◌, Bool, List, [], ◌∷◌, ◌++◌, codes, decimal, Option, None, Some, IfSome, if◌then◌else◌}
 use Rattle.std.specs.Option.{option_map}
 use Rattle.bank_lines.specs.Kernel.{register}
@@ -10,7 +10,7 @@ use Rattle.block_lines.specs.LogLines.{error_mark}
 use Rattle.block_lines.specs.declared.memory.MemoryError.{MemoryError}
 use Rattle.block_lines.specs.declared.report_line.ReportLine.TheVariants.{Other}
 
--- A memory error as it is printed: what is read of it; and what is passed over, in words.
+-- A memory error as the kernel prints it: the error that is read, and what is skipped, in words.
 pub record PrintedError : Type 0 where
   pub severity : ℕ
   pub physical : Option ℕ
@@ -29,7 +29,7 @@ pub record PrintedError : Type 0 where
   pub kind_name : List ℕ
   pub slot : Option (List ℕ)
 
--- what is read of it
+-- the error that is read
 abbrev pub error_of : PrintedError → MemoryError
 error_of p = record {
   severity = p.severity;
@@ -59,10 +59,11 @@ abbrev pub error_text : ℕ → ℕ → List ℕ
 error_text number severity =
     codes " Error " ++ (decimal number ++ 44 ∷ (codes " type: " ++ severity_word severity))
 
+-- `<number>, <words>`
 abbrev pub kind_text : List ℕ → ℕ → List ℕ
 kind_text name kind = decimal kind ++ 44 ∷ name
 
--- a number behind its name and before more, if it is known
+-- a number after its name and before more, if the number is known
 abbrev pub with_number : List ℕ → Option ℕ → List ℕ → List ℕ
 with_number name None more = more
 with_number name (Some n) more = name ++ (decimal n ++ 32 ∷ more)
@@ -73,6 +74,7 @@ location_text node card number others =
 
 -- ---- a section
 
+-- the name of a section's time stamp
 abbrev pub time_name : Bool → List ℕ
 time_name is_precise = if is_precise then codes " precise tstamp: " else codes " imprecise tstamp: "
 
@@ -81,11 +83,12 @@ abbrev pub optional : List ℕ → Option (List ℕ) → List (List ℕ) → Lis
 optional name None more = more
 optional name (Some text) more = (name ++ text) ∷ more
 
--- the place, unless nothing of it is known
+-- the location, unless nothing of it is known
 abbrev pub unless_empty : List ℕ → List (List ℕ) → List (List ℕ)
 unless_empty [] more = more
 unless_empty (b ∷ text) more = (codes "  " ++ b ∷ text) ∷ more
 
+-- the texts of the fields of a memory section, and more after them
 abbrev pub field_texts : PrintedError → List (List ℕ) → List (List ℕ)
 field_texts p more =
     optional (codes "   error_status: ") p.status (
@@ -95,7 +98,7 @@ field_texts p more =
     optional (codes "  error_type: ") (option_map (kind_text p.kind_name) p.kind) (
     optional (codes "  DIMM location: ") p.slot more)))))
 
--- the texts of the error of this number, and more after them
+-- the texts of the error with this number, and more after them
 abbrev pub error_texts : ℕ → PrintedError → List (List ℕ) → List (List ℕ)
 error_texts number p more =
     optional (time_name p.is_precise) p.time (
@@ -111,7 +114,7 @@ errors_texts number (p ∷ ps) = error_texts number p (errors_texts (number + 1)
 
 -- ---- what is in range
 
--- what follows the place's first three numbers begins with none of their names, and alone says nothing
+-- what follows the location's first three numbers begins with none of their names, and by itself says nothing
 pub record AreOthers (others : List ℕ) : Type 0 where
   pub node : value_after (codes "node:") others ≡ None
   pub card : value_after (codes "card:") others ≡ None
@@ -131,6 +134,6 @@ pub record IsPrinted (p : PrintedError) : Type 0 where
 
 -- ---- a line
 
--- the line of the report of this number, behind a head
+-- the line of the report with this number, after a head
 abbrev pub printed_line : List ℕ → ℕ → List ℕ → List ℕ
 printed_line head number text = head ++ 123 ∷ (decimal number ++ 125 ∷ (error_mark ++ text))

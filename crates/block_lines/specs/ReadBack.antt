@@ -1,4 +1,4 @@
--- What the blocks that are made are read as.
+-- What the filter's blocks and lines are read as.
 use Rattle.std.specs.Prelude.{◌+◌, ◌/◌, ◌^◌, ◌<◌, ◌≤◌, List, ◌++◌, None, IfSome}
 use Rattle.cper_sections.specs.declared.memory.MemSection.{MemSection}
 use Rattle.ras_facts.specs.declared.name.Name.{Name}
@@ -19,6 +19,7 @@ pub record IsLocation (at : ErrorLocation) : Type 0 where
   pub card : IfSome at.card (λ n. n < 2 ^ 16)
   pub «module» : IfSome at.«module» (λ n. n < 2 ^ 16)
 
+-- the numbers of an error fit their types
 pub record IsError (error : MemoryError) : Type 0 where
   pub severity : error.severity < 2 ^ 32
   pub physical : IfSome error.physical (λ n. n < 2 ^ 64)
@@ -26,7 +27,7 @@ pub record IsError (error : MemoryError) : Type 0 where
   pub location : IsLocation error.location
   pub kind : IfSome error.kind (λ n. n < 2 ^ 8)
 
--- the memory section of an error: what the lines of a report tell, and nothing else
+-- the memory section of an error: what the lines of a report say, and nothing else
 abbrev pub section_told : MemoryError → MemSection
 section_told error = record {
   physical = error.physical;
@@ -42,22 +43,22 @@ section_told error = record {
 
 -- ---- the line of a report's block
 
--- the errors of a report, those that ended and that of its last section
+-- the errors of a report: those whose sections ended, and the error of its last section
 abbrev pub report_errors : Reporting → OpenReport → List MemoryError
 report_errors r report = r.errors ++ section_errors report.section
 
--- its name and its time are in their ranges
+-- the report's name and its time are in their ranges
 pub record IsNamed (r : Reporting) (report : OpenReport) : Type 0 where
   pub boot : r.boot < 2 ^ 64
   pub began : r.began ≤ LAST_SECOND
   pub source : report.source < 2 ^ 16
   pub begun : report.begun < 2 ^ 64
 
--- under which it counts
+-- the name under which the report counts
 abbrev pub block_name : Reporting → OpenReport → Name
 block_name r report = names.Block r.boot report.source report.begun
 
--- what a run is asked by it: the block of these errors, under the report's source and time stamp
+-- what the report's line asks of a run: the block of these errors, under the report's source and time stamp
 abbrev pub block_asked : Reporting → OpenReport → Line
 block_asked r report =
     asks.Report (Block r.boot (r.began + report.begun / MICROSECONDS) report.source report.begun

@@ -1,4 +1,4 @@
-//! What the kernel prints of a firmware's report is read.
+//! What the kernel prints of a firmware's report is read back.
 
 ghost use Rattle.std.specs.Prelude.{◌≡◌, ◌^◌, ◌<◌, ◌≤◌, ℕ, List, [], ◌∷◌, length, map, true, Some};
 ghost use Rattle.std.specs.List.{AllByRecursion};
@@ -17,10 +17,10 @@ ghost use Rattle.block_lines.specs.declared.report.OpenSection.TheVariants.{Abse
 ghost use Rattle.block_lines.specs.declared.report.TheConstants.{MOST_ERRORS};
 ghost use Rattle.block_lines.specs.declared.report_line.ReportLine.TheVariants.{Start, Event};
 
-/// A line of a report, behind a head that shows it as the kernel's own, is read as the report's
-/// with its text; and the texts of a report are read as its source, its severity, and its errors
-/// with their severities, addresses, masks, places and types, in order. The function does nothing:
-/// its clauses are what it is for.
+/// What holds of a report as the kernel prints it. A line of the report, after a head that shows it
+/// as the kernel's own, is read as the report's line with its text. The report's texts are read as
+/// its source, its severity, and its errors with their severities, addresses, masks, locations and
+/// types, in order.
 pub fn printed_texts_are_read()
     ensures line { (head : List ℕ) (number : ℕ) (text : List ℕ) → is_own head ≡ true
         → Lacks 123 head → number < 2 ^ 64
@@ -36,9 +36,9 @@ pub fn printed_texts_are_read()
         ≡ map error_of errors }
 {}
 
-/// After the lines of a report, as the kernel prints them behind heads that show them as its own, a
-/// filter has that report in work, whatever it read before: its source, the time stamp of its first
-/// line, its severity, and its errors. The function does nothing: its clauses are what it is for.
+/// What holds after the lines of a report, as the kernel prints them after heads that show them as
+/// its own: whatever a filter read before, its open report has this source, the time stamp of the
+/// first line, this severity and these errors.
 pub fn printed_reports_are_read()
     ensures report { (r : Reporting) (number source severity stamp : ℕ) (head : List ℕ)
         (heads : List (List ℕ)) (printed : List PrintedError)

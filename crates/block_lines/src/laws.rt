@@ -1,4 +1,4 @@
-//! What is made is read back.
+//! What the filter writes is read back.
 
 ghost use Rattle.std.specs.Prelude.{◌≡◌, ◌<◌, ◌≤◌, ◌^◌, ℕ, List, false, length, map, Ok};
 ghost use Rattle.std.specs.List.{AllByRecursion};
@@ -17,9 +17,8 @@ ghost use Rattle.block_lines.specs.declared.report.OpenReport.{OpenReport};
 ghost use Rattle.block_lines.specs.declared.memory.MemoryError.{MemoryError};
 ghost use Rattle.block_lines.specs.declared.report.TheConstants.{MOST_ERRORS};
 
-/// The block that is made of errors is read as one of so many entries, each with the severity of
-/// its error, and a memory section with the error's address, mask, place and type, and nothing
-/// else. The function does nothing: its clauses are what it is for.
+/// What holds of the block of a report: it is read as one entry for each error, with the error's
+/// severity and a memory section of the error's address, mask, location and type, and nothing else.
 pub fn made_blocks_are_read_back()
     ensures block { (severity : ℕ) (errors : List MemoryError) → AllByRecursion IsError errors
         → 0 < length errors → length errors ≤ MOST_ERRORS
@@ -34,9 +33,8 @@ pub fn made_blocks_are_read_back()
         ≡ Ok (Memory (section_told error)) }
 {}
 
-/// The line of a report asks for the block of the report's errors, under a name that no report of
-/// that boot with another time stamp has. The function does nothing: its clauses are what it is
-/// for.
+/// What holds of the line of a report: it asks for the block of the report's errors, under a name
+/// that no report of the same boot with another time stamp has.
 pub fn made_lines_are_read_back()
     ensures line { (r : Reporting) (report : OpenReport) → IsNamed r report
         → AllByRecursion IsError (report_errors r report)

@@ -1,5 +1,8 @@
-//! Lines of script of the errors that the firmware reported, as a kernel log tells them: the lines
-//! of a report, the generic error status block that is made of them, and the table of its source.
+//! Converts the errors that the firmware reported, as a kernel log has them, to lines of script:
+//! reads the lines of a report, and makes the report's generic error status block and the table of
+//! its source.
+//!
+//! A public function with an empty body is a law: its clauses are the point.
 #![tactic(auto)]
 
 mod blocks;

@@ -1,4 +1,4 @@
-//! What calls of the board make of files.
+//! What calls of the board do to files.
 
 mod store;
 
@@ -29,12 +29,12 @@ fn is_missing(rt: &HostRuntime, name: &str) -> bool {
     fs::symlink_metadata(rt, name).is_err()
 }
 
-// Whether a file has these bytes.
+// Returns whether a file has these bytes.
 fn holds(rt: &HostRuntime, name: &str, bytes: &[u8]) -> bool {
     matches!(fs::read(rt, name), Ok(found) if found.as_slice() == bytes)
 }
 
-// How many bytes of file 1 are read at a place, and a buffer that they are read into.
+// Returns how many bytes of file 1 are read at an offset, and the buffer that they are read into.
 fn read<U: Use>(
     board: &mut FileBoard<RealSystem, U>,
     place: u64,
@@ -43,14 +43,14 @@ fn read<U: Use>(
     (board.read_at(FileNo::One, place, &mut buf), buf)
 }
 
-// Whether bytes are written to file 1, and whether it is synced.
+// Returns whether bytes are written to file 1, and whether the file is synced.
 fn write<U: Use>(board: &mut FileBoard<RealSystem, U>, bytes: &[u8]) -> (bool, bool) {
     let is_written = board.write_at(FileNo::One, 0, bytes).is_ok();
     (is_written, board.sync(FileNo::One).is_ok())
 }
 
-// A board that only reads finds a missing file empty, makes none, writes to none, and has what stood
-// at its first use beside one that writes.
+// A board that only reads finds a missing file empty, makes no file and writes to none. Beside a
+// board that writes it has what the files contained at its first use.
 #[test]
 fn reading_board_changes_nothing(rt: HostRuntime) -> Result<(), Fail> {
     enter(&rt, "reading")?;

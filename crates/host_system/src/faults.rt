@@ -1,10 +1,11 @@
-//! How a call that failed becomes a counted fault.
+//! Counting the calls that failed.
 ghost use Rattle.std.specs.Prelude.{◌≡◌, Ok, IfOk, OnErr, IsErr};
 ghost use Rattle.board_core.specs.Cause.{HasCause};
 
 use board_core::Failed;
 
-/// The answer, and the count raised if it is an error. A count ends at 2^64 - 1.
+/// Returns the answer, with any error as `Failed`, and raises the count if the answer is an error.
+/// A count stays at 2^64 - 1.
 pub fn counted<T, E: Drop>(answer: Result<T, E>, faults: &mut u64) -> Result<T, Failed>
     ensures ok { IfOk answer (λ value. result ≡ Ok value) }
     ensures err { OnErr answer (IsErr result) }

@@ -1,4 +1,6 @@
-//! What the program asks of its operating system, and what a stop of the machine leaves of it.
+//! What the program asks of its operating system, and what a crash of the machine leaves of it.
+//!
+//! A public function with an empty body is a law: its clauses are the point.
 #![tactic(auto)]
 
 mod board_file;

@@ -17,10 +17,10 @@ use ras_base::NoMemory;
 use std::alloc::Global;
 use std::marker::Model;
 
-/// A system in memory, which tells all and fails at chosen calls.
+/// A system in memory, which is modelled and fails at chosen calls.
 ///
-/// It keeps what the disk may have of each file and of each name, so that it can tell what a stop
-/// leaves. A call that is refused memory fails, and has done nothing.
+/// It stores what the disk may have of each file and of each name, so that it can say what a crash
+/// leaves. A call for which memory runs out fails, and has done nothing.
 #[derive(Drop)]
 pub struct MemSystem {
     alloc: Global,
@@ -35,12 +35,12 @@ pub struct MemSystem {
     faults: u64,
 }
 
-/// What there was before a call.
+/// The state before a chosen call.
 #[derive(Drop)]
 enum Kept {
-    /// The call hasn't come.
+    /// The call wasn't made yet.
     Nothing,
-    /// These files, and this output.
+    /// The files and the output before the call.
     Folder(MemFiles, Vec<u8>),
     /// Memory ran out.
     NoMemory,
@@ -52,17 +52,17 @@ struct ChosenFailure {
     effect: Effect,
 }
 
-/// What a call has done that fails. Whatever is chosen, a sync of a file that fails loses the file,
-/// and one of the names does nothing.
+/// What a failing call has done. Whatever is chosen, a failing sync of a file loses the file, and a
+/// failing sync of the names does nothing.
 #[derive(Clone, Copy, Debug, PartialEq, Eq)]
 pub enum Effect {
     /// Nothing.
     Nothing,
-    /// All that it was asked for: of a write, of a print, or of making, removing or renaming a file.
+    /// Everything asked for: a write, a print, or making, removing or renaming a file.
     All,
-    /// So many bytes of a write or of a print.
+    /// A write or a print of this many bytes only.
     Part(u64),
-    /// A write of this byte in the place of each that was to be written.
+    /// A write of this byte instead of every byte that was to be written.
     Other(u8),
 }
 
@@ -112,14 +112,19 @@ fn note(notes: &mut Notes, change: u64, name: FileName, place: u64, count: u64, 
 }
 
 impl MemSystem {
-    /// An empty folder, with nothing printed.
+    /// Returns a system with an empty folder, and with nothing printed.
     pub fn new(alloc: Global) -> MemSystem
         ensures { result ≡ begun_over nothing_there }
     {
         MemSystem::begun(alloc, LeftFolder::empty(alloc), LeftFolder::empty(alloc))
     }
 
-    /// A folder with these files, all of it on the disk, and with nothing printed.
+    /// Returns a system whose folder has these files, all of them durable, and with nothing
+    /// printed.
+    ///
+    /// # Errors
+    ///
+    /// `NoMemory`: only if memory runs out.
     pub fn over(alloc: Global, start: &LeftFolder) -> Result<MemSystem, NoMemory>
         ensures { IfOk result (λ system. system ≡ begun_over (as_stopped start.now)) }
     {
@@ -127,7 +132,7 @@ impl MemSystem {
         Ok(MemSystem::begun(alloc, first, start.copy(alloc)?))
     }
 
-    // A folder that begins with these files, given twice.
+    // Returns a system that begins with these files, which are given twice.
     fn begun(alloc: Global, first: LeftFolder, start: LeftFolder) -> MemSystem
         requires { as_stopped start ≡ as_stopped first }
         ensures { result ≡ begun_over (as_stopped first) }
@@ -158,8 +163,12 @@ impl MemSystem {
         }
     }
 
-    /// Makes the call of this number fail, with this done. All calls of the trait are numbered from
-    /// 1.
+    /// Makes the call with this number fail, after it has done `effect`. All calls of the trait are
+    /// numbered from 1.
+    ///
+    /// # Errors
+    ///
+    /// `NoMemory`: only if memory runs out.
     pub fn fail_at(&mut self, call: u64, effect: Effect) -> Result<(), NoMemory>
         ensures { self.new ≡ self.old }
     {
@@ -167,22 +176,31 @@ impl MemSystem {
         Ok(())
     }
 
-    /// What a stop now leaves, by this choice.
+    /// Returns what a crash leaves now, if `pick` is what the disk kept.
+    ///
+    /// # Errors
+    ///
+    /// `NoMemory`: only if memory runs out.
     pub fn left(&self, pick: &StopPick) -> Result<LeftFolder, NoMemory>
         ensures { IfOk result (λ left. MayLeaveFolder (folder_of self.now.past) (as_stopped left)) }
     {
         left_of_folder(self.alloc, &self.files, &self.out, pick)
     }
 
-    /// Chooses the moment before the call of this number, of which `left_before` tells. The last
-    /// choice stands, and it is to be made before that call.
+    /// Chooses the point before the call with this number, for `left_before`. Has to be called
+    /// before that call is made. The last choice applies.
     pub fn stop_before(&mut self, call: u64)
         ensures { self.new ≡ self.old }
     {
         self.stop = call;
     }
 
-    /// What a stop at the chosen moment left, by this choice: none if it hasn't come.
+    /// Returns what a crash at the chosen point left, if `pick` is what the disk kept, or `None` if
+    /// that point wasn't reached.
+    ///
+    /// # Errors
+    ///
+    /// `NoMemory`: only if memory ran out, now or at the chosen point.
     pub fn left_before(&self, pick: &StopPick) -> Result<Option<LeftFolder>, NoMemory>
         ensures { IfOk result (λ found. IfSome found (λ left.
             MayLeaveFolderSince (settled_folder self.now.past.first) self.now.past.changes 0
@@ -198,7 +216,7 @@ impl MemSystem {
         }
     }
 
-    // Counts a call. If a stop is to come before it, what is there is kept.
+    // Counts a call, and stores the state if a crash was chosen to come before the call.
     fn count(&mut self)
         ensures { self.new ≡ self.old }
     {
@@ -208,14 +226,14 @@ impl MemSystem {
         }
     }
 
-    // Keeps what is there now for `left_before`.
+    // Stores the present state for `left_before`.
     fn keep(&mut self)
         ensures { self.new ≡ self.old }
     {
         self.kept = kept_folder(self.alloc, &self.files, &self.out);
     }
 
-    // Counts a call, and says what it has done if it was chosen to fail.
+    // Counts a call, and returns what it has done if it was chosen to fail.
     fn fault(&mut self) -> Option<Effect>
         ensures { self.new ≡ self.old }
     {
@@ -227,7 +245,7 @@ impl MemSystem {
         }
     }
 
-    // Counts a call, and fails if it was chosen to.
+    // Counts a call, and fails if it was chosen to fail.
     fn begin(&mut self) -> Result<(), Failed>
         ensures past { self.new.past ≡ self.old.past }
         ensures cause { HasCause self.old.faults self.new.faults result }
@@ -273,7 +291,7 @@ impl MemSystem {
         Ok(())
     }
 
-    // Brings a file to the disk, or loses it if the call fails.
+    // Makes a file durable, or loses it if the call fails.
     fn sync_file(&mut self, name: FileName) -> Result<(), Failed>
         ensures ok { OnOk result (self.new.past ≡ changed_by (synced name) self.old.past) }
         ensures err { OnErr result (self.new.past ≡ changed_by (loses name) self.old.past) }
@@ -288,7 +306,7 @@ impl MemSystem {
         Ok(())
     }
 
-    // A write of which so many bytes are missing.
+    // Writes bytes, of which `missing` are missing at the end.
     fn write(
         &mut self,
         name: FileName,
@@ -311,7 +329,7 @@ impl MemSystem {
         Ok(())
     }
 
-    // A write that fails.
+    // Makes a write that fails.
     fn write_badly(
         &mut self,
         effect: Effect,
@@ -354,7 +372,7 @@ impl MemSystem {
         Ok(())
     }
 
-    // A print that fails.
+    // Makes a print that fails.
     fn print_badly(&mut self, effect: Effect, bytes: &[u8]) -> Result<(), Failed>
         ensures may { MayPrint bytes.now self.old.past self.new.past }
         ensures faults { self.new.faults ≡ self.old.faults }

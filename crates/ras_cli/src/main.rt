@@ -1,4 +1,4 @@
-//! The program: the daemon over standard input, standard output and the working folder's files.
+//! The program: runs a command over standard input, standard output and the working folder's files.
 #![tactic(auto)]
 
 mod laws;
@@ -12,7 +12,7 @@ use ras_host::{RealInput, RealSystem};
 use std::env::{Env, FillError};
 use std::process::ExitCode;
 
-// No word of a form of a call is longer.
+// Every word of a command is shorter than this.
 const LONGEST_WORD: usize = 64;
 
 fn main(rt: HostRuntime) -> ExitCode {
@@ -26,7 +26,7 @@ fn main(rt: HostRuntime) -> ExitCode {
     ExitCode::from(exit.status())
 }
 
-// The program's words without its name.
+// Returns the program's arguments without its name.
 fn words_of(rt: HostRuntime) -> Result<Vec<RasWord>, NoMemory> {
     let mut words = Vec::new(rt.alloc());
     for place in 1..usize::MAX {
@@ -38,8 +38,8 @@ fn words_of(rt: HostRuntime) -> Result<Vec<RasWord>, NoMemory> {
     Ok(words)
 }
 
-// The word at a place of the command line, if there is one. A word longer than `LONGEST_WORD`
-// is cut; no command has a word that long, so the cut one matches none either.
+// Returns the argument at this index of the command line, if there is one. An argument longer than
+// `LONGEST_WORD` is cut. No command has a word that long, so the cut argument matches none either.
 fn word_at(rt: HostRuntime, place: usize) -> Result<Option<RasWord>, NoMemory> {
     let mut bytes = [0; LONGEST_WORD];
     let length = match rt.arg(place, &mut bytes) {

@@ -1,4 +1,4 @@
--- What the words of a call ask for.
+-- What the arguments of the program ask for.
 use Rattle.std.specs.Prelude.{ℕ, ◌-◌, ◌^◌, ◌==◌, ◌&&◌, ◌≤◌, List, [], ◌∷◌, codes, Option, None, Some, if◌then◌else◌, ⊤}
 use Rattle.std.specs.Option.{option_and_then, option_map}
 use Rattle.std.specs.Str.{bytes_eq}
@@ -20,13 +20,13 @@ listing_of word =
     else if bytes_eq word (codes "metrics") then Some Metrics
     else None
 
--- a boot's number in decimal digits and IA32_MCG_CAP in hexadecimal ones, as a script writes them
+-- a boot's number in decimal digits and IA32_MCG_CAP in hexadecimal digits, as a script writes them
 abbrev pub klog_of : List ℕ → List ℕ → Option Task
 klog_of one other =
     option_and_then (λ boot. option_map (λ cap. Klog boot cap) (hexadecimal_of other))
     (decimal_of (2 ^ 64 - 1) one)
 
--- the same for the lines that are made of a trace or of a log
+-- the numbers for the lines made from a trace, and from a log
 abbrev pub trace_lines_of : List ℕ → Option Task
 trace_lines_of boot = option_map (λ number. TraceLines number) (decimal_of (2 ^ 64 - 1) boot)
 
@@ -41,15 +41,14 @@ ghes_lines_of boot began =
     option_and_then (λ number. option_map (λ second. GhesLines number second) (decimal_of LAST_SECOND began))
     (decimal_of (2 ^ 64 - 1) boot)
 
--- a number from 1 to the most reports that a script may be made up of
+-- a number from 1 to the most reports that a made-up script may have
 abbrev pub load_of : List ℕ → Option Task
 load_of word =
     option_and_then (λ n. if n == 0 then None else Some (Load n)) (decimal_of MOST_LINES word)
 
--- The forms of a call: `run`; `pcie`; `report` with a listing; `load` with a number; `klog` with a
--- boot and IA32_MCG_CAP; `lines trace` with a boot, `lines klog` with both, and `lines ghes` with a boot
--- and the second at which it began; `--help`; `--version`.
--- Other words are no form.
+-- The commands: `run`; `pcie`; `report` with a listing; `load` with a number; `klog` with a boot and
+-- IA32_MCG_CAP; `lines trace` with a boot, `lines klog` with both, and `lines ghes` with a boot and the
+-- second at which it began; `--help`; `--version`. Other arguments aren't a command.
 abbrev pub task_of : List (List ℕ) → Option Task
 task_of [] = None
 task_of (word ∷ []) =
@@ -72,14 +71,14 @@ task_of (word ∷ form ∷ boot ∷ cap ∷ []) =
     else None
 task_of (word ∷ form ∷ boot ∷ cap ∷ more ∷ words) = None
 
--- the number of a script that is made up, and the second of a boot, are in their ranges
+-- the number of made-up reports, and the second of a boot, are in their ranges
 abbrev pub IsTask : Task → Type 0
 IsTask (Load n) = n ≤ MOST_LINES
 IsTask (GhesLines boot began) = began ≤ LAST_SECOND
 IsTask task = ⊤
 
--- What holds of the source, by what the words ask for: what reads it takes of it, and all else leaves it
--- as it was.
+-- What a command does to its source: `Takes` if the command reads the source, and `Same`, which says that
+-- the source is as it was, if it doesn't.
 abbrev pub ReadsBy : Option Task → Type 0 → Type 0 → Type 0
 ReadsBy (Some Run) Takes Same = Takes
 ReadsBy (Some Pcie) Takes Same = Takes

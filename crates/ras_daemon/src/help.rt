@@ -3,7 +3,7 @@
 ghost use Rattle.std.specs.Prelude.{◌≡◌};
 ghost use Rattle.ras_daemon.specs.Help.{help_text, version_line};
 
-/// The forms of words, where the account is, and the statuses, a line each.
+/// The text of `--help`: the commands, where the account is, and the statuses, one line each.
 pub const HELP: &[u8] = b"\
     rasd keeps the account of a machine's hardware errors.\n\
     \n\
@@ -45,15 +45,15 @@ pub const HELP: &[u8] = b"\
     13 the input or a journal file has more than 67,108,864 bytes\n\
     man rasd and docs/OPERATOR.md say more, and what to do about each.\n";
 
-/// What `--help` prints. It takes no memory.
+/// Returns the text that `--help` prints. Allocates nothing.
 pub fn help_text() -> &'static [u8]
     ensures { result.now ≡ help_text }
 {
     HELP
 }
 
-/// What `--version` prints: the program's name, and its version as `report metrics` gives it. It
-/// takes no memory.
+/// Returns the line that `--version` prints: the program's name, and its version as in `report
+/// metrics`. Allocates nothing.
 pub fn version_line() -> &'static [u8]
     ensures { result.now ≡ version_line }
 {

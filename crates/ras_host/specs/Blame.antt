@@ -1,5 +1,5 @@
--- Why a call of a board over a system failed: a call of the system did, this time or before, or the
--- board had a reason of its own.
+-- Why a call of a board over a system failed: a call of the system failed, this time or before, or the board
+-- had a reason of its own.
 use Rattle.std.specs.Prelude.{◌≡◌, ℕ, ◌+◌, ◌<◌, ◌≤◌, ◌⊎◌, IsTrue, Result, OnErr}
 use Rattle.board_core.specs.Cause.{Faults}
 use Rattle.ras_host.specs.Steps.Once.{CountsOnce}
@@ -22,33 +22,33 @@ AreUsed (Open sound) = Unit {0}
 AreUsed Unread = ⊥
 AreUsed (Seen files sound) = Unit {0}
 
--- If a file of a run isn't sound a call of the system failed.
+-- If a file of a run isn't sound, a call of the system failed.
 abbrev pub AreBlamed : JournalFiles → ℕ → Type 0
 AreBlamed (Open sound) count = (IsTrue sound.zero × IsTrue sound.one) ⊎ (0 < count)
 AreBlamed files count = Unit {0}
 
--- A run's call of its files fails only if a call of the system did, this time or before. Files stay
--- a run's, or a report's.
+-- A run's call of its files fails only if a call of the system failed, this time or before. Files stay a
+-- run's, or a report's.
 pub record FilesCause {T E : Type 0} (old new : JournalFiles) (before now : ℕ) (result : Result T E) : Type 0 where
   pub once : CountsOnce before now result
   pub cause : OnErr result (AreReports new ⊎ (0 < now))
   pub stays : AreReports old → AreReports new
   pub comes : AreReports new → AreReports old
 
--- A change of the device may not have come into the store's file.
+-- A change of the device may not have reached the store's file.
 abbrev pub IsLost : Kept → Type 0
 IsLost (Lost before after) = Unit {0}
 IsLost kept = ⊥
 
--- How often calls of a board have failed, by how often those of its system have, of which none had
--- when the board was new.
+-- How often calls of a board have failed, by how often calls of its system have failed. None had failed when
+-- the board was new.
 pub record AreCaused (how : ℕ) (files : JournalFiles) (kept : Kept) (faults : Faults) (count : ℕ) : Type 0 where
-  -- Each call of the system that failed made another one of the board's fail.
+  -- Each failed call of the system made another call of the board fail.
   pub each : count ≤ faults.disk + (faults.registers + faults.prints)
   pub blamed : AreBlamed files count
   pub run : how ≡ 1 → AreReports files → ⊥
-  -- A run's disk call fails only if a call of the system did, or of the device before.
+  -- A run's disk call fails only if a call of the system failed, or a call of the device before.
   pub disk : how ≡ 1 → (faults.disk ≡ 0) ⊎ (0 < count + faults.registers)
-  -- A print fails only if the system's did.
+  -- A print fails only if the system's print failed.
   pub print : (faults.prints ≡ 0) ⊎ (0 < count)
   pub lost : IsLost kept → 0 < faults.registers

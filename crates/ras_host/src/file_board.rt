@@ -19,11 +19,11 @@ use host_system::{Notes, System, counted, print};
 use std::alloc::Global;
 use std::marker::{Model, PhantomData};
 
-/// The files `rasd.0`, `rasd.1` and `rasd.store` of the working folder, and standard output, of which
-/// it tells what the system tells. Each call that fails is counted, by its kind.
+/// A board over the files `rasd.0`, `rasd.1` and `rasd.store` of the working folder, and over
+/// standard output. It is modelled if its system is. Each call that fails is counted, by its kind.
 ///
-/// The record store is read at the device's first use, and empty if its file is missing. Each
-/// change of it is brought into its file before the call answers.
+/// The record store is read when the device is first used, and is empty if its file is missing.
+/// Each change of the store is written to its file before the call returns.
 #[derive(Drop)]
 pub struct FileBoard<S: System + Drop, U: Use> {
     alloc: Global,
@@ -73,7 +73,9 @@ impl<S: System + Drop, U: Use> Model for FileBoard<S, U> {
 }
 
 impl<S: System + Drop, U: Use> FileBoard<S, U> {
-    /// The board over a system, with no faults. No file is opened yet.
+    /// Returns the board over a system, with no faults. Opens no file yet. Requires a system none
+    /// of whose calls has failed; if the system is modelled, its folder must be one that a board
+    /// may begin over.
     pub fn new(alloc: Global, system: S) -> FileBoard<S, U>
         requires begins { IfSome (S.told system) MayBegin }
         requires quiet { S.faults system ≡ 0 }
@@ -98,7 +100,7 @@ impl<S: System + Drop, U: Use> FileBoard<S, U> {
         }
     }
 
-    /// The system that the board is over.
+    /// Returns the system that the board is over.
     pub fn into_system(self) -> S
         ensures past { S.told result ≡ self.past }
         ensures count { S.faults result ≡ self.count }
@@ -147,8 +149,8 @@ impl<S: System + Drop, U: Use> Board for FileBoard<S, U> {
         counted(answer, &mut self.disk_faults)
     }
 
-    // Once a change of the store may not have come into its file, it isn't known which store the
-    // disk has. A sync that goes well would say so.
+    // After a change of the store that may not have reached its file, it isn't known which store
+    // the disk has. A sync that succeeds would say that it is.
     fn sync(&mut self, file: FileNo) -> Result<(), Failed> {
         list_disk_call(DiskCall::Sync(file), &mut self.disk_calls);
         if !self.kept.is_saved() {

@@ -5,7 +5,8 @@ use board_core::{Failed, Source};
 use host_system::Input;
 use std::marker::Model;
 
-/// The bytes of an input, which it tells if the input does. Its faults are the input's.
+/// A source of the bytes of an input. It is modelled if the input is, and its faults are the
+/// input's.
 #[derive(Drop)]
 pub struct FileSource<I: Input + Drop> {
     input: I,
@@ -20,7 +21,7 @@ impl<I: Input + Drop> Model for FileSource<I> {
 }
 
 impl<I: Input + Drop> FileSource<I> {
-    /// The input from where it stands.
+    /// Returns a source of the bytes that the input has left.
     pub fn new(input: I) -> FileSource<I>
         ensures left { result.left ≡ I.left input }
         ensures faults { result.faults ≡ I.faults input }
@@ -28,7 +29,7 @@ impl<I: Input + Drop> FileSource<I> {
         FileSource { input }
     }
 
-    /// The input that it reads.
+    /// Returns the input that the source reads.
     pub fn into_input(self) -> I
         ensures left { I.left result ≡ self.left }
         ensures faults { I.faults result ≡ self.faults }

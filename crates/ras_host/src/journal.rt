@@ -15,24 +15,26 @@ use host_system::{
 };
 use std::alloc::Global;
 
-/// The journal's files, both of which are opened at the first use of one. What was written to a file
-/// before a sync that failed may be gone, though a later one goes well: so it isn't asked again.
+/// The journal's files, both of which are opened or read at the first use of either. A file of
+/// which a sync failed isn't used again: what was written to it before may be gone, even if a later
+/// sync succeeds.
 #[derive(Drop)]
 pub enum JournalFiles {
-    /// A run's, which aren't open yet.
+    /// A run's files, which aren't open yet.
     Shut,
-    /// A run's, of which each that is sound is open and locked, its name is on the disk, and all its
-    /// syncs went well. If opening failed, neither is sound.
+    /// A run's files. Each sound file is open and locked, its name is durable, and all its syncs
+    /// succeeded. If opening failed, neither is sound.
     Open(Pair<bool>),
-    /// A report's, which aren't read yet.
+    /// A report's files, which aren't read yet.
     Unread,
-    /// A report's: what was read of both at one moment, and of each whether its name is on the disk
-    /// and all its syncs went well.
+    /// A report's files: what was read of both at one time, and for each whether its name is
+    /// durable and all its syncs succeeded.
     Seen(Pair<ReadFile>, Pair<bool>),
 }
 
 impl JournalFiles {
-    /// Both files, neither of which is opened yet: a run's if the number is 1, and else a report's.
+    /// Returns both files before their first use: a run's files if `how` is 1, otherwise a
+    /// report's.
     pub fn new(how: u8) -> JournalFiles
         ensures { result ≡ files_for how }
     {
@@ -42,7 +44,11 @@ impl JournalFiles {
         }
     }
 
-    /// The length in bytes.
+    /// Returns the length of a file in bytes.
+    ///
+    /// # Errors
+    ///
+    /// `Failed`: in a run, only if a call of the system failed, this time or before.
     pub fn size<S: System>(
         &mut self,
         alloc: Global,
@@ -68,8 +74,13 @@ impl JournalFiles {
         }
     }
 
-    /// Reads from `place` on until the buffer is full or the file ends. A report fails past what it
-    /// read of a file that is too long.
+    /// Reads from the offset `place` on until the buffer is full or the file ends, and returns the
+    /// number of bytes read.
+    ///
+    /// # Errors
+    ///
+    /// `Failed`: in a run, only if a call of the system failed, this time or before. A report also
+    /// fails past what it read of a file that is too long.
     pub fn read_at<S: System>(
         &mut self,
         alloc: Global,
@@ -98,7 +109,12 @@ impl JournalFiles {
         }
     }
 
-    /// Writes bytes at a place that is at most the file's length. A report writes none and fails.
+    /// Writes bytes at the offset `place`, which may not be past the file's end.
+    ///
+    /// # Errors
+    ///
+    /// `Failed`: in a run, only if a call of the system failed, this time or before. A report
+    /// always fails, and writes nothing.
     pub fn write_at<S: System>(
         &mut self,
         alloc: Global,
@@ -129,7 +145,12 @@ impl JournalFiles {
         }
     }
 
-    /// Makes the file durable. If that fails, the file isn't used again.
+    /// Makes a file durable.
+    ///
+    /// # Errors
+    ///
+    /// `Failed`: in a run, only if a call of the system failed, this time or before. The file isn't
+    /// used again afterwards.
     pub fn sync<S: System>(
         &mut self,
         alloc: Global,
@@ -164,7 +185,7 @@ impl JournalFiles {
         }
     }
 
-    // Opens or reads both files if that isn't done.
+    // Opens or reads both files, unless that was done.
     fn open<S: System>(&mut self, alloc: Global, system: &mut S) -> Result<(), Failed>
         requires held { IfSome (S.told system.old) (AreHeld self.old) }
         requires blamed { AreBlamed self.old (S.faults system.old) }
@@ -195,7 +216,7 @@ impl JournalFiles {
     }
 }
 
-// The same of both files.
+// Returns the same answer for both files.
 fn both(is_sound: bool) -> Pair<bool>
     ensures { result ≡ record { zero = is_sound; one = is_sound } }
 {

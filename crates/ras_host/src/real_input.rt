@@ -1,11 +1,11 @@
-//! The standard input of the process, of whose bytes no clause speaks.
+//! The standard input of the process. No clause covers its bytes.
 ghost use Rattle.std.specs.Prelude.{◌≡◌, ◌≤◌, length, IfOk, None};
 
 use board_core::Failed;
 use host_system::{Input, counted};
 use std::io::{ErrorKind, Read};
 
-/// The standard input of the process, which tells nothing.
+/// The standard input of the process, which isn't modelled.
 #[derive(Drop)]
 pub struct RealInput {
     rt: HostRuntime,
@@ -13,7 +13,7 @@ pub struct RealInput {
 }
 
 impl RealInput {
-    /// The process's input, from where it stands.
+    /// Returns the process's standard input, from its present position on.
     pub fn new(rt: HostRuntime) -> RealInput
         ensures process { result.rt ≡ rt }
         ensures quiet { result.faults ≡ 0 }
@@ -21,7 +21,7 @@ impl RealInput {
         RealInput { rt, faults: 0 }
     }
 
-    // A read is made again if a signal interrupted it.
+    // Reads again if a signal interrupted the read.
     fn read_next(&self, buf: &mut [u8]) -> Result<usize, Failed>
         ensures { IfOk result (λ n. n ≤ length buf.old) }
     {

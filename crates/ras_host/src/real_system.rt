@@ -1,9 +1,9 @@
 //! The working folder and standard output of the process. Each method makes the one call that its
-//! name says, and looks at names as the module `names` does. Of what that does no clause speaks: they
-//! say that a call which fails is counted.
+//! name says, and checks names by the module `names`. No clause covers the effects of these calls:
+//! the clauses say only that each failed call is counted.
 //!
-//! The library's calls on a whole file, `read_exact_at` and `write_all_at` go on after a short read
-//! or write, and make a call again that a signal interrupted.
+//! The library's calls on a whole file, `read_exact_at` and `write_all_at` continue after a short
+//! read or write, and repeat a call that a signal interrupted.
 ghost use Rattle.std.specs.Prelude.{◌≡◌, [], None, replicate};
 
 use crate::names::{check_names, is_there, look, number, open_linked, open_to_read, path};
@@ -15,21 +15,21 @@ use std::io::{ErrorKind, Read, Write};
 use std::os::fd::AsRawFd;
 use std::os::unix::fs::{FileExt, MetadataExt, OpenOptionsExt, fchown};
 
-// The mode of a new file, less the bits of the process's mask. Whoever may read a journal file can
-// hold its lock, so others may not.
+// The mode of a new file, without the bits of the process's mask. Other users may not read a
+// journal file, because whoever can read it can hold its lock.
 const NEW_MODE: u32 = 0o640;
 
-// The mode of a new store's file that isn't yet given the old one's owner and mode.
+// The mode of a new store's file before it gets the owner and mode of the old one.
 const UNOWNED_MODE: u32 = 0o600;
 
-// The greatest length of a file whose bytes may lie in its inode. Linux's ext4 has such files if it
-// was made with `inline_data`, and its fdatasync brings none of these bytes to the disk.
+// The greatest length of a file whose bytes may be in its inode. Linux's ext4 has such files if it
+// was made with `inline_data`, and its fdatasync doesn't make these bytes durable.
 const INLINE_LENGTH: u64 = 4096;
 
-// Where a new store goes that has no store to take the place of.
+// The name under which a new store's file is kept if `rasd.store` is missing.
 const LEFT: &str = "rasd.left";
 
-/// The working folder and standard output of the process, which tell nothing.
+/// The working folder and standard output of the process, which aren't modelled.
 #[derive(Drop)]
 pub struct RealSystem {
     calls: Calls,
@@ -37,7 +37,7 @@ pub struct RealSystem {
 }
 
 impl RealSystem {
-    /// The process's folder and output, with no file open and no faults.
+    /// Returns the process's folder and output, with no file open and no faults.
     pub fn new(rt: HostRuntime) -> RealSystem
         ensures process { result.calls.rt ≡ rt }
         ensures shut { result.calls.files ≡ replicate 4 None }
@@ -54,7 +54,7 @@ impl RealSystem {
     }
 }
 
-// Each call, and its fault counted if it failed.
+// Makes each call, and counts its fault if it failed.
 impl System for RealSystem {
     ghost told = { λ _. None };
 
@@ -113,15 +113,15 @@ impl System for RealSystem {
     }
 }
 
-// The calls of the process, and what it has open for them.
+// The process's calls, and the files that it has open for them.
 #[derive(Drop)]
 struct Calls {
     rt: HostRuntime,
-    // Each file that is open, at its name's number.
+    // Each open file, at its name's number.
     files: [Option<File>; 4],
-    // How long each of them is at least.
+    // The least length of each open file.
     lengths: [u64; 4],
-    // The folders that links of locked files lead into.
+    // The folders that symlinks of locked files lead into.
     linked: Vec<File>,
 }
 
@@ -130,14 +130,15 @@ impl Calls {
         self.files[number(name)].as_ref().ok_or(Failed)
     }
 
-    // Takes a file as the one that is open at a name.
+    // Takes a file as the open file of a name.
     fn take(&mut self, name: FileName, file: File) -> io::Result<()> {
         self.lengths[number(name)] = file.metadata()?.len();
         self.files[number(name)] = Some(file);
         Ok(())
     }
 
-    // Brings the names in the folder to the disk, and those in the folders of linked files.
+    // Makes the names in the folder durable, and those in the folders that symlinks of locked files
+    // lead into.
     fn sync_folders(&self) -> io::Result<()> {
         File::open(&self.rt, ".")?.sync_all()?;
         for folder in &self.linked {
@@ -191,9 +192,9 @@ impl Calls {
         file.read_exact_at(buf, place).map_err(|_| Failed)
     }
 
-    // What went to a journal file that has no name any more would be lost. One byte alone is a gate,
-    // behind the link that was just written. Before a file is begun anew, the names themselves are
-    // looked at again.
+    // Fails on a journal file that has no name left, because what is written to it would be lost. A
+    // write of one byte is a gate, whose link was written just before, so it isn't checked. Before
+    // a file is begun from scratch, the names themselves are checked again.
     fn write_at(&mut self, name: FileName, place: u64, bytes: &[u8]) -> Result<(), Failed> {
         if place == 0 && name != FileName::New {
             check_names(&self.rt, &self.files).map_err(|_| Failed)?;
@@ -211,7 +212,7 @@ impl Calls {
 
     fn sync(&self, name: FileName) -> Result<(), Failed> {
         let file = self.opened(name)?;
-        // The owner and the mode of a new store's file are to be on the disk too.
+        // The owner and the mode of a new store's file have to be durable too.
         let answer = match name {
             FileName::New => file.sync_all(),
             _ => sync_bytes(file, self.lengths[number(name)]),
@@ -219,8 +220,8 @@ impl Calls {
         answer.map_err(|_| Failed)
     }
 
-    // What a run that was ended wrote there may not be on the disk yet. Of a file system that can be
-    // read alone nothing is awaited, as after a fault of its disk.
+    // What a run wrote there before it ended may not be durable yet. On a read-only file system
+    // nothing waits to be written, for example after a fault of its disk.
     fn sync_read(&self, file: FileNo) -> Result<(), Failed> {
         let opened = open_to_read(&self.rt, FileName::Journal(file)).map_err(|_| Failed)?;
         let Some(opened) = opened else {
@@ -233,8 +234,9 @@ impl Calls {
         }
     }
 
-    // A file system without a journal may lose the rename of a new store half: then it stands under its
-    // first name, and no store is there. So it isn't removed then, but kept under another name.
+    // A file system without a journal may lose half of the rename of a new store: the store then
+    // has its first name, and `rasd.store` is missing. So the file isn't removed in that case, but
+    // kept under another name.
     fn remove(&self, name: FileName) -> Result<(), Failed> {
         let is_alone = !is_there(&self.rt, path(FileName::Store)).map_err(|_| Failed)?;
         if name != FileName::New || !is_alone {
@@ -251,9 +253,9 @@ impl Calls {
         rename(&self.rt, path(FileName::New), path(FileName::Store)).map_err(|_| Failed)
     }
 
-    // A run has its files open, a report none. What a run told is on the disk, since the run itself
-    // brought the names there first. So a report goes on where it may search the folder and not open
-    // it, or where the folder can't be synced, as it does with a file.
+    // A run has its files open, a report has none. What a run reported is durable, because the run
+    // itself made the names durable first. So a report continues where it may search the folder but
+    // not open it, or where the folder can't be synced, as it does with a file.
     fn sync_names(&self) -> Result<(), Failed> {
         let is_report = self.files.iter().all(|file| file.is_none());
         match self.sync_folders().map_err(|error| error.kind()) {
@@ -268,7 +270,7 @@ impl Calls {
     }
 }
 
-// Whether a sync was refused by a file system that can be read alone, or that has none.
+// Returns whether a sync was refused by a file system that is read-only or doesn't support it.
 fn is_without_sync(kind: ErrorKind) -> bool {
     matches!(
         kind,
@@ -276,7 +278,7 @@ fn is_without_sync(kind: ErrorKind) -> bool {
     )
 }
 
-// Brings a file's bytes to the disk, by its length.
+// Makes a file's bytes durable, by its length.
 fn sync_bytes(file: &File, length: u64) -> io::Result<()> {
     if length <= INLINE_LENGTH {
         return file.sync_all();
@@ -284,8 +286,8 @@ fn sync_bytes(file: &File, length: u64) -> io::Result<()> {
     file.sync_data()
 }
 
-// Makes a file and opens it. Two runs may both want to make it: they meet at its lock. No file is made
-// through a link that leads nowhere: the disk that it leads to may not be there.
+// Makes a file and opens it. If two runs want to make it, its lock decides. No file is made through
+// a symlink that leads nowhere, because the disk behind it may not be mounted.
 fn make_file(rt: &HostRuntime, name: FileName) -> io::Result<File> {
     let mut options = OpenOptions::new();
     options.create_new(true).mode(NEW_MODE);
@@ -301,8 +303,8 @@ fn make_file(rt: &HostRuntime, name: FileName) -> io::Result<File> {
 fn open_file(rt: &HostRuntime, name: FileName, mut options: OpenOptions) -> io::Result<File> {
     options.read(true).write(true);
     let file = options.open(rt, path(name))?;
-    // The system gives a file the lowest free number, so that of a standard stream that is closed.
-    // A copy has a greater one.
+    // The system gives a file the lowest free number, which may be a closed standard stream's. A
+    // copy has a greater one.
     if file.as_raw_fd() <= 2 {
         return file.try_clone();
     }

@@ -1,16 +1,16 @@
 //! What a board does with the journal's files.
 ghost use Rattle.std.specs.Prelude.{ℕ};
 
-/// What a board does with the journal's files. Which board is a run's is in its type, since that alone
-/// outlives a command.
+/// How a board uses the journal's files. It is in the board's type, because only the type survives
+/// a command.
 pub trait Use {
     ghost HOW: { ℕ };
 
-    /// 1 of a run, and 0 of every other command.
+    /// 1 for a run, and 0 for every other command.
     const HOW: u8;
 }
 
-/// A run reads and writes the files, as the only program that does. A file that is missing is made.
+/// A run reads and writes the files, as the only program that does. It makes a missing file.
 pub struct Alone;
 
 impl Use for Alone {
@@ -19,8 +19,8 @@ impl Use for Alone {
     const HOW: u8 = 1;
 }
 
-/// Any other command reads the files as they stand at the first use, though a run may be at work on
-/// them. A file that is missing is empty.
+/// Every other command reads the files as they are at the first use, even while a run writes them.
+/// A missing file counts as empty.
 pub struct Reading;
 
 impl Use for Reading {

@@ -1,8 +1,9 @@
-//! Both files of a journal, the older one first.
+//! Reads both files of a journal, the older one first.
 //!
-//! A switch writes the account with which one file ends as the checkpoint of the other. So the older
-//! file is read first, and its account goes on into the newer one: no second account is made. Which one
-//! is older is only guessed by their fronts; what is answered was read of both.
+//! A switch writes the account with which one file ends as the checkpoint of the other. So the
+//! older file is read first and its account is continued in the newer one, without making a second
+//! account. Which file is older is only guessed from their fronts; the result depends only on what
+//! was read of both.
 ghost use Rattle.std.specs.Prelude.{◌≡◌, ◌≤◌, length, None, Some, Ok, IfSome, IfOk, IfErr};
 ghost use Rattle.board_core.specs.Told.{file_of};
 ghost use Rattle.ras_journal.specs.declared.limits.TheConstants.{LONGEST_FILE};
@@ -26,7 +27,7 @@ use journal_format::CHECKPOINT_PLACE;
 use ras_account::Account;
 use std::alloc::Global;
 
-// The generation that stands at the front of a file, if the file stands.
+// Returns the generation at the front of a file, if the file is valid.
 fn generation_told<B: Board>(
     alloc: Global,
     file: SizedFile,
@@ -56,7 +57,7 @@ fn generation_told<B: Board>(
     }
 }
 
-// The file of the greater generation, if both files have one and it isn't the same.
+// Returns the file of the greater generation, if both files have a generation and these differ.
 fn newer_of(zero: Option<u64>, one: Option<u64>) -> Option<FileNo> {
     match (zero, one) {
         (Some(zero), Some(one)) => {
@@ -72,7 +73,7 @@ fn newer_of(zero: Option<u64>, one: Option<u64>) -> Option<FileNo> {
     }
 }
 
-// The file that is newer by what stands at the fronts of both, if both stand.
+// Returns the newer file by the fronts of both, if both files are valid.
 fn newer_told<B: Board>(
     alloc: Global,
     zero: SizedFile,
@@ -97,7 +98,8 @@ fn newer_told<B: Board>(
     }
 }
 
-// What counts of a file, if it stands undamaged, whatever generation the other file has.
+// Returns what is read of a file, if it is valid and undamaged, whatever generation the other file
+// has.
 fn read_sound<B: Board>(
     alloc: Global,
     before: Option<Account>,
@@ -122,7 +124,7 @@ fn read_sound<B: Board>(
     }
 }
 
-// Both files, if they stand undamaged and this one is the newer one.
+// Returns what is read of both files, if both are valid and undamaged and `file` is the newer one.
 fn read_in_turn<B: Board>(
     alloc: Global,
     older: SizedFile,
@@ -164,8 +166,8 @@ fn read_in_turn<B: Board>(
     }))
 }
 
-// Both files, the older one first; or none if they have to be read one by one, because one of them
-// doesn't stand or is damaged.
+// Returns what is read of both files, the older one first. Returns `None` if they have to be read
+// one by one, because one of them isn't valid or is damaged.
 pub(crate) fn read_by_age<B: Board>(
     alloc: Global,
     zero: SizedFile,
