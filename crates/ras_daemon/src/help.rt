@@ -13,12 +13,12 @@ pub const HELP: &[u8] = b"\
     rasd report names              the names of the errors that were counted\n\
     rasd report modules            the modules, and which are to be replaced\n\
     rasd report metrics            the account in the text format of Prometheus\n\
-    rasd lines trace BOOT < TRACE  make a script of a trace of the kernel\n\
-    rasd lines klog BOOT CAP < LOG make a script of a log of the kernel\n\
-    rasd lines ghes BOOT SEC < LOG make a script of what the firmware reported\n\
+    rasd lines trace BOOT < TRACE  convert a kernel trace to a script\n\
+    rasd lines klog BOOT CAP < LOG convert a kernel log to a script\n\
+    rasd lines ghes BOOT SEC < LOG convert the firmware's reports to a script\n\
     rasd klog BOOT CAP < LOG       print the machine checks of a log, decoded\n\
     rasd pcie < SCRIPT             print the PCI Express errors of a script\n\
-    rasd load N                    try the machine with N reports, in memory\n\
+    rasd load N                    dry run: count N made-up reports, in memory\n\
     rasd --help                    print this\n\
     rasd --version                 print the version\n\
     \n\
@@ -30,15 +30,15 @@ pub const HELP: &[u8] = b"\
     \n\
     Statuses:\n\
     \x200 the input was read to its end, or what was asked for was printed\n\
-    \x201 the words are none of the above\n\
-    \x202 a line can't be taken; the last line says which one, and why\n\
+    \x201 unknown command\n\
+    \x202 a line was rejected; the last line says which one, and why\n\
     \x203 standard input can't be read\n\
     \x204 a disk call failed, or another run has the folder\n\
     \x205 the record store can't be read or replaced, or is no store\n\
     \x206 standard output can't be written\n\
     \x207 a journal file is damaged\n\
     \x208 the account or its journal is full\n\
-    \x209 a panic or poll has no table before it, or a table isn't rasd's\n\
+    \x209 a panic or poll came before any erst line, or an erst table isn't rasd's\n\
     10 the record store stays busy\n\
     11 the record store refuses an operation\n\
     12 memory ran out\n\

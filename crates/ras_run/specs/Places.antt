@@ -1,5 +1,5 @@
--- Where a run begins, and what it has come to before a line: the account that its journal holds,
--- where the journal stands, and the record store.
+-- Where a run begins, and what it has come to before a line: the account that its journal has, the journal's position,
+-- and the record store.
 use Rattle.std.specs.Prelude.{◌≡◌, ℕ, Bool, false, ◌||◌, List, [], ◌∷◌}
 use Rattle.board_core.specs.Told.{Told}
 use Rattle.erst_store.specs.Store.{Stored}
@@ -16,8 +16,8 @@ use Rattle.ras_events.specs.Making.{polled}
 use Rattle.ras_events.specs.Reports.{NumberedLine, Place, entries_at, reports, settings_told}
 use Rattle.ras_events.specs.Stores.{laid}
 
--- where a run begins: the account that its journal holds, and where the journal stands; the record
--- store, and how many busy answers a command of its device costs
+-- where a run begins: the account that its journal has, the journal's position, the record store, and how many busy
+-- answers a command of its device costs
 pub record Start : Type 0 where
   pub account : State
   pub standing : Standing
@@ -35,8 +35,8 @@ store_at start before = laid start.store before
 abbrev pub polled_at : Start → List NumberedLine → ℕ → List Piece
 polled_at start before seconds = polled (settings_told before).topology seconds (store_at start before)
 
--- where the journal stands once the news of an event are kept after an account: news are one link,
--- and no news are none
+-- the position once an event's new entries are kept after an account: they are one link, and without new entries
+-- there is no link
 abbrev pub standing_with_news : State → Standing → List Entry → Standing
 standing_with_news account standing [] = standing
 standing_with_news account standing (entry ∷ entries) = standing_kept standing account (link_bytes (entry ∷ entries))
@@ -52,7 +52,7 @@ has_no_room_for account standing entries =
     are_past (numbers_with account entries)
     || lacks_room_for account standing (fresh_entries_in account entries)
 
--- where the journal stands after lines, each at its place
+-- the position after lines, each at its place
 abbrev pub standing_along : Start → Standing → List Place → Standing
 standing_along start standing [] = standing
 standing_along start standing (place ∷ places) =
