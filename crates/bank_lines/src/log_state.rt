@@ -96,8 +96,9 @@ fn found_told(count: u64, stamp: Option<u64>, vendor: u64, out: &KlogOut) -> Fin
     }
 }
 
-// A report with a counter of its own, if it has none.
-fn with_counter(count: u64, stamp: Option<u64>, report: BankReport) -> BankReport
+/// Returns a report, with a counter of its own if it has none: the microseconds of its stamp, or
+/// without one its time and the number of such reports before it, `count`.
+pub fn with_counter(count: u64, stamp: Option<u64>, report: BankReport) -> BankReport
     requires { count < MICROSECONDS }
     ensures { result ≡ with_counter count stamp report }
 {
