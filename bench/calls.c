@@ -1,10 +1,10 @@
-/* calls: the writes, syncs and prints that `rasd run` needs for a line of a new name, and no work besides: what would
-   be left of the program if its own cost nothing.
+/* calls: only makes the writes, syncs and prints that `rasd run` needs for a line of a new name. Its time is the program's if
+   the program's own work cost nothing.
 
-   calls             each line of standard input writes a link of 60 bytes, syncs, opens its gate and syncs; it prints
-                     as many bytes as a `log` line and a done line have
-   calls all NAMES   and after each 256 lines the other file is written anew, with 20 bytes for each of NAMES names
-                     and of those that came since, in three writes and syncs, as by a switch */
+   calls             for each line of standard input it writes a link of 60 bytes, syncs, opens its gate and syncs; it
+                     prints as many bytes as a `log` line and a done line have
+   calls all NAMES   after each 256 lines it also writes the other file, with 20 bytes for each of NAMES names and of
+                     those that came since, in three writes and syncs, as a switch does */
 #define _GNU_SOURCE
 #include <fcntl.h>
 #include <stdio.h>

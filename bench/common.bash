@@ -1,13 +1,13 @@
 # shellcheck shell=bash
-# What the scripts of this folder share. A script says its usage in its second line.
+# The common parts of this folder's scripts. A script has its usage in its second line.
 #
-# C stands for a counterpart in this folder, built anew. All files are in a temporary folder, in memory if there is
-# such a place, where a flush costs nothing.
+# The counterparts in C are built each time. All files are in a temporary folder, in memory if possible, where a flush costs
+# nothing.
 set -euo pipefail
 shopt -s inherit_errexit
 bench=$(dirname -- "$(readlink -f -- "${BASH_SOURCE[0]}")")
 
-# Takes a script's words: PROGRAM [full].
+# Reads a script's arguments, PROGRAM [full], and enters a temporary folder.
 begin() {
     [[ $# -ge 1 && $# -le 2 && -x $1 && ${2-full} == full ]] || {
         sed -n '2s/^# //p' "$0" >&2
@@ -29,7 +29,7 @@ say_skipped() {
     echo "skipped: $*" >&2
 }
 
-# Whether there are tools; says which of them isn't there.
+# Whether all tools are installed; says which one isn't.
 have() {
     local tool
     for tool; do
@@ -50,7 +50,7 @@ build() {
     done
 }
 
-# Prints so many lines of a kind: KIND COUNT [BOOT]
+# Prints lines of a kind: KIND COUNT [BOOT]
 lines() {
     local block record table
     block=$(sed -n '/^ghes/{s/.* //p;q}' "$bench/../demo/pcie.script")
@@ -60,7 +60,7 @@ lines() {
         -f "$bench/lines.awk"
 }
 
-# Empties the work folder, but for the journal of an account of so many names, which rasd makes once.
+# Empties the work folder except for the journal of an account with NAMES names, which rasd makes once.
 over() {
     local kept=$ACCOUNTS/$1
     if [[ ! -d $kept ]]; then
@@ -71,15 +71,15 @@ over() {
     cp -- "$kept"/* "$room/work"
 }
 
-# What a file of rounds has in a column, the least number first; column 0 is of zeros.
+# Prints a column of a file of rounds, the least number first; column 0 has zeros.
 ranked() {
     if [[ $2 == 0 ]]; then echo 0; else cut -d ' ' -f "$2" -- "$1" | sort -g; fi
 }
 best() { ranked "$@" | sed -n 1p; }
 middle() { ranked "$@" | awk '{ them[NR] = $1 } END { print them[int(NR / 2) + 1] }'; }
 
-# A column less another one in a file of rounds, over the same in a second file: of the best and, in brackets, of the
-# middle rounds: FILE FILE COLUMN COLUMN
+# Prints the ratio of two files of rounds, of a column less another one: FILE FILE COLUMN COLUMN. First that of the best
+# rounds, then, in brackets, that of the middle ones.
 ratio() {
     local how
     for how in best middle; do
@@ -89,7 +89,7 @@ ratio() {
         END { print told[1] " (" told[2] ")" }'
 }
 
-# A number with its thousands told apart.
+# Prints a number with commas between its thousands.
 grouped() {
     sed ':more;s/\B[0-9]\{3\}\>/,&/;tmore' <<<"$1"
 }

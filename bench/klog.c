@@ -1,6 +1,6 @@
-/* klog BOOT CAP: in plain C what `rasd klog BOOT CAP` does with a log whose reports are of corrected errors of
-   memory: it finds the three lines of each report and prints its `log` line, and at last how many there were, in the
-   same bytes. The text is printed before the log is read again, as by rasd. */
+/* klog BOOT CAP: does in plain C what `rasd klog BOOT CAP` does with a log of corrected memory errors: it finds the three
+   lines of each report and prints its `log` line, and at the end their number, in the same bytes. Like rasd it prints the
+   text before it reads the log again. */
 #include "text.h"
 
 static Text out;

@@ -1,6 +1,6 @@
-# Prints `count` lines of a kind, for what is measured in this folder: rows of modules, bank reports of new names (of
-# boot `boot`), one again and again, and so on. `block` and `record` are of the firmware, in hexadecimal, and `table` is a
-# line of the record store's table.
+# Prints `count` lines of a kind, for this folder's measurements: `module` lines, machine checks of new names (of boot
+# `boot`), the same one again and again, and so on. `block` and `record` are the firmware's, in hexadecimal, and `table` is the
+# `erst` line.
 BEGIN {
     bank = "1000c14 0 8c00004000010090 12345040 86"
     zeros = "0000000000000000"

@@ -1,7 +1,7 @@
-/* lines klog BOOT CAP | lines trace BOOT: in plain C what `rasd lines` does with a log as the console prints it, with a
-   stamp in brackets, or with a trace as kernels since 6.12 print it: the `bank` line of each whole report of an Intel
-   processor, and a comment for each line that can't be read, in the same bytes. The text is printed before the source
-   is read again, as by rasd. */
+/* lines klog BOOT CAP | lines trace BOOT: does in plain C what `rasd lines` does with a log as the console prints it, with a
+   time stamp in brackets, or with a trace as kernels since 6.12 print it: it prints the `bank` line of each complete report
+   of an Intel processor, and a comment for each unreadable line, in the same bytes. Like rasd it prints the text before it
+   reads the source again. */
 #include "text.h"
 
 static Text out;

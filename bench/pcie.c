@@ -1,6 +1,6 @@
-/* pcie: in plain C what `rasd pcie` does with lines `ghes`, and with all that it passes over: it reads each block,
-   prints a line for each section of PCI Express of a new name, and counts the bits of each device, in the same bytes.
-   All is printed at the end, as by rasd. A line `put` ends it. */
+/* pcie: does in plain C what `rasd pcie` does with lines `ghes` and with lines that it ignores: it reads each block, prints a
+   line for each PCI Express section of a new name, and counts the bits of each device, in the same bytes. It prints
+   everything at the end. A line `put` ends it. */
 #include "text.h"
 
 typedef struct {

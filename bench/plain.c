@@ -1,11 +1,11 @@
-/* plain: in plain C what `rasd run` and `rasd load` do with lines `bank`, `cpu` and `module`, with comments and with
+/* plain: does in plain C what `rasd run` and `rasd load` do with lines `bank`, `cpu` and `module`, with comments and with
    empty lines. It prints the same bytes and leaves the same rasd.0 and rasd.1, after as many writes and syncs;
-   bench/bytes checks the bytes. Other lines, banks of other errors than corrected ones of memory, and damaged
-   journals aren't for it.
+   bench/bytes checks the bytes. It doesn't handle other lines, errors other than corrected ones of memory, and damaged
+   journals.
 
    plain run             the counterpart of `rasd run`: standard input, over the journal of the folder
    plain load N          the counterpart of `rasd load N`, with the journal and the text in memory
-   plain load N FOLDER   also writes down there the script, the journal and the text, which are those of a run */
+   plain load N FOLDER   also writes the script, the journal and the text there, which are those of a run */
 #include <fcntl.h>
 
 #include "account.h"

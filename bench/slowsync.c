@@ -1,7 +1,6 @@
-/* slowsync: a library to be loaded before others (LD_PRELOAD), with which each fsync and fdatasync takes SYNC_US
-   microseconds of processor time and does nothing else. So over files in memory the ratio of two programs is that
-   over a disk whose flush takes so long, whatever the machine does meanwhile. It stands below `rasd run` and its
-   counterparts alike. */
+/* slowsync: a library for LD_PRELOAD that makes each fsync and fdatasync take SYNC_US microseconds of processor time and do
+   nothing else. So over files in memory the ratio of two programs is that over a disk whose flush takes this time, whatever
+   else the machine does. `rasd run` and its counterparts both run over it. */
 #define _GNU_SOURCE
 #include <stdlib.h>
 #include <time.h>

@@ -1,6 +1,5 @@
-/* spent PROGRAM WORD..: runs a program whose output goes into a file in memory, and prints the processor time that it
-   took, in microseconds. It measures rasd and its counterparts alike. With /dev/null for its output GNU grep would stop
-   at the first line that it finds. */
+/* spent PROGRAM WORD..: runs a program with its output going into a file in memory, and prints its processor time in
+   microseconds. With /dev/null as its output GNU grep would stop at the first line that it finds. */
 #define _GNU_SOURCE
 #include <stdio.h>
 #include <sys/mman.h>

@@ -1,4 +1,4 @@
-/* What the C programs of this folder share: text that grows, numbers in it, and the `log` line of a bank. */
+/* The common parts of this folder's C programs: growing text, numbers in it, and the `log` line of a bank. */
 #define _GNU_SOURCE
 #include <stddef.h>
 #include <stdint.h>

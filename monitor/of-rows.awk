@@ -1,5 +1,5 @@
-# Prints metrics without the samples of labels that the machine's rows don't have; the file of rows is `rows` of the
-# environment. Labels are compared as they are printed, with a backslash before each backslash and each quotation mark.
+# Prints metrics without the samples of labels that the machine description, the file named by `rows` in the environment,
+# doesn't have. Labels are compared as they are printed, with a backslash before each backslash and each quotation mark.
 
 function printed(text) {
     gsub(/[\\"]/, "\\\\&", text)

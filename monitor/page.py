@@ -1,6 +1,6 @@
 """What the pages of a machine and of a fleet have in common.
 
-Whatever text comes in is escaped where it becomes a part of an element; only what `element` made is HTML already.
+Each text is escaped when it becomes a part of an element; only the results of `element` are HTML already.
 """
 import datetime
 import html
@@ -11,7 +11,7 @@ import sys
 import time
 
 DAY = 86_400
-# A machine whose clock began with the machine tells seconds of the first year.
+# A machine whose clock starts with the machine gives seconds of the first year.
 FIRST_DATE, LAST_DATE = 365 * DAY, 253_402_300_800
 UNCORRECTED = frozenset(("UCNA", "SRAO", "SRAR", "UC", "recoverable", "fatal"))
 

@@ -6,23 +6,34 @@
 here=${here:-$(dirname -- "$(readlink -f -- "${BASH_SOURCE[0]}")")}
 program=${RASD:-/usr/libexec/rasd/rasd}
 traces=${RASD_TRACE:-/var/lib/rasd-trace}
-# A filter takes at most 64 MB, so a longer log or trace goes to several, one after the other.
+# A filter takes at most 64 MB, so a longer log or trace is cut into pieces for several, one after the other.
 piece=${RASD_PIECE:-50000000}
-# A command that ends with the process that begins it, whose number it gets as TIED_TO.
+# Makes a command end with the process TIED_TO, which starts it.
 tied=("$here/tied")
-# Each line for rasd is passed on whole, or not at all.
+# Passes on each line whole, or not at all.
 whole=("$here/whole-lines" --most 4096)
 
-# Comments, of what a filter left out, do nothing in a run, so they are told.
+# The end of a complete log: a line later than any, which ends the last report.
+log_end='[999999999999.000000] the end'
+
+# A run ignores comments. They say what a filter left out, so standard error gets them too.
 pass_on=("${whole[@]}" --tell '^#' "feed: left out")
 
-# Sets make_lines to the command that makes lines of this boot's log. A piece ends before a report.
+# Sets make_lines to the command that converts a boot's log: BOOT MCG_CAP. A piece ends before a report.
 log_filter() {
     make_lines=("${whole[@]}" --only 'mce: \[Hardware Error\]: ' --piece "$piece" --at 'CPU [0-9]+: Machine Check'
         -- "${tied[@]}" "$program" lines klog "$1" "$2")
 }
 
-# The same of this boot's trace. An error that somebody injected has no MCG_CAP, so the machine's own counts.
+# Sets make_lines to the command that converts what the firmware reported: BOOT SECOND, at which the boot began. Only a later
+# line shows that a report has ended, so some lines after each are passed too. A piece ends before a report.
+report_filter() {
+    make_lines=("${whole[@]}" --only '\}\[Hardware Error\]: |^\[9{12}\.' --more 1000 --piece "$piece" --last "$log_end"
+        --at '^(<\d>)?\[[ .\d]+\] (\S+ kernel: )?\{\d+\}\[Hardware Error\]: Hardware error from'
+        -- "${tied[@]}" "$program" lines ghes "$1" "$2")
+}
+
+# Sets make_lines to the command that converts a boot's trace: BOOT MCG_CAP. An injected error has no MCG_CAP, and gets this.
 trace_filter() {
     make_lines=("${whole[@]}" --tell '^CPU:[0-9]+ \[LOST' "feed: the trace has a gap" --only 'mce_record: '
         --replace 'MCGc/s: 0/' "MCGc/s: $2/" --piece "$piece" -- "${tied[@]}" "$program" lines trace "$1")

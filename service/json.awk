@@ -15,7 +15,7 @@ function add(key, text) {
     members = members separator quoted(key) ":" text
     separator = ","
 }
-# The date of a second since 1970, by the days since 1 March of the year 0; null past the year 9999.
+# Returns the date of a second since 1970, by the days since 1 March of the year 0; null after the year 9999.
 function time_of(seconds,   days, era, day, year, month, left) {
     if (length(seconds) > 12 || seconds + 0 > 253402300799) return "null"
     days = int(seconds / 86400) + 719468
@@ -36,7 +36,7 @@ function add_name(kind, text,   keys, parts, count, i) {
     split(text, parts, "/")
     for (i = 1; i <= count; i++) add(keys[i], json(keys[i], parts[i]))
 }
-# Takes a word `key=value`. A bank that is a number alone is a part of no name.
+# Adds a word `key=value`. A bank that is only a number isn't a name.
 function take(key, text) {
     if (key in part_keys && (key != "bank" || text ~ /\//)) {
         add_name(key, text)
@@ -51,7 +51,7 @@ BEGIN {
     part_keys["record"] = "record"
     part_keys["block"] = "boot source number"
     part_keys["bert"] = "boot"
-    # What the words without `=` after the first one say.
+    # Words without `=` after the first one.
     word_keys["done"] = "line"
     word_keys["order"] = "order"
 }

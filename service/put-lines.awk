@@ -1,5 +1,6 @@
 # The program of service/put-lines, which says what it does.
-# The little-endian number of so many bytes at this place of the record, in hexadecimal.
+
+# Returns the little-endian number of some bytes at this offset of the record, in hexadecimal.
 function number_at(place, bytes,   result) {
     while (bytes-- > 0) result = result substr(hex, 2 * (place + bytes) + 1, 2)
     return result
@@ -12,7 +13,7 @@ function tell(what) {
     print "put-lines: " what > "/dev/stderr"
     status = 1
 }
-# Takes whole records off the front, so that the rest stays short.
+# Cuts whole records off the front, so that the rest stays short.
 function take(   id, bytes) {
     while (length(hex) >= 256 && substr(hex, 1, 8) == "43504552") {
         bytes = number_of(number_at(20, 4))
@@ -30,7 +31,7 @@ function take(   id, bytes) {
         hex = passing ? pass(hex) : substr(hex, 2 * bytes + 1)
     }
 }
-# What is left of a text behind the record that is passed over.
+# Returns the text after the record that is skipped.
 function pass(text,   cut) {
     cut = passing < length(text) ? passing : length(text)
     passing -= cut

@@ -1,6 +1,5 @@
-# The lines of what a dying kernel saved of its log, for service/earlier-lines. All lines of one message have its stamp, and
-# a device may have put line feeds into its name. So among lines of one stamp those of an error stay out, unless the first
-# of them is one.
+# Prints the lines of a log that a dying kernel saved, for service/earlier-lines. All lines of one message have its time stamp,
+# and a device may have line feeds in its name. So error lines are left out if the first line with their time stamp isn't one.
 {
     stamp = match($0, /\[ *[0-9]+\.[0-9]+\]/) ? substr($0, RSTART, RLENGTH) : ""
     is_error = /^(<[0-9]+>)?\[ *[0-9]+\.[0-9]+\](\[ *[A-Z][0-9]+\])? (mce: |\{[0-9]+\})\[Hardware Error\]: /

@@ -14,7 +14,7 @@ part == "slots" {
 }
 part == "cpus" {
     split($0, of, ",")
-    # A machine that tells no socket has one.
+    # A machine that names no socket has one.
     socket = of[2] ~ /^[0-9]+$/ ? of[2] + 0 : 0
     lines[++rows] = "cpu " of[1] " " socket
     if (!(socket in seen)) {
@@ -44,14 +44,14 @@ part == "memory" {
     if (name ~ /^Interleave/ && text != "0") interleaved = 1
 }
 
-# The number behind words that a pattern has, or nothing.
+# Returns the number after the words of a pattern, or nothing.
 function number_behind(text, words) {
     if (!match(text, words "[0-9]+")) return ""
     text = substr(text, RSTART, RLENGTH)
     sub(/.*[^0-9]/, "", text)
     return text + 0
 }
-# Finds the one label that EDAC has for a socket and a channel, which is of no other channel.
+# Collects EDAC's labels, of each socket and channel that has exactly one label, which no other channel has.
 function find_edac_labels(   i, place) {
     for (i = 1; i <= edacs; i++) {
         if (edac_socket[i] == "" && count == 1) edac_socket[i] = sockets[1]
@@ -71,7 +71,7 @@ function find_edac_labels(   i, place) {
 }
 function add_modules(   channels, s, b, c, label) {
     find_edac_labels()
-    # A run takes 4,096 rows.
+    # A run accepts at most 4,096 of these lines.
     for (channels = 15; channels > 1 && rows + count * banks * channels > 4000; channels--) continue
     if (channels < 15) warn("rows for 15 channels are too many: there are some for " channels)
     for (s = 1; s <= count; s++) for (b = 0; b < banks; b++) for (c = 0; c < channels; c++) {

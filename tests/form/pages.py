@@ -1,4 +1,4 @@
-"""Pages that a promise is read on: its clauses, and every definition that they come to, each before those that use it."""
+"""Pages to read a promise on: its clauses, and every definition they use, each before those that use it."""
 import re
 
 from rattle import NO_TEXT, TOP, USE, meanings, text_of
@@ -67,15 +67,16 @@ def block(items):
     return "\n".join([*lines, "```"])
 
 
-def page(title, roots, boxes, instead, told):
-    """One page: the clauses, then the definitions, then what is said of each box that they name."""
+def page(title, opening, roots, boxes, instead, told):
+    """One page: paragraphs, the clauses, the definitions they use, and the summary of each box among these."""
     order, met = in_order(roots, boxes, instead)
     yield f"# {title}\n"
-    yield "`tests/form/believed --pages` writes this page, and the gate compares it with the code. The clauses:\n"
+    yield from (f"{paragraph}\n" for paragraph in opening)
+    yield "## The clauses\n"
     yield block(roots)
-    yield "\n## What they come to\n\nEach definition stands before those that use it.\n"
+    yield "\n## The definitions they use\n\nEach definition comes before those that use it.\n"
     yield block(order)
     if met:
-        yield "\n## Black boxes\n\nThese are taken as read; their definitions are the last thing to look up.\n"
+        yield "\n## Black boxes\n\nTheir summaries are enough to read the page; look the definitions up last.\n"
         yield "| Box | Where | What it is |\n|---|---|---|"
         yield from (f"| `{box.name}` | {box.file.removeprefix('crates/')} | {told[box.name]} |" for box in met)

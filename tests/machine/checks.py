@@ -1,6 +1,7 @@
-"""What tests/machine/run tries, in groups: each gives what has to hold, and whether it does.
+"""The checks of tests/machine/run, in groups: each gives what has to hold, and whether it does.
 
-A group goes on from what the one before left. What one has lost fails there alone: the next begins with the account as it is.
+A group continues from what the one before left. A lost error fails only in its own group: the next starts from the account
+as it is.
 """
 import collections
 import re

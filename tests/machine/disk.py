@@ -1,10 +1,10 @@
 #!/usr/bin/env python3
-"""A disk with a volatile cache, for QEMU: of the sectors written since the last flush a cut leaves any version since then.
+"""A disk with a volatile cache, for QEMU: a power cut leaves any version since the last flush of each sector written since.
 
 usage: disk.py FILE SOCKET CONTROL
 
-It serves FILE over NBD on a unix socket. A line `cut SEED` on the socket CONTROL does to FILE what a cut of the power may do, and
-answers how many sectors had no flush, and how many of them lost a write.
+It serves FILE over NBD on a unix socket. A line `cut SEED` on the socket CONTROL does to FILE what a power cut may do, and
+returns how many sectors had no flush, and how many of them lost a write.
 """
 import contextlib
 import mmap

@@ -1,4 +1,4 @@
-"""A guest of QEMU: it boots, runs commands as root, takes machine checks, and is cut."""
+"""A guest of QEMU: it boots, runs commands as root, gets machine checks, and loses its power."""
 import base64
 import contextlib
 import os

@@ -1,15 +1,14 @@
 #!/usr/bin/env python3
-"""What a run must print, how it must end and what it must leave, computed anew from the definitions.
+"""What a run must print, how it must end and what it must leave, computed from the definitions by a second program.
 
 usage: tests/model/model.py run < SCRIPT      does what the program must do, over the working folder's files
        tests/model/model.py COMMAND < INPUT   the same for every other command
-       tests/model/model.py --rows            tries the model on worked rows: tests/model/reference/rows.py
+       tests/model/model.py --rows            tests the model on worked rows: tests/model/reference/rows.py
 
-The model stands in tests/model/reference/. It is written from the description of the product alone, and
-shares nothing with the code of crates/. It is slow and plain: each rule stands once. `run` answers
-an `Outcome` for the bytes of a script and of the two journal files, and `command` for any words;
-tests/program/run compares with that. The number of reads of an opening is left open, so the list of disk
-calls doesn't hold them.
+The model is in tests/model/reference/. It is written from only the product's description, and shares nothing with the code of
+crates/. It is slow and plain: it has each rule once. `run` returns an `Outcome` for the bytes of a script and of the two
+journal files, `command` for any arguments; tests/program/run compares with these. An opening may read as often as it likes, so
+the list of disk calls has no reads.
 """
 import dataclasses
 import os

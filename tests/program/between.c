@@ -1,9 +1,8 @@
-// Sits between a program and the C library: it refuses allocations, and makes reads and writes shorter.
+// A library between a program and the C library: it makes allocations fail, and reads and writes move one byte.
 //
-// The file that BETWEEN names has two numbers of 8 bytes, which it counts up: the calls for memory, and the reads and writes
-// that could move more than one byte. Of the first kind those from REFUSED_FROM to REFUSED_TO fail, counted from 1, and of
-// the second kind those from SHORT_FROM to SHORT_TO move one byte; after each of these the next read or write fails, if TORN
-// is 1.
+// In the file BETWEEN it counts, in two numbers of 8 bytes, the allocations, and the reads and writes that could move more
+// than one byte. Counted from 1, the allocations REFUSED_FROM to REFUSED_TO fail, and the reads and writes SHORT_FROM to
+// SHORT_TO move one byte; if TORN is 1, the read or write after each of these fails.
 #define _GNU_SOURCE
 #include <errno.h>
 #include <fcntl.h>

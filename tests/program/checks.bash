@@ -1,4 +1,4 @@
-# What scripts of tests in bash have in common: checks, and how many passed and failed.
+# Checks for tests written in bash, with the numbers of those that passed and failed.
 # shellcheck shell=bash
 passed=0 failed=0
 
@@ -19,7 +19,7 @@ same() {
         return 1
     }
 }
-# Whether what a command prints has these words.
+# Whether a command's output matches a pattern.
 says() {
     local words=$1 printed
     shift

@@ -1,10 +1,8 @@
-"""Checks of what the filters in service/ make of the program's lines; tests/program/examples runs them.
+"""Checks of the filters in service/ and of monitor/write-metrics; tests/program/examples runs them.
 
-service/json is tried on every line that tests/program/rows.txt and the cases say is printed, what
-monitor/write-metrics writes of `report metrics` by a parser that refuses what the rules of Prometheus' text
-format (version 0.0.4) don't allow,
-service/ghes-lines on the forms in which a kernel's log is printed, and service/put-lines on records that are
-whole or cut.
+service/json gets every line that tests/program/rows.txt and the cases say is printed, `lines ghes` the reports of many
+sources, service/put-lines whole and truncated records. A parser of Prometheus' text format (version 0.0.4), which rejects
+everything that the format doesn't allow, reads what monitor/write-metrics writes.
 """
 import datetime
 import json
@@ -300,96 +298,27 @@ def checks_of_labels(program, folder, samples):
         yield holds(f"metrics: by the rows {lines}: {ran.stderr}", is_right)
 
 
-# ---- service/ghes-lines
-
-
-def said_by(name, text, *words):
-    """What a script of service/ prints of a text, and what it says."""
-    ran = subprocess.run([SERVICE / name, *words], input=text.encode(), capture_output=True)
-    return ran.stdout.decode(), ran.stderr.decode()
-
-
-def makes(name, what, text, wanted, why, *words):
-    """Whether a script makes that of a text, and says why it left something out, or nothing."""
-    output, said = said_by(name, text, *words)
-    is_told = said.startswith(why) and bool(said) == bool(why)
-    return holds(f"{name}: {what}: {output}{said}", output == wanted and is_told)
-
-
-def checks_of_words(name, right, *wrong):
-    """Words that are none of a script's end it, and are told."""
-    for words in wrong:
-        ran = subprocess.run([SERVICE / name, *words], input=b"", capture_output=True)
-        yield holds(f"{name}: {words}", (ran.stdout, ran.returncode) == (b"", 1) and ran.stderr.startswith(b"usage: "))
-    yield holds(f"{name}: {right}", output_of(name, b"", *right) == (b"", 0))
-
-
-def checks_of_waiting(name, text, *words):
-    """What a script makes of an error is printed at once, though its input stays open."""
-    pipes = {"stdin": subprocess.PIPE, "stdout": subprocess.PIPE}
-    with subprocess.Popen(["timeout", "20", SERVICE / name, *words], **pipes) as process:
-        process.stdin.write(text.encode())
-        process.stdin.flush()
-        lines = [process.stdout.readline() for _ in said_by(name, text, *words)[0].splitlines()]
-        yield holds(f"{name}: at once", all(lines) and process.poll() is None)
-        process.stdin.close()
+# ---- the firmware's reports
 
 
 REPORT = (
-    "[  100.000001] {1}[Hardware Error]: Hardware error from APEI Generic Hardware Error Source: 1\n"
-    "[  100.000002] {1}[Hardware Error]: It has been corrected by h/w and requires no further action\n"
-    "[  100.000003] {1}[Hardware Error]: event severity: corrected\n"
-    "[  100.000004] {1}[Hardware Error]:  Error 0, type: corrected\n"
-    "[  100.000005] {1}[Hardware Error]:  fru_text: A1\n"
-    "[  100.000006] {1}[Hardware Error]:   section_type: memory error\n"
-    "[  100.000007] {1}[Hardware Error]:   error_status: Storage error in DRAM memory (0x0000000000000400)\n"
-    "[  100.000008] {1}[Hardware Error]:   physical_address: 0x0000000080001000\n"
-    "[  100.000009] {1}[Hardware Error]:   node:1 card:0 module:2 rank:0 bank:3 row:12 column:8 \n"
-    "[  100.000010] {1}[Hardware Error]:   error_type: 2, single-bit ECC\n"
+    "[{0:5}.000001] {{{0}}}[Hardware Error]: Hardware error from APEI Generic Hardware Error Source: {0}\n"
+    "[{0:5}.000003] {{{0}}}[Hardware Error]: event severity: corrected\n"
+    "[{0:5}.000004] {{{0}}}[Hardware Error]:  Error 0, type: corrected\n"
+    "[{0:5}.000006] {{{0}}}[Hardware Error]:   section_type: memory error\n"
 )
-
-
-def checks_of_ghes_lines(program):
-    """A block that is made of the log's words is the block that the firmware gave, as tests/program/rows.txt has it."""
-    block = re.search(r"(?m)^let BLOCK (\w+)$", (TESTS / "rows.txt").read_text())[1]
-    table = re.search(r"(?m)^let SOURCES (\w+)$", (TESTS / "rows.txt").read_text())[1]
-    lines = f"hest {table}\nghes 7 160 1 100000001 {block}\n"
-    lines_within = re.sub(r"(?m)^\[.*?\]", "[  100.000005] usb 1-1: Product:", REPORT.replace("80001000", "7f000000"))
-    lines_within = REPORT.replace("[  100.000006]", lines_within + "[  100.000006]")
-    two = REPORT + re.sub(r"\[  100", "[  101", REPORT).replace("{1}", "{2}")
-    second = f"ghes 7 161 1 101000001 {block}\n"
-    for what, text, wanted, why in (
-        ("a report", REPORT, lines, ""),
-        ("with a host", REPORT.replace("] {", "] node7 kernel: {"), lines, ""),
-        ("with a time of day", re.sub(r"(?m)^", "Nov 29 00:00:00 node7 kernel: ", REPORT), lines, ""),
-        ("with a level", re.sub(r"(?m)^", "<6>", REPORT), lines, ""),
-        ("with a caller", re.sub(r"(?m)^(\[.*?\]) ", r"\1[    T7] ", REPORT), lines, ""),
-        ("with a facility", re.sub(r"(?m)^", "kern  :emerg : ", REPORT), lines, ""),
-        ("with a date", re.sub(r"(?m)^", "2026-11-29T00:00:00.123456+00:00 node7 kernel: ", REPORT), lines, ""),
-        ("with Windows line ends", REPORT.replace("\n", "\r\n"), lines, ""),
-        ("two reports", two, lines + second, ""),
-        ("another line within", REPORT.replace("[  100.000006]", "[  100.000005] eth0: up\n[  100.000006]"), lines, ""),
-        ("a device's lines within", lines_within, lines, "ghes-lines: not begun by"),
-        ("no first line", REPORT[REPORT.index("\n") + 1 :], "", "ghes-lines: without its first line"),
-        ("no brackets", re.sub(r"(?m)^\[.*?\] ", "", REPORT), "", "ghes-lines: without a source or a time"),
-        ("another section", REPORT.replace("memory error", "PCIe error"), "", "ghes-lines: not about memory"),
-    ):
-        yield makes("ghes-lines", what, text, wanted, why, "7", "60")
-    yield from checks_of_words("ghes-lines", ("7", "60"), (), ("",), ("7", "x"), ("7", "1", "2"))
-    yield from checks_of_waiting("ghes-lines", two + "[  200.000000] eth0: up\n", "7", "60")
-    yield from checks_of_many_sources(program)
 
 
 def checks_of_many_sources(program):
     """Whatever sources come, a run takes all their lines, and none is too long to stay whole in a pipe."""
-    report = REPORT.replace("{1}", "{{{0}}}").replace("Source: 1", "Source: {0}").replace("[  100.", "[{0:5}.")
-    text = "".join(report.format(it) for it in [*range(60), *range(0, 60, 7)])
-    output = said_by("ghes-lines", text, "7", "60")[0]
+    text = "".join(REPORT.format(it) for it in [*range(60), *range(0, 60, 7)]) + "[99999.000000] eth0: up\n"
+    words = [program, "lines", "ghes", "7", "60"]
+    output = subprocess.run(words, input=text.encode(), capture_output=True).stdout
     with tempfile.TemporaryDirectory() as folder:
-        ran = subprocess.run([program, "run"], input=output.encode(), capture_output=True, cwd=folder)
+        ran = subprocess.run([program, "run"], input=output, capture_output=True, cwd=folder)
     is_short = all(len(line) < 4096 for line in output.splitlines())
     is_taken = ran.stdout.endswith(b"end entries=60 names=60\n")
-    yield holds(f"ghes-lines: many sources: {ran.stdout[-99:]}", is_short and is_taken)
+    yield holds(f"lines ghes: many sources: {ran.stdout[-99:]}", is_short and is_taken)
 
 
 # ---- service/put-lines
@@ -434,5 +363,5 @@ def checks(program):
     """Whether each check of the demos passed."""
     yield all([*checks_of_json()])
     yield all([*checks_of_metrics(program)])
-    yield all([*checks_of_ghes_lines(program)])
+    yield all([*checks_of_many_sources(program)])
     yield all([*checks_of_put_lines()])

@@ -1,4 +1,4 @@
-"""Random lines of scripts and of kernel logs, of every kind: few names, few boots and few modules come again and again."""
+"""Random lines of scripts and of kernel logs, of every kind, about a few names, boots and modules."""
 from reference import store_rows
 from reference.store import panic_record
 

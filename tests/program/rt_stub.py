@@ -1,9 +1,9 @@
 #!/usr/bin/env python3
-"""Stands for the kit's rt where tests/program/wrapper tries the script rasd: as a command, and as the module that .ci/prove
-makes of it. The environment's ROOM is the folder of the trial.
+"""A stub of the kit's rt, with which tests/program/wrapper tests the script rasd: as a command, and as the module that
+.ci/prove loads. ROOM, from the environment, is the test's folder.
 
-Each proof and each build is noted in ROOM/calls with its begin and its end. A crate with a file ROOM/fails-CRATE fails, and
-one with ROOM/waits-CRATE waits. `rt run` leaves a part of the program first, as a linker does.
+It notes each proof and each build in ROOM/calls, at its start and its end. A crate with a file ROOM/fails-CRATE fails, one
+with ROOM/waits-CRATE waits. `rt run` first leaves a part of the program, as a linker does.
 """
 import os
 import pathlib

@@ -1,4 +1,4 @@
-"""The unit's command of service/rasd.service in a folder of its own, over a stub of journalctl; tests/program/service and
+"""The command of service/rasd.service in a separate folder, over a stub of journalctl; tests/program/service and
 tests/program/feed run it.
 """
 import contextlib

@@ -1,4 +1,4 @@
-"""What a run may leave that ends before its script does: one that is killed, or for which a call or memory fails."""
+"""What a run may leave that ends before its script does, because it is killed, or a call or an allocation fails."""
 import functools
 import re
 

@@ -1,20 +1,20 @@
-r"""The worked runs of tests/program/rows.txt and tests/program/kernel.txt, which tests/program/rows tries.
+r"""The worked runs of tests/program/rows.txt and tests/program/kernel.txt, which tests/program/rows runs.
 
-Such a file has, line by line, a comment from `#`, nothing, or one of
+A line is empty, a comment that begins with `#`, or one of
 
   let NAME TEXT            {NAME} stands for the text, from here on
   each FIRST LAST          the next row is a run for each number from the first to the last, and in it {NAME#} stands
-                           for as many bytes, of two digits each, from the front of that text
-  words WORD ..            the program's words, from here on; at first they are `run`
+                           for that many bytes, of two digits each, from the front of that text
+  words WORD ..            the program's arguments, from here on; at first they are `run`
   row INPUT | PRINTED      a run that ends with status 0
-  end PRINTED              the beginning of what each stopped run prints, from here on
+  end PRINTED              the beginning of what each `stop` row prints, from here on
   stop INPUT | PRINTED     a run that ends with status 2, and prints that beginning and then this
   fail STATUS INPUT | PRINTED   a run that ends with this status
-  then WORD .. | PRINTED   a run with these words and an empty input, after the row before it and over what that left
+  then WORD .. | PRINTED   a run with these arguments and an empty input, over what the row before left
   leaves BYTES             the file of the record store that the next row has to leave, in hexadecimal
 
-{VERSION} is what the file VERSION says. In each text \n is a line feed, \r a carriage return, \t a tab and \xNN the byte of that number.
-Spaces round a text don't count.
+{VERSION} is the text of the file VERSION. In each text \n is a line feed, \r a carriage return, \t a tab and \xNN the byte of
+that number. Spaces around a text don't count.
 """
 import dataclasses
 import pathlib

@@ -1,4 +1,4 @@
-"""Runs that are ended early on purpose, by tests/program/refused and tests/program/faults: what each may do, and what comes after it."""
+"""Runs that tests/program/refused and tests/program/faults end early: what each may do, and what the next run has to do."""
 import functools
 import pathlib
 import subprocess

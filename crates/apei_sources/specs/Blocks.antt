@@ -30,14 +30,13 @@ data_length bytes = number_at 12 4 bytes
 abbrev pub data_of : List ℕ → List ℕ
 data_of bytes = take (data_length bytes) (drop BLOCK_HEADER_LENGTH bytes)
 
--- a block of a status whose data was cut into entries
+-- the block of a status, once its data is cut into entries
 abbrev pub block_with : ℕ → Option (List (List ℕ)) → Result BlockParts BlockRefused
 block_with status None = Err EntryOut
 block_with status (Some entries) =
     if list_any is_refused entries then Err Section else Ok (record { status = status; entries = entries })
 
--- the block at the front of bytes, or the first reason that none is there; nothing follows a status
--- of 0
+-- the block at the front of bytes, or the first reason that there is none; a block of status 0 is only its status
 unfoldable pub block_of : List ℕ → Result BlockParts BlockRefused
 block_of bytes =
     if nat_lt (length bytes) BLOCK_HEADER_LENGTH then Err Short

@@ -1,6 +1,5 @@
--- The data of a generic error status block, which its entries fill: ACPI 6.5, section 18.3.2.7.1,
--- "Generic Error Data". That the revision tells which header an entry has is this project's
--- profile.
+-- The data of a generic error status block, which its entries fill: ACPI 6.5, section 18.3.2.7.1, "Generic Error Data".
+-- That the revision decides which header an entry has is this project's profile.
 use Rattle.std.specs.Prelude.{ℕ, zero, suc, ◌+◌, Bool, ◌&&◌, nat_eq, nat_le, is_err, List, [], ◌∷◌, length, take, drop, Option, Some, None, if◌then◌else◌}
 use Rattle.std.specs.Option.{option_map}
 use Rattle.ras_base.specs.Bits.{bits}
@@ -21,7 +20,7 @@ entry_header_length entry = if nat_le TIMESTAMP_REVISION (major_revision entry) 
 abbrev pub entry_length : List ℕ → ℕ
 entry_length entry = entry_header_length entry + number_at 24 4 entry
 
--- the type of the section that an entry holds, a GUID
+-- the type of an entry's section, a GUID
 abbrev pub entry_guid : List ℕ → List ℕ
 entry_guid entry = guid_of entry
 
@@ -29,7 +28,7 @@ entry_guid entry = guid_of entry
 abbrev pub entry_severity : List ℕ → ℕ
 entry_severity entry = number_at 16 4 entry
 
--- the section that an entry holds: its data, which follows its header
+-- the bytes of an entry's section: the entry's data, which follows its header
 abbrev pub entry_data : List ℕ → List ℕ
 entry_data entry = drop (entry_header_length entry) entry
 
@@ -41,10 +40,11 @@ is_refused entry = is_err (section_of (entry_guid entry) (entry_data entry))
 abbrev pub has_entry : List ℕ → Bool
 has_entry bytes = nat_le ENTRY_HEADER_LENGTH (length bytes) && nat_le (entry_length bytes) (length bytes)
 
--- the entry at the front, and the bytes after it
+-- the entry at the front
 abbrev pub first_of : List ℕ → List ℕ
 first_of bytes = take (entry_length bytes) bytes
 
+-- the bytes after the entry at the front
 abbrev pub rest_of : List ℕ → List ℕ
 rest_of bytes = drop (entry_length bytes) bytes
 
@@ -57,7 +57,7 @@ block_entries_in (suc most) bytes =
     else (if has_entry bytes then option_map (λ behind. first_of bytes ∷ behind) (block_entries_in most (rest_of bytes))
     else None)
 
--- the entries of a block's data, which can't be more than its bytes; None if one passes its end.
--- specs/Laid.antt says what this cutting comes to
+-- the entries of a block's data, which can't be more than its bytes; None if one passes its end. specs/Laid.antt says
+-- the same without this walk
 abbrev pub entries_of : List ℕ → Option (List (List ℕ))
 entries_of bytes = block_entries_in (length bytes) bytes

@@ -1,6 +1,5 @@
--- The hardware error source table: ACPI 6.5, section 18.3.2, "ACPI Error Source". Its fixed part
--- has 40 bytes, the last four of which count the sources that follow. specs/Laid.antt says what the
--- walk along them comes to.
+-- The hardware error source table: ACPI 6.5, section 18.3.2, "ACPI Error Source". Its fixed part has 40 bytes, the last
+-- four of which count the sources that follow. specs/Laid.antt says without the walk which sources a table has.
 use Rattle.std.specs.Prelude.{ℕ, zero, suc, nat_eq, is_some, List, [], ◌∷◌, ◌++◌, drop, codes, Option, Result, Ok, Err, if◌then◌else◌}
 use Rattle.std.specs.Map.{lookup}
 use Rattle.ras_base.specs.LittleEndian.{number_at}
@@ -27,7 +26,7 @@ source_count table = number_at 36 4 table
 abbrev pub followed : Sources → ℕ × ℕ → Result Sources TableRefused
 followed before source = if is_some (type_with_id source.0 before) then Err RepeatedId else Ok (before ++ source ∷ [])
 
--- the sources before, and this number at the front of bytes, each after the one before it
+-- these sources, and after them as many as the number says from the front of the bytes, each after the one before it
 unfoldable pub sources_in : ℕ → Sources → List ℕ → Result Sources TableRefused
 sources_in zero before bytes = Ok before
 sources_in (suc count) before bytes = do

@@ -1,4 +1,4 @@
--- What the walks along a HEST and along a block's data come to: spans of bytes laid end to end.
+-- A HEST's sources and a block's entries, without the walks that read them: spans of bytes laid end to end.
 use Rattle.std.specs.Prelude.{◌≡◌, ◌≤◌, ◌<◌, ◌⊎◌, ℕ, nat_eq, List, ◌++◌, length, map, drop, Some, None, All, Contains}
 use Rattle.std.specs.List.{concat, IsDistinct}
 use Rattle.apei_sources.specs.declared.sources.TheConstants.{SOURCE_HEAD_LENGTH}
@@ -30,7 +30,7 @@ pub record HoldsSources (table : List ℕ) (sources : Sources) : Type 0 where
   pub counted : length spans ≡ source_count table
   pub listed : sources ≡ map source_of spans
 
--- after sources of these identifiers no source begins the bytes, for this reason
+-- after sources with these identifiers the bytes begin with no source, for this reason
 abbrev pub IsNoSource : List ℕ → List ℕ → TableRefused → Type 0
 IsNoSource ids bytes SourceType = (SOURCE_HEAD_LENGTH ≤ length bytes) × (layout_of (source_type bytes) ≡ None)
 IsNoSource ids bytes SourceOut = (length bytes < SOURCE_HEAD_LENGTH)
@@ -39,7 +39,7 @@ IsNoSource ids bytes RepeatedId =
     (span : List ℕ) × (rest : List ℕ) × (bytes ≡ span ++ rest) × IsSource span × Contains ids (source_id span)
 IsNoSource ids bytes _ = ⊥
 
--- a table breaks off after the sources before, fewer than it counts, for this reason
+-- a table breaks off: fewer sources than it counts are followed by bytes that begin with no source, for this reason
 pub record BreaksOff (table : List ℕ) (why : TableRefused) : Type 0 where
   pub spans : List (List ℕ)
   pub rest : List ℕ

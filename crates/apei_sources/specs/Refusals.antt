@@ -1,11 +1,11 @@
--- Refusals: the numbers that the program prints, and what a reader that takes memory answers.
+-- Refusals: the numbers that the program prints, and what a reader that allocates memory returns.
 use Rattle.std.specs.Prelude.{◌≡◌, ℕ, Option, Some, None, Result, Ok, Err}
 use Rattle.apei_sources.specs.declared.refusals.TableRefused.{TableRefused}
 use Rattle.apei_sources.specs.declared.refusals.TableRefused as Tables
 use Rattle.apei_sources.specs.declared.refusals.BlockRefused.{BlockRefused}
 use Rattle.apei_sources.specs.declared.refusals.BlockRefused as Blocks
 
--- the number of a table's refusal; want of memory has none
+-- the number of a table's refusal; running out of memory has none
 abbrev pub table_number : TableRefused → Option ℕ
 table_number Tables.TheVariants.Short = Some 1
 table_number Tables.TheVariants.Signature = Some 2
@@ -22,7 +22,7 @@ block_number Blocks.TheVariants.Short = 1
 block_number Blocks.TheVariants.EntryOut = 2
 block_number Blocks.TheVariants.Section = 3
 
--- the answer is this one, or memory ran out
+-- the result is the expected one, or memory ran out
 abbrev pub AnswersTable : {X : Type 0} → Result X TableRefused → Result X TableRefused → Type 0
 AnswersTable (Ok value) answer = answer ≡ Ok value
 AnswersTable (Err Tables.TheVariants.NoMemory) answer = Unit {0}

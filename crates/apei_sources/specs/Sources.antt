@@ -56,7 +56,7 @@ abbrev pub banks_of : Option ℕ → List ℕ → ℕ
 banks_of None source = 0
 banks_of (Some place) source = slice_index source place
 
--- how many bytes a source of a layout has: those of each bank after the fixed ones
+-- how many bytes a source of a layout has: the fixed bytes, and then the bytes of each bank
 abbrev pub size_of : Layout → List ℕ → ℕ
 size_of layout source = layout.fixed + BANK_LENGTH * banks_of layout.banks_at source
 

@@ -10,7 +10,7 @@ use ras_base::little_endian::{u32_at, u64_at};
 /// The bytes of a BERT.
 pub const BERT_FIXED_LENGTH: usize = 48;
 
-/// Where the errors of the boot before lie in memory.
+/// Where in memory the errors of the boot before are.
 #[derive(Clone, Copy, Debug, PartialEq, Eq)]
 pub struct Bert {
     /// The length of the region, in bytes.
@@ -19,12 +19,12 @@ pub struct Bert {
     pub address: u64,
 }
 
-/// Reads the BERT at the front of bytes. (ACPI 6.5, section 18.3.1, "Boot Error Source".) Bytes
-/// after its length are ignored.
+/// Returns the region that the BERT at the front of the bytes names. Bytes after the table's length
+/// are ignored. (ACPI 6.5, section 18.3.1, "Boot Error Source".)
 ///
-/// It is refused with the first that applies of: `Short` below 48 bytes, `Signature` if it
-/// doesn't begin with `BERT`, `Length` if its length is below 48 or above the number of bytes,
-/// and `Sum` if its bytes don't sum to 0 modulo 256. The region's own length is not judged.
+/// The error is the first that applies. `Short`: there are fewer than 48 bytes. `Signature`: they
+/// don't begin with `BERT`. `Length`: the table's length is below 48 or above the number of bytes.
+/// `Sum`: the table's bytes don't sum to 0 modulo 256. The region's own length is not judged.
 #[tactic(auto, unfolding(crate::specs::Bert::bert_of))]
 pub fn read_bert(bytes: &[u8]) -> Result<Bert, TableRefused>
     ensures { result ≡ bert_of bytes.now }

@@ -1,4 +1,4 @@
-//! Generic error status blocks, as views of the bytes that hold them.
+//! Generic error status blocks, as views of the bytes that contain them.
 
 ghost use Rattle.std.specs.Prelude.{◌≡◌, ◌<◌, length, Ok};
 ghost use Rattle.cper_sections.specs.Sections.{section_of};
@@ -14,8 +14,8 @@ use std::marker::Model;
 /// The bytes of a block before its data.
 pub const BLOCK_HEADER_LENGTH: usize = 20;
 
-/// A status block that reads, over the bytes that hold it: it copies nothing. A contract sees its
-/// status and the bytes of each entry.
+/// A status block that was read, as a view of the bytes that contain it: nothing is copied. A
+/// contract sees its status and the bytes of each entry.
 #[derive(Drop)]
 pub struct Block<'a> {
     status: u32,
@@ -34,14 +34,14 @@ impl<'a> Model for Block<'a> {
     ghost invariant = { λ a. IsBlock a.count a.bytes.now };
 }
 
-/// Reads the status block at the front of bytes. (ACPI 6.5, section 18.3.2.7.1, "Generic Error
-/// Data".) Of a block of status 0 nothing else is read: it has no entries. The entries fill the
-/// data of any other block. Their count in the status is not compared, raw data is not read, and
-/// bytes after the data are ignored.
+/// Returns the status block at the front of the bytes. A block of status 0 has no entries, and
+/// nothing else of it is read. In every other block the entries fill the data. The count of entries
+/// in the status is not compared, raw data is not read, and bytes after the data are ignored. (ACPI
+/// 6.5, section 18.3.2.7.1, "Generic Error Data".)
 ///
-/// It is refused with the first that applies of: `Short` below 20 bytes, or below 20 and the data's
-/// length if the status isn't 0; `EntryOut` if the header or the data of some entry passes
-/// the end of the data; `Section` if `read_section` refuses some entry's data.
+/// The error is the first that applies. `Short`: there are fewer than 20 bytes or, if the status
+/// isn't 0, than 20 and the data's length. `EntryOut`: the header or the data of some entry passes
+/// the end of the data. `Section`: `read_section` refuses some entry's data.
 #[tactic(auto, unfolding(crate::specs::Blocks::block_of, crate::specs::Steps::Cut::cut, crate::specs::Steps::Cut::AreInside))]
 pub fn read_block(bytes: &[u8]) -> Result<Block<'_>, BlockRefused>
     ensures { result ≡ block_of bytes.now }
@@ -82,22 +82,22 @@ fn block_with(status: u32, bytes: &[u8]) -> Result<Block<'_>, BlockRefused>
 }
 
 impl<'a> Block<'a> {
-    /// The block status, 0 if there is no error.
+    /// Returns the block status, 0 if there is no error.
     pub fn status(&self) -> u32
         ensures { result ≡ self.now.status }
     {
         self.status
     }
 
-    /// The count of entries.
+    /// Returns the number of entries.
     pub fn count(&self) -> usize
         ensures { result ≡ length self.now.entries }
     {
         self.count
     }
 
-    /// An entry by its number, from 0, found by walking from the first. (ACPI 6.5, section
-    /// 18.3.2.7.1, "Generic Error Data Entry".)
+    /// Returns an entry by its number, from 0, which has to be below the count. The entries are
+    /// walked from the first. (ACPI 6.5, section 18.3.2.7.1, "Generic Error Data Entry".)
     pub fn entry(&self, i: usize) -> Descriptor<'a>
         requires { i < length self.now.entries }
         ensures severity { result.severity ≡ entry_severity (entry_at self.now i) }

@@ -40,16 +40,15 @@ impl Model for Hest {
     ghost invariant = { λ a. IsDistinct nat_eq (keys_of a.sources.entries) };
 }
 
-/// Reads the HEST at the front of bytes. (ACPI 6.5, section 18.3.2, "ACPI Error Source".) Bytes
-/// after its length are ignored.
+/// Returns the error sources of the HEST at the front of the bytes. Bytes after the table's length
+/// are ignored. (ACPI 6.5, section 18.3.2, "ACPI Error Source".)
 ///
-/// It is refused with the first that applies of: `Short` below 40 bytes, `Signature` if it
-/// doesn't begin with `HEST`, `Length` if its length is below 40 or above the number of bytes,
-/// `Sum` if its bytes don't sum to 0 modulo 256, and then of what is tried at each source in
-/// turn: `SourceType` for a type that isn't known, `SourceOut` if the source passes the table's
-/// length, `RepeatedId` if a source before it has its identifier. A source of which fewer than 4
-/// bytes are there is `SourceOut`. `NoMemory` comes for want of memory alone, and never if the
-/// table is refused before its sources.
+/// The error is the first that applies. `Short`: there are fewer than 40 bytes. `Signature`: they
+/// don't begin with `HEST`. `Length`: the table's length is below 40 or above the number of bytes.
+/// `Sum`: the table's bytes don't sum to 0 modulo 256. Then, source by source, `SourceType`: the
+/// type isn't known; `SourceOut`: the source passes the table's length, or fewer than 4 bytes of it
+/// are there; `RepeatedId`: a source before it has its identifier. `NoMemory`: only if memory runs
+/// out, and never if the table is refused before its sources are read.
 pub fn read_hest(alloc: Global, bytes: &[u8]) -> Result<Hest, TableRefused>
     ensures answer { AnswersTable result (hest_of bytes.now) }
     ensures front { (why : TableRefused) → hest_table bytes.now ≡ Err why → result ≡ Err why }
@@ -91,7 +90,8 @@ fn add_source(sources: &mut IndexMap<u16, u16>, bytes: &[u8]) -> Result<(), Tabl
 }
 
 impl Hest {
-    /// The type of the one source of an identifier, or None exactly if no source has it.
+    /// Returns the type of the source with this identifier, or `None` if and only if no source has
+    /// it.
     pub fn source(&self, id: u16) -> Option<u16>
         ensures answer { result ≡ type_with_id id self.now }
         ensures one { (kind : ℕ) → (result ≡ Some kind) ↔ Contains self.now (id, kind) }

@@ -1,4 +1,4 @@
-//! What is said of tables and blocks for every list of bytes.
+//! What holds of tables and blocks for every list of bytes.
 
 ghost use Rattle.std.specs.Prelude.{◌≡◌, ◌≤◌, ◌↔◌, ◌+◌, ℕ, List, length, take, Some, None, Ok, Err};
 ghost use Rattle.apei_sources.specs.declared.entries.TheConstants.{ENTRY_HEADER_LENGTH, LONG_ENTRY_HEADER_LENGTH, TIMESTAMP_REVISION};
@@ -14,11 +14,11 @@ ghost use Rattle.apei_sources.specs.Entries.{entries_of};
 ghost use Rattle.apei_sources.specs.Blocks.{block_status, data_length, block_of};
 ghost use Rattle.apei_sources.specs.Laid.{HoldsSources, BreaksOff, AreEntries};
 
-/// The sources of a HEST are laid end to end after its fixed part. If a HEST reads, its spans
-/// are as many as it counts, each as long as its type and its banks say, and no two have one
-/// identifier; and if there are such spans, it reads as theirs. If it is refused for a
-/// source, there are such spans, fewer than it counts, and after them stands what is no source,
-/// for that reason; and if that is so, it is refused for it.
+/// The sources of a HEST follow its fixed part without gaps. A HEST can be read if and only if it
+/// has as many spans as it counts sources, each as long as its type and its banks say, no two with
+/// one identifier; it is then read as these. It is refused for a source, for some reason, if and
+/// only if there are fewer such spans than it counts and the bytes after them begin with no source,
+/// for that reason.
 pub fn sources_are_laid_end_to_end()
     ensures read { (bytes table : List ℕ) (sources : Sources) → hest_table bytes ≡ Ok table
         → (hest_of bytes ≡ Ok sources) ↔ HoldsSources table sources }
@@ -26,8 +26,8 @@ pub fn sources_are_laid_end_to_end()
         → (hest_of bytes ≡ Err why) ↔ BreaksOff table why }
 {}
 
-/// The entries of a block fill its data: they are the one way to cut the data into entries, each as
-/// long as its header and its data, and `EntryOut` comes exactly if there is no such way.
+/// The entries of a block fill its data. They are the only way to cut the data into entries, each
+/// as long as its header and its data; `EntryOut` is returned if and only if there is no such way.
 pub fn entries_fill_the_data()
     ensures cut { (bytes : List ℕ) (entries : List (List ℕ))
         → (entries_of bytes ≡ Some entries) ↔ AreEntries bytes entries }
@@ -35,8 +35,8 @@ pub fn entries_fill_the_data()
         → (entries_of bytes ≡ None) ↔ ((entries : List (List ℕ)) → AreEntries bytes entries → ⊥) }
 {}
 
-/// What is read of a table depends on the bytes of its length alone, and what is read of a block on
-/// its header and its data alone; of a block of status 0 on its status alone. Other bytes change
+/// What is read of a table depends only on the bytes within its length. What is read of a block
+/// depends only on its header and its data, and for status 0 only on the status. Other bytes change
 /// nothing.
 pub fn only_own_bytes()
     ensures hest { (bytes others : List ℕ) → HEST_FIXED_LENGTH ≤ table_length bytes
@@ -56,8 +56,7 @@ pub fn only_own_bytes()
         → block_status bytes ≡ 0 → block_status others ≡ 0 → block_of others ≡ block_of bytes }
 {}
 
-/// The numbers that the definitions cite by name, those of ACPI 6.5, sections 18.3.1 and 18.3.2. The function does
-/// nothing: its clauses are what it is for.
+/// The numbers that the definitions cite by name are those of ACPI 6.5, sections 18.3.1 and 18.3.2.
 pub fn numbers_in_digits()
     ensures block { BLOCK_HEADER_LENGTH ≡ 20 }
     ensures entry { ENTRY_HEADER_LENGTH ≡ 64 }

@@ -1,6 +1,8 @@
-//! Where firmware tells of errors: the hardware error source table (HEST), the boot error record
-//! table (BERT), and generic error status blocks, over the bytes that hold them. It follows ACPI
-//! 6.5, section 18.3, "Error Source Discovery".
+//! Where firmware reports errors: the hardware error source table (HEST), the boot error record
+//! table (BERT), and generic error status blocks, as views of the bytes that contain them. It
+//! follows ACPI 6.5, section 18.3, "Error Source Discovery".
+//!
+//! A public function with an empty body is a law: its clauses are the point.
 #![tactic(auto)]
 
 mod bert_table;

@@ -52,7 +52,7 @@ pub enum BlockRefused {
 }
 
 impl TableRefused {
-    /// The number by which the refusal is printed, or None for want of memory.
+    /// Returns the number by which the refusal is printed, or `None` if memory ran out.
     pub fn number(self) -> Option<u8>
         ensures { result ≡ table_number self }
     {
@@ -70,7 +70,7 @@ impl TableRefused {
 }
 
 impl BlockRefused {
-    /// The number by which the refusal is printed.
+    /// Returns the number by which the refusal is printed.
     pub fn number(self) -> u8
         ensures { result ≡ block_number self }
     {

@@ -6,8 +6,8 @@ ghost use Rattle.apei_sources.specs.Sources.{plain, with_banks, layout_of, banks
 use crate::TableRefused;
 use ras_base::little_endian::u16_at;
 
-// How many bytes a source of a type has besides its banks, and where among them the count of banks
-// stands, a byte, if the type has banks.
+// How many bytes a source of a type has besides its banks and, if the type has banks, at which of
+// these bytes their count is.
 #[derive(Clone, Copy)]
 pub(crate) struct Layout {
     fixed: usize,

@@ -5,7 +5,7 @@ use Rattle.bank_lines.specs.EdacLines.{edac_mark}
 use Rattle.bank_lines.specs.LogHeads.{mark_place}
 use Rattle.bank_lines.specs.LogLines.{log_mark, mark_by, mark_of}
 use Rattle.bank_lines.specs.Steps.Marks.{FirstBelow}
-use Rattle.bank_lines.specs.declared.mark.Mark.TheVariants.{AtPlain}
+use Rattle.bank_lines.specs.declared.mark.LogMark.TheVariants.{AtPlain}
 use Rattle.bank_lines.proofs.LogHeadLemmas.{NoneBelow, none_at_all, none_passed, none_round, place_is}
 
 -- ---- EDAC's first mark

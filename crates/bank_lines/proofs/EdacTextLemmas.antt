@@ -9,17 +9,17 @@ use Rattle.ras_klog.specs.Reading.{colon_number, provided, read_then}
 use Rattle.ras_script.proofs.WrittenNumberLemmas.{decimal_read}
 use Rattle.ras_script.specs.Number.{decimal_of}
 use Rattle.ras_script.specs.SplittingLaws.{Lacks}
-use Rattle.bank_lines.specs.EdacLines.{driver_text, edac_bank, edac_by_words, edac_line_of, edac_mark, edac_processor, edac_register, edac_start, edac_vendor, is_of_edac, register_of}
+use Rattle.bank_lines.specs.EdacLines.{driver_text, edac_bank, edac_by_words, edac_line_of, edac_mark, edac_processor, edac_register, edac_start, edac_vendor, is_of_edac, edac_number}
 use Rattle.bank_lines.specs.Kernel.{IsPrinted, Printed}
 use Rattle.bank_lines.specs.LogHeads.{after, is_number, is_own, up_to}
-use Rattle.bank_lines.specs.LogKernel.{Driver, HasNo, bank_words, check_words, driver_name, driver_prefix, edac_hex, edac_kind, edac_status, pnd2, sbridge, skx, time_words}
+use Rattle.bank_lines.specs.LogKernel.{Driver, HasNo, status_words, check_words, driver_name, driver_prefix, edac_hex, edac_kind, edac_status, pnd2, sbridge, skx, time_words}
 use Rattle.bank_lines.specs.LogLines.{driver_told, edac_line_after, edac_told_by, log_line_by, log_line_of, log_mark, log_stamp_of, mark_of}
 use Rattle.bank_lines.specs.Parts.{value_after}
 use Rattle.bank_lines.specs.declared.edac_line.EdacLine.{EdacLine}
 use Rattle.bank_lines.specs.declared.edac_line.EdacLine.TheVariants.{Start, Tsc, Addr, Misc, Processor}
 use Rattle.bank_lines.specs.declared.log_line.LogLine.TheVariants.{Nothing}
 use Rattle.bank_lines.specs.declared.log_line.MarkedLine.TheVariants.{Plain, Edac}
-use Rattle.bank_lines.specs.declared.mark.Mark.{Mark}
+use Rattle.bank_lines.specs.declared.mark.LogMark.{LogMark}
 use Rattle.bank_lines.proofs.LogMarkLemmas.{edac_marked}
 use Rattle.bank_lines.proofs.LogTextLemmas.{after_is, colon_lacks, colon_read, decimal_is_number, hex_lacks, hex_read, joined_lack, status_lacks, status_read, up_to_is, vendor_lacks, words_split}
 use Rattle.bank_lines.proofs.NumeralLemmas.{decimal_lacks, lack_both, literal_lacks}
@@ -78,9 +78,9 @@ line_read driver controller head words line small own plain edac are reads =
     let text : List ℕ = join_with_byte 32 words in
     let behind : List ℕ = behind_mark driver controller text in
     let whole : List ℕ = head ++ (edac_mark ++ behind) in
-    let marked : mark_of whole ≡ Some (Mark.AtEdac (length head)) = edac_marked head behind plain edac (behind_lacks driver controller text small (joined_lack 93 words (λ (e : ◌≡◌ {A = ℕ} 32 93). omega (arith, e)) are.brackets)) in
+    let marked : mark_of whole ≡ Some (LogMark.AtEdac (length head)) = edac_marked head behind plain edac (behind_lacks driver controller text small (joined_lack 93 words (λ (e : ◌≡◌ {A = ℕ} 32 93). omega (arith, e)) are.brackets)) in
     ap (λ (rest : List ℕ). log_line_of (head ++ rest)) (prefix_is driver controller text)
-    ∙ ap (λ (mark : Option Mark). log_line_by whole mark) marked
+    ∙ ap (λ (mark : Option LogMark). log_line_by whole mark) marked
     ∙ ap (λ (front : List ℕ). edac_line_after front (drop (length head) whole)) (take-append_seam head (edac_mark ++ behind))
     ∙ ap (λ (rest : List ℕ). edac_line_after head rest) (drop_at head (edac_mark ++ behind) (length head) refl)
     ∙ ap (λ (found : Option (List ℕ)). option_map_or (driver_told head) found (Plain Nothing)) (driver_read driver controller text small)
@@ -147,7 +147,7 @@ kind_lacks byte false literals = literals.event
 
 module _ (p : Printed) (h : IsPrinted p) (driver : Driver) (exception : Bool) where
   abbrev start_words : List (List ℕ)
-  start_words = check_words p (codes "Check" ∷ edac_kind exception ∷ bank_words p (edac_hex driver p.event.mcg) (edac_status driver p.event.status))
+  start_words = check_words p (codes "Check" ∷ edac_kind exception ∷ status_words p (edac_hex driver p.event.mcg) (edac_status driver p.event.status))
 
   abbrev register_words : List ℕ → ℕ → List (List ℕ)
   register_words name n = name ∷ edac_hex driver n ∷ [] ∷ []
@@ -204,7 +204,7 @@ module _ (p : Printed) (h : IsPrinted p) (driver : Driver) (exception : Bool) wh
   unfolding edac_register
   status_read_whole = ap (λ (o : Option ℕ). read_then o (λ (r : ℕ). Some r)) (status_read driver p.event.status h.numbers.1.1.1.1.1.0)
 
-  bank_read : (cpu : ℕ) → edac_bank cpu (bank_words p (edac_hex driver p.event.mcg) (edac_status driver p.event.status)) ≡ Some (Start cpu p.event.mcg p.event.bank p.event.status)
+  bank_read : (cpu : ℕ) → edac_bank cpu (status_words p (edac_hex driver p.event.mcg) (edac_status driver p.event.status)) ≡ Some (Start cpu p.event.mcg p.event.bank p.event.status)
   unfolding edac_bank
   bank_read cpu =
       let bank : List ℕ = decimal p.event.bank ++ 58 ∷ [] in
@@ -217,11 +217,11 @@ module _ (p : Printed) (h : IsPrinted p) (driver : Driver) (exception : Bool) wh
   unfolding edac_start
   start_read = by exception
     where
-      by : (e : Bool) → edac_by_words (check_words p (codes "Check" ∷ edac_kind e ∷ bank_words p (edac_hex driver p.event.mcg) (edac_status driver p.event.status))) ≡ Some (Start p.event.cpu p.event.mcg p.event.bank p.event.status)
+      by : (e : Bool) → edac_by_words (check_words p (codes "Check" ∷ edac_kind e ∷ status_words p (edac_hex driver p.event.mcg) (edac_status driver p.event.status))) ≡ Some (Start p.event.cpu p.event.mcg p.event.bank p.event.status)
       by true =
-          ap (λ (o : Option ℕ). read_then o (λ cpu. edac_bank cpu (bank_words p (edac_hex driver p.event.mcg) (edac_status driver p.event.status)))) (colon_read 65535 p.event.cpu (omega (arith, h.cpu)) (omega arith)) ∙ bank_read p.event.cpu
+          ap (λ (o : Option ℕ). read_then o (λ cpu. edac_bank cpu (status_words p (edac_hex driver p.event.mcg) (edac_status driver p.event.status)))) (colon_read 65535 p.event.cpu (omega (arith, h.cpu)) (omega arith)) ∙ bank_read p.event.cpu
       by false =
-          ap (λ (o : Option ℕ). read_then o (λ cpu. edac_bank cpu (bank_words p (edac_hex driver p.event.mcg) (edac_status driver p.event.status)))) (colon_read 65535 p.event.cpu (omega (arith, h.cpu)) (omega arith)) ∙ bank_read p.event.cpu
+          ap (λ (o : Option ℕ). read_then o (λ cpu. edac_bank cpu (status_words p (edac_hex driver p.event.mcg) (edac_status driver p.event.status)))) (colon_read 65535 p.event.cpu (omega (arith, h.cpu)) (omega arith)) ∙ bank_read p.event.cpu
 
   register_read : (n : ℕ) → n < 2 ^ 64 → edac_register (edac_hex driver n ∷ [] ∷ []) ≡ Some n
   unfolding edac_register
@@ -241,7 +241,7 @@ module _ (p : Printed) (h : IsPrinted p) (driver : Driver) (exception : Bool) wh
       let word : List ℕ = decimal p.event.vendor in
       let rest : List ℕ = edac_hex driver p.cpuid in
       let lacks : Lacks 58 word = decimal_lacks 58 p.event.vendor (omega arith) h.numbers.0 in
-      ap (λ (id : List ℕ). provided (is_some (register_of id)) (decimal_of (2 ^ 64 - 1) (up_to 58 (word ++ 58 ∷ rest)))) (after_is 58 word rest lacks)
+      ap (λ (id : List ℕ). provided (is_some (edac_number id)) (decimal_of (2 ^ 64 - 1) (up_to 58 (word ++ 58 ∷ rest)))) (after_is 58 word rest lacks)
       ∙ ap (λ (o : Option ℕ). provided (is_some o) (decimal_of (2 ^ 64 - 1) (up_to 58 (word ++ 58 ∷ rest)))) (hex_read driver p.cpuid h.numbers.1.1.1.1.1.1.1.1.1.1.1.1.1.0)
       ∙ ap (decimal_of (2 ^ 64 - 1)) (up_to_is 58 word rest lacks)
       ∙ decimal_read (2 ^ 64 - 1) p.event.vendor (omega (arith, h.numbers.0)) (omega arith)

@@ -4,14 +4,14 @@ mod LogFilterLemmas
 mod LogRangeLemmas
 mod LogFoundLemmas
 mod LogLawLemmas
-mod NumeralLemmas
+pub mod NumeralLemmas
 mod ReadBackLemmas
 mod PartsLemmas
 mod MarkLemmas
 mod TextLemmas
 mod RangeLemmas
 mod TraceLawLemmas
-mod KernelLemmas
+pub mod KernelLemmas
 mod KernelLawLemmas
 mod KernelMarkLemmas
 mod LogLineLemmas

@@ -18,7 +18,7 @@ use Rattle.ras_script.specs.SplittingLaws.{script_of}
 use Rattle.bank_lines.specs.Finding.{is_torn, lacks_address, log_found_of, without_address}
 use Rattle.bank_lines.specs.LogAlong.{answers_along, log_found_at, found_at_end, log_at_start, rest_along, state_after, state_over}
 use Rattle.bank_lines.specs.LogFilter.{comment_at, comment_text, log_answers_after, early_lines, founds_of, founds_text, group_text, log_answers, log_filter, log_rest, tells_torn, work_after}
-use Rattle.bank_lines.specs.EdacReports.{edac_after, edac_over, no_edac, told_by, told_lines}
+use Rattle.bank_lines.specs.EdacReports.{edac_after, edac_over, no_edac, marked_told, told_lines}
 use Rattle.bank_lines.specs.LogGroups.{found_told, klog_part, named_report, none_polled, polled_counter, twin_counter}
 use Rattle.bank_lines.specs.LogLines.{log_line_of, printed_plain}
 use Rattle.bank_lines.specs.Texts.{asking_line, found_text, torn_line, unread_line}
@@ -109,10 +109,10 @@ over_work boot cap state stage (line ∷ lines) is =
 -- ---- what lines tell
 
 told-push : (report : EdacReport) (before : List (List ℕ)) (line : List ℕ)
-    → told_lines report (before ++ line ∷ []) ≡ told_lines report before ++ told_by (edac_over report before) (log_line_of line) ∷ []
+    → told_lines report (before ++ line ∷ []) ≡ told_lines report before ++ marked_told (edac_over report before) (log_line_of line) ∷ []
 told-push report [] line = refl
 told-push report (b ∷ before) line =
-    ap (λ (told : List LogLine). told_by report (log_line_of b) ∷ told) (told-push (edac_after report (log_line_of b)) before line)
+    ap (λ (told : List LogLine). marked_told report (log_line_of b) ∷ told) (told-push (edac_after report (log_line_of b)) before line)
 
 edac-push : (report : EdacReport) (before : List (List ℕ)) (line : List ℕ)
     → edac_over report (before ++ line ∷ []) ≡ edac_after (edac_over report before) (log_line_of line)
@@ -124,7 +124,7 @@ abbrev told : List (List ℕ) → List LogLine
 told lines = told_lines no_edac lines
 
 abbrev next : List (List ℕ) → List ℕ → LogLine
-next before line = told_by (edac_over no_edac before) (log_line_of line)
+next before line = marked_told (edac_over no_edac before) (log_line_of line)
 
 -- ---- lines
 

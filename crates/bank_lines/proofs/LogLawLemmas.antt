@@ -17,7 +17,7 @@ use Rattle.bank_lines.specs.LogAlong.{LogProgress, answers_along, log_found_at, 
 use Rattle.bank_lines.specs.LogFilter.{log_reports, log_rest, log_script}
 use Rattle.bank_lines.specs.LogGroups.{found_told, none_polled, with_counter}
 use Rattle.bank_lines.specs.EdacLines.{driver_text, edac_line_of, edac_mark, is_of_edac}
-use Rattle.bank_lines.specs.EdacReports.{edac_after, no_edac, told_by, told_lines}
+use Rattle.bank_lines.specs.EdacReports.{edac_after, no_edac, marked_told, told_lines}
 use Rattle.bank_lines.specs.LogHeads.{is_own}
 use Rattle.bank_lines.specs.LogLines.{driver_told, edac_told_by, is_of_report, is_own_line, left_unread, line_told_by, log_line_by, log_line_of, log_mark, log_stamp_of, mark_of, place_in, printed_plain}
 use Rattle.bank_lines.specs.Texts.{found_text, printed}
@@ -27,8 +27,8 @@ use Rattle.bank_lines.specs.declared.edac_report.EdacReport.{EdacReport}
 use Rattle.bank_lines.specs.declared.log_line.LogLine.TheVariants.{Nothing, Unread, Part}
 use Rattle.bank_lines.specs.declared.log_line.MarkedLine.{MarkedLine}
 use Rattle.bank_lines.specs.declared.log_line.MarkedLine.TheVariants.{Plain}
-use Rattle.bank_lines.specs.declared.mark.Mark.{Mark}
-use Rattle.bank_lines.specs.declared.mark.Mark.TheVariants.{AtPlain, AtEdac}
+use Rattle.bank_lines.specs.declared.mark.LogMark.{LogMark}
+use Rattle.bank_lines.specs.declared.mark.LogMark.TheVariants.{AtPlain, AtEdac}
 use Rattle.bank_lines.specs.declared.log_state.LogState.{LogState}
 use Rattle.bank_lines.proofs.LogFilterLemmas.{answers_are, rest_is}
 use Rattle.bank_lines.proofs.LogFoundLemmas.{numbered}
@@ -37,7 +37,7 @@ use Rattle.bank_lines.proofs.LogGroupLemmas.{ends, group_found, to_end}
 -- ---- a step of the filter
 
 pub took : (log : LogProgress) (line : List ℕ) (report : EdacReport) (told : LogLine) (state : LogState) (found : Finding) (old new : List ℕ)
-    → told ≡ told_by log.edac (log_line_of line)
+    → told ≡ marked_told log.edac (log_line_of line)
     → report ≡ edac_after log.edac (log_line_of line)
     → found ≡ log_found_at log.boot log.cap log.state told
     → state ≡ state_after log.boot log.cap log.state told
@@ -147,7 +147,7 @@ after_edac head (Some text) is = after_driver head text (is_own head) (is_of_eda
 pub not_own : (line : List ℕ) → is_own_line line ≡ false → (log_line_of line ≡ Plain Nothing) ⊎ (log_line_of line ≡ Plain Unread)
 not_own line = by (mark_of line)
   where
-    by : (mark : Option Mark) → option_map_or (λ mark. is_own (take (place_in mark) line)) mark false ≡ false
+    by : (mark : Option LogMark) → option_map_or (λ mark. is_own (take (place_in mark) line)) mark false ≡ false
         → (log_line_by line mark ≡ Plain Nothing) ⊎ (log_line_by line mark ≡ Plain Unread)
     by None is = inl refl
     by (Some (AtPlain place)) is = plain_is _ (after_plain (take place line) (drop place line) (is_own (take place line)) is)
@@ -157,7 +157,7 @@ not_own line = by (mark_of line)
 
 -- a line that tells nothing leaves what is in work
 told_without : (report : EdacReport) (line : MarkedLine) → (line ≡ Plain Nothing) ⊎ (line ≡ Plain Unread)
-    → ((told_by report line ≡ Nothing) ⊎ (told_by report line ≡ Unread)) × (edac_after report line ≡ report)
+    → ((marked_told report line ≡ Nothing) ⊎ (marked_told report line ≡ Unread)) × (edac_after report line ≡ report)
 told_without report line (inl is) = rw is (inl refl, refl)
 told_without report line (inr is) = rw is (inr refl, refl)
 
@@ -169,14 +169,14 @@ more_told report [] after line other =
     let is = told_without report (log_line_of line) other in (
       [],
       told_lines report after,
-      told_by report (log_line_of line),
+      marked_told report (log_line_of line),
       is.0,
-      ap (λ (r : EdacReport). told_by report (log_line_of line) ∷ told_lines r after) is.1,
+      ap (λ (r : EdacReport). marked_told report (log_line_of line) ∷ told_lines r after) is.1,
       refl,
     )
 more_told report (b ∷ before) after line other =
     let (first, rest, told, none, with, without) = more_told (edac_after report (log_line_of b)) before after line other in
-    let told_b : LogLine = told_by report (log_line_of b) in
+    let told_b : LogLine = marked_told report (log_line_of b) in
     (told_b ∷ first, rest, told, none, ap (λ (lines : List LogLine). told_b ∷ lines) with, ap (λ (lines : List LogLine). told_b ∷ lines) without)
 
 module _ (boot cap : ℕ) where

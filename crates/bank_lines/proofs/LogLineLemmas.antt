@@ -10,8 +10,8 @@ use Rattle.bank_lines.specs.declared.log_line.LogLine.{LogLine}
 use Rattle.bank_lines.specs.declared.log_line.LogLine.TheVariants.{Nothing}
 use Rattle.bank_lines.specs.declared.log_line.MarkedLine.{MarkedLine}
 use Rattle.bank_lines.specs.declared.log_line.MarkedLine.TheVariants.{Plain}
-use Rattle.bank_lines.specs.declared.mark.Mark.{Mark}
-use Rattle.bank_lines.specs.declared.mark.Mark.TheVariants.{AtPlain, AtEdac}
+use Rattle.bank_lines.specs.declared.mark.LogMark.{LogMark}
+use Rattle.bank_lines.specs.declared.mark.LogMark.TheVariants.{AtPlain, AtEdac}
 use Rattle.bank_lines.proofs.LogHeadLemmas.{rest_is}
 
 pub after_is : (head marked : List ℕ) (stamp : Option ℕ) (line : KlogLine) (told : LogLine) (own : Bool)
@@ -39,7 +39,7 @@ pub line_is : (line : List ℕ) (place : ℕ) (told : LogLine) → Some (AtPlain
 line_is line place told found told_is =
     ap (λ (t : LogLine). Plain t) told_is
     ∙ ap (λ (marked : List ℕ). Plain (log_line_after (take place line) marked)) (rest_is place line)
-    ∙ ap (λ (o : Option Mark). log_line_by line o) found
+    ∙ ap (λ (o : Option LogMark). log_line_by line o) found
 
 pub edac_is : (line : List ℕ) (place : ℕ) (told : MarkedLine) → Some (AtEdac place) ≡ mark_of line
     → told ≡ edac_line_after (take place line) (take (length line - place) (drop place line))
@@ -47,10 +47,10 @@ pub edac_is : (line : List ℕ) (place : ℕ) (told : MarkedLine) → Some (AtEd
 edac_is line place told found told_is =
     told_is
     ∙ ap (λ (marked : List ℕ). edac_line_after (take place line) marked) (rest_is place line)
-    ∙ ap (λ (o : Option Mark). log_line_by line o) found
+    ∙ ap (λ (o : Option LogMark). log_line_by line o) found
 
 pub none_is : (line : List ℕ) → None ≡ mark_of line → Plain Nothing ≡ log_line_of line
-none_is line none = ap (λ (o : Option Mark). log_line_by line o) none
+none_is line none = ap (λ (o : Option LogMark). log_line_by line o) none
 
 pub driver_is : (head marked : List ℕ) (text : List ℕ) (told : MarkedLine)
     → Some text ≡ driver_text (take (length marked - 5) (drop 5 marked)) → told ≡ driver_told head text

@@ -7,7 +7,7 @@ use Rattle.bank_lines.specs.EdacLines.{edac_mark}
 use Rattle.bank_lines.specs.LogHeads.{mark_place}
 use Rattle.bank_lines.specs.LogKernel.{HasNo}
 use Rattle.bank_lines.specs.LogLines.{log_mark, mark_by, mark_of}
-use Rattle.bank_lines.specs.declared.mark.Mark.TheVariants.{AtPlain, AtEdac}
+use Rattle.bank_lines.specs.declared.mark.LogMark.TheVariants.{AtPlain, AtEdac}
 use Rattle.bank_lines.proofs.LogHeadLemmas.{at_starts, place-at, place-none}
 use Rattle.bank_lines.proofs.NumeralLemmas.{lack_both, literal_lacks}
 

@@ -10,8 +10,8 @@ use Rattle.ras_klog.specs.Reading.{after_marker, bank_of, check_of, colon_number
 use Rattle.ras_klog.specs.declared.line.KlogLine.{KlogLine}
 use Rattle.ras_klog.specs.declared.line.KlogLine.TheVariants.{Start, Tsc, Processor, Other}
 use Rattle.ras_script.specs.Number.{decimal_of, hexadecimal_of, is_numeral, numeral_value}
-use Rattle.bank_lines.specs.EdacLines.{driver_text, edac_bank, edac_line_of, edac_mark, edac_processor, edac_register, edac_start, edac_vendor, is_check, is_of_edac, register_of}
-use Rattle.bank_lines.specs.EdacReports.{edac_after, told_by, told_lines}
+use Rattle.bank_lines.specs.EdacLines.{driver_text, edac_bank, edac_line_of, edac_mark, edac_processor, edac_register, edac_start, edac_vendor, is_check, is_of_edac, edac_number}
+use Rattle.bank_lines.specs.EdacReports.{edac_after, marked_told, told_lines}
 use Rattle.bank_lines.specs.LogHeads.{after, is_own, record_time, up_to, without_spaces}
 use Rattle.bank_lines.specs.LogLines.{bracket_stamp, driver_told, edac_line_after, edac_told_by, is_cut, is_of_report, log_line_after, log_line_by, log_line_of, log_mark, mark_of, micros_of, log_stamp_of, line_told_by, left_unread, printed_plain, vendor_of, with_vendor}
 use Rattle.bank_lines.specs.Parts.{cut_at, value_after}
@@ -24,8 +24,8 @@ use Rattle.bank_lines.specs.declared.log_line.LogLine.TheVariants.{Nothing, Unre
 use Rattle.bank_lines.specs.declared.log_line.MarkedLine.{MarkedLine}
 use Rattle.bank_lines.specs.declared.log_line.MarkedLine.TheVariants as Marked
 use Rattle.bank_lines.specs.declared.log_line.Print.{Print}
-use Rattle.bank_lines.specs.declared.mark.Mark.{Mark}
-use Rattle.bank_lines.specs.declared.mark.Mark.TheVariants.{AtPlain, AtEdac}
+use Rattle.bank_lines.specs.declared.mark.LogMark.{LogMark}
+use Rattle.bank_lines.specs.declared.mark.LogMark.TheVariants.{AtPlain, AtEdac}
 
 -- something that holds of what an option has
 abbrev pub Each : {A : Type 0} → (A → Type 0) → Option A → Type 0
@@ -215,14 +215,14 @@ IsEdacLineInRange (Edac.Addr n) = n < 2 ^ 64
 IsEdacLineInRange (Edac.Misc n) = n < 2 ^ 64
 IsEdacLineInRange (Edac.Processor vendor seconds) = (vendor < 2 ^ 64) × (seconds < 2 ^ 64)
 
-register_in : (w : List ℕ) → Each (λ n. n < 2 ^ 64) (register_of w)
-unfolding register_of
+register_in : (w : List ℕ) → Each (λ n. n < 2 ^ 64) (edac_number w)
+unfolding edac_number
 register_in w = hexadecimal_in (option_map_or (λ digits. digits) (value_after (codes "0x") w) w)
 
 edac_register_in : (words : List (List ℕ)) → Each (λ n. n < 2 ^ 64) (edac_register words)
 unfolding edac_register
 edac_register_in words =
-    each_then (λ n. n < 2 ^ 64) (λ n. n < 2 ^ 64) (register_of (word words 0)) (λ register. provided (list_all is_empty (drop 1 words)) (Some register)) (register_in (word words 0)) (λ register r.
+    each_then (λ n. n < 2 ^ 64) (λ n. n < 2 ^ 64) (edac_number (word words 0)) (λ register. provided (list_all is_empty (drop 1 words)) (Some register)) (register_in (word words 0)) (λ register r.
     each_provided (λ n. n < 2 ^ 64) (list_all is_empty (drop 1 words)) (Some register) r)
 
 edac_bank_in : (cpu : ℕ) (words : List (List ℕ)) → cpu < 2 ^ 16 → Each IsEdacLineInRange (edac_bank cpu words)
@@ -230,7 +230,7 @@ unfolding edac_bank
 edac_bank_in cpu words small =
     let stated : ℕ → ℕ → Option EdacLine = λ mcg bank. read_then (edac_register (drop 3 words)) (λ status. Some (Edac.Start cpu mcg bank status)) in
     let banked : ℕ → Option EdacLine = λ mcg. read_then (colon_number 255 (word words 2)) (λ bank. stated mcg bank) in
-    each_then (λ n. n < 2 ^ 64) IsEdacLineInRange (register_of (word words 0)) (λ mcg. provided (bytes_eq (word words 1) (codes "Bank")) (banked mcg)) (register_in (word words 0)) (λ mcg m.
+    each_then (λ n. n < 2 ^ 64) IsEdacLineInRange (edac_number (word words 0)) (λ mcg. provided (bytes_eq (word words 1) (codes "Bank")) (banked mcg)) (register_in (word words 0)) (λ mcg m.
     each_provided IsEdacLineInRange (bytes_eq (word words 1) (codes "Bank")) (banked mcg) (
     each_then (λ n. n ≤ 255) IsEdacLineInRange (colon_number 255 (word words 2)) (λ bank. stated mcg bank) (colon_in 255 (word words 2)) (λ bank b.
     each_then (λ n. n < 2 ^ 64) IsEdacLineInRange (edac_register (drop 3 words)) (λ status. Some (Edac.Start cpu mcg bank status)) (edac_register_in (drop 3 words)) (λ status s.
@@ -247,7 +247,7 @@ edac_start_in words =
     each_provided IsEdacLineInRange (is_check (word words 3)) (edac_bank cpu (drop 4 words)) (edac_bank_in cpu (drop 4 words) (omega (arith, c))))))
 
 edac_vendor_in : (w : List ℕ) → Each (λ n. n ≤ 2 ^ 64 - 1) (edac_vendor w)
-edac_vendor_in w = each_provided (λ n. n ≤ 2 ^ 64 - 1) (is_some (register_of (after 58 w))) (decimal_of (2 ^ 64 - 1) (up_to 58 w)) (decimal_in (2 ^ 64 - 1) (up_to 58 w))
+edac_vendor_in w = each_provided (λ n. n ≤ 2 ^ 64 - 1) (is_some (edac_number (after 58 w))) (decimal_of (2 ^ 64 - 1) (up_to 58 w)) (decimal_in (2 ^ 64 - 1) (up_to 58 w))
 
 edac_processor_in : (words : List (List ℕ)) → Each IsEdacLineInRange (edac_processor words)
 unfolding edac_processor
@@ -306,7 +306,7 @@ edac_after_in head marked = by (driver_text (drop (length edac_mark) marked))
     by None = tt
     by (Some text) = driver_in head text
 
-by_in : (line : List ℕ) (mark : Option Mark) → IsMarkedInRange (log_line_by line mark)
+by_in : (line : List ℕ) (mark : Option LogMark) → IsMarkedInRange (log_line_by line mark)
 by_in line None = tt
 by_in line (Some (AtPlain place)) = after_in (take place line) (drop place line)
 by_in line (Some (AtEdac place)) = edac_after_in (take place line) (drop place line)
@@ -321,7 +321,7 @@ IsReportInRange (Counted tsc) = tsc < 2 ^ 64
 IsReportInRange (Placed tsc addr) = (tsc < 2 ^ 64) × (addr < 2 ^ 64)
 IsReportInRange report = ⊤
 
-told_marked_in : (report : EdacReport) (line : MarkedLine) → IsReportInRange report → IsMarkedInRange line → IsLogLineInRange (told_by report line)
+told_marked_in : (report : EdacReport) (line : MarkedLine) → IsReportInRange report → IsMarkedInRange line → IsLogLineInRange (marked_told report line)
 told_marked_in report (Marked.Edac (Edac.Start cpu mcg bank status) stamp) r l = (l.0, l.1, omega arith)
 told_marked_in Begun (Marked.Edac (Edac.Tsc n) stamp) r l = tt
 told_marked_in (Counted tsc) (Marked.Edac (Edac.Addr n) stamp) r l = tt

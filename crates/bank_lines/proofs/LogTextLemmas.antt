@@ -18,7 +18,7 @@ use Rattle.ras_script.proofs.WrittenNumberLemmas.{decimal_read, hexadecimal_read
 use Rattle.ras_script.specs.LineLaws.{hexadecimal}
 use Rattle.ras_script.specs.Number.{decimal_of, hexadecimal_of}
 use Rattle.ras_script.specs.SplittingLaws.{Lacks}
-use Rattle.bank_lines.specs.EdacLines.{register_of}
+use Rattle.bank_lines.specs.EdacLines.{edac_number}
 use Rattle.bank_lines.specs.Kernel.{register}
 use Rattle.bank_lines.specs.LogHeads.{after, is_number, up_to}
 use Rattle.bank_lines.specs.LogKernel.{Driver, edac_hex, edac_status, pnd2, sbridge, skx}
@@ -85,20 +85,20 @@ no_prefix word lacks = by (bytes_eq (take 2 word) (codes "0x")) refl
     by false is = refl
     by true is = absurd (let front : take 2 word ≡ codes "0x" = (bytes_eq-Decides (take 2 word) (codes "0x")).0 is in (subst (Lacks 120) front (take_lacks 120 2 word lacks)).1.0 refl)
 
-plain_number : (word : List ℕ) (n : ℕ) → Lacks 120 word → hexadecimal_of word ≡ Some n → register_of word ≡ Some n
-unfolding register_of
+plain_number : (word : List ℕ) (n : ℕ) → Lacks 120 word → hexadecimal_of word ≡ Some n → edac_number word ≡ Some n
+unfolding edac_number
 plain_number word n lacks reads = ap (λ (digits : Option (List ℕ)). hexadecimal_of (option_map_or (λ d. d) digits word)) (no_prefix word lacks) ∙ reads
 
 no_zero_x : ¬ (◌≡◌ {A = ℕ} 48 120)
 no_zero_x e = omega (arith, e)
 
-pub hex_read : (driver : Driver) (n : ℕ) → n < 2 ^ 64 → register_of (edac_hex driver n) ≡ Some n
-unfolding register_of
+pub hex_read : (driver : Driver) (n : ℕ) → n < 2 ^ 64 → edac_number (edac_hex driver n) ≡ Some n
+unfolding edac_number
 hex_read skx n small = hexadecimal_read false n small
 hex_read sbridge n small = plain_number (hexadecimal n) n (hexadecimal_lacks 120 n (omega arith) small) (hexadecimal_read false n small)
 hex_read pnd2 n small = plain_number (hexadecimal n) n (hexadecimal_lacks 120 n (omega arith) small) (hexadecimal_read false n small)
 
-pub status_read : (driver : Driver) (n : ℕ) → n < 2 ^ 64 → register_of (edac_status driver n) ≡ Some n
+pub status_read : (driver : Driver) (n : ℕ) → n < 2 ^ 64 → edac_number (edac_status driver n) ≡ Some n
 status_read skx n small = hex_read skx n small
 status_read sbridge n small = plain_number (register n) n (padded_lacks 120 16 n (omega arith) no_zero_x small) (register_read n small)
 status_read pnd2 n small = hex_read pnd2 n small

@@ -12,12 +12,12 @@ use Rattle.ras_script.specs.Number.{decimal_of, hexadecimal_of}
 use Rattle.ras_script.specs.SplittingLaws.{Lacks}
 use Rattle.bank_lines.specs.Kernel.{IsPrinted, Printed, register}
 use Rattle.bank_lines.specs.LogHeads.{after, is_joined, is_own, up_to}
-use Rattle.bank_lines.specs.LogKernel.{HasNo, bank_words, named_words, plain_registers, plain_start, plain_time, pnd2}
+use Rattle.bank_lines.specs.LogKernel.{HasNo, status_words, named_words, plain_registers, plain_start, plain_time, pnd2}
 use Rattle.bank_lines.specs.LogLines.{left_unread, line_told_by, log_line_after, log_line_by, log_line_of, log_mark, log_stamp_of, printed_plain, vendor_of, with_vendor}
 use Rattle.bank_lines.specs.declared.log_line.LogLine.{LogLine}
 use Rattle.bank_lines.specs.declared.log_line.LogLine.TheVariants.{Part}
 use Rattle.bank_lines.specs.declared.log_line.MarkedLine.TheVariants.{Plain}
-use Rattle.bank_lines.specs.declared.mark.Mark.{Mark}
+use Rattle.bank_lines.specs.declared.mark.LogMark.{LogMark}
 use Rattle.bank_lines.proofs.KernelLemmas.{padded_lacks, register_read}
 use Rattle.bank_lines.proofs.LogMarkLemmas.{plain_marked}
 use Rattle.bank_lines.proofs.LogTextLemmas.{after_is, colon_lacks, colon_read, not_joined, up_to_is, vendor_lacks, words_split}
@@ -36,7 +36,7 @@ line_read : (head text : List ℕ) (line : KlogLine) (told : LogLine) → is_own
     → line_told_by (printed_plain (log_stamp_of head)) text line ≡ told → log_line_of (head ++ (log_mark ++ text)) ≡ Plain told
 line_read head text line told own none reads tells =
     let whole : List ℕ = head ++ (log_mark ++ text) in
-    ap (λ (mark : Option Mark). log_line_by whole mark) (plain_marked head text none)
+    ap (λ (mark : Option LogMark). log_line_by whole mark) (plain_marked head text none)
     ∙ ap (λ (front : List ℕ). Plain (log_line_after front (drop (length head) whole))) (take-append_seam head (log_mark ++ text))
     ∙ ap (λ (marked : List ℕ). Plain (log_line_after head marked)) (drop_at head (log_mark ++ text) (length head) refl)
     ∙ ap (λ (is : Bool). Plain (if is then line_told_by (printed_plain (log_stamp_of head)) text (klog_line_of (log_mark ++ text)) else left_unread text)) own
@@ -67,7 +67,7 @@ module _ (p : Printed) (h : IsPrinted p) (exception : Bool) where
   -- ---- the first line
 
   abbrev banks : List (List ℕ)
-  banks = bank_words p (hexadecimal p.event.mcg) (register p.event.status)
+  banks = status_words p (hexadecimal p.event.mcg) (register p.event.status)
 
   bank_lacks : AllByRecursion (Lacks 32) banks
   bank_lacks =

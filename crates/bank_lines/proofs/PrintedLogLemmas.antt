@@ -5,11 +5,11 @@ use Rattle.ras_facts.specs.declared.bank.BankReport.{BankReport}
 use Rattle.ras_klog.specs.Groups.{bank_of_group}
 use Rattle.ras_klog.specs.declared.line.KlogLine.TheVariants as Klog
 use Rattle.ras_klog.specs.declared.state.KlogOut.TheVariants as Told
-use Rattle.bank_lines.specs.EdacReports.{edac_after, no_edac, printed_by_edac, told_by, told_lines}
+use Rattle.bank_lines.specs.EdacReports.{edac_after, no_edac, printed_by_edac, marked_told, told_lines}
 use Rattle.bank_lines.specs.Kernel.{IsPrinted, Printed}
 use Rattle.bank_lines.specs.LogFilter.{founds_of}
 use Rattle.bank_lines.specs.LogGroups.{found_told, log_founds, none_polled, polled_after}
-use Rattle.bank_lines.specs.LogKernel.{AreHeads, Driver, Heads, bank_words, check_words, driver_prefix, edac_hex, edac_kind, edac_log, edac_status, log_report, plain_log, plain_registers, plain_start, plain_time, time_words}
+use Rattle.bank_lines.specs.LogKernel.{AreHeads, Driver, Heads, status_words, check_words, driver_prefix, edac_hex, edac_kind, edac_log, edac_status, log_report, plain_log, plain_registers, plain_start, plain_time, time_words}
 use Rattle.bank_lines.specs.LogLines.{log_line_of, log_mark, log_stamp_of, printed_plain}
 use Rattle.bank_lines.specs.declared.edac_line.EdacLine.TheVariants as Edac
 use Rattle.bank_lines.specs.declared.edac_report.EdacReport.{EdacReport}
@@ -26,8 +26,8 @@ use Rattle.bank_lines.proofs.TwiceLemmas.{found_again}
 
 -- ---- what lines tell, by what each is
 
-step : (report : EdacReport) (line : List ℕ) (marked : MarkedLine) (lines : List (List ℕ)) → log_line_of line ≡ marked → told_lines report (line ∷ lines) ≡ told_by report marked ∷ told_lines (edac_after report marked) lines
-step report line marked lines is = ap (λ (m : MarkedLine). told_by report m ∷ told_lines (edac_after report m) lines) is
+step : (report : EdacReport) (line : List ℕ) (marked : MarkedLine) (lines : List (List ℕ)) → log_line_of line ≡ marked → told_lines report (line ∷ lines) ≡ marked_told report marked ∷ told_lines (edac_after report marked) lines
+step report line marked lines is = ap (λ (m : MarkedLine). marked_told report m ∷ told_lines (edac_after report m) lines) is
 
 module _ (cpu mcg bank status tsc addr misc vendor seconds : ℕ) where
   -- the told lines of a report of EDAC, and of the kernel's own
@@ -110,7 +110,7 @@ module _ (boot cap : ℕ) (p : Printed) (h : IsPrinted p) (exception : Bool) whe
         (printed_by_edac (log_stamp_of (heads 0))) (printed_by_edac (log_stamp_of (heads 3))) (printed_by_edac (log_stamp_of (heads 4))) (told_lines no_edac more)
     edac_is more =
         edac_lines p.event.cpu p.event.mcg p.event.bank p.event.status p.event.tsc p.event.addr p.event.misc p.event.vendor p.event.seconds
-        (behind 0 (check_words p (codes "Check" ∷ edac_kind exception ∷ bank_words p (edac_hex driver p.event.mcg) (edac_status driver p.event.status))))
+        (behind 0 (check_words p (codes "Check" ∷ edac_kind exception ∷ status_words p (edac_hex driver p.event.mcg) (edac_status driver p.event.status))))
         (behind 1 (codes "TSC" ∷ edac_hex driver p.event.tsc ∷ [] ∷ []))
         (behind 2 (codes "ADDR" ∷ edac_hex driver p.event.addr ∷ [] ∷ []))
         (behind 3 (codes "MISC" ∷ edac_hex driver p.event.misc ∷ [] ∷ []))

@@ -31,8 +31,8 @@ driver_text text =
 -- ---- words
 
 -- a number in hexadecimal, behind `0x` or not
-unfoldable pub register_of : List ℕ → Option ℕ
-register_of word = hexadecimal_of (option_map_or (λ digits. digits) (value_after (codes "0x") word) word)
+unfoldable pub edac_number : List ℕ → Option ℕ
+edac_number word = hexadecimal_of (option_map_or (λ digits. digits) (value_after (codes "0x") word) word)
 
 -- `Event:` or `Exception:`
 abbrev pub is_check : List ℕ → Bool
@@ -41,20 +41,20 @@ is_check word = bytes_eq word (codes "Event:") || bytes_eq word (codes "Exceptio
 -- the vendor's number of `<vendor>:<id>`
 abbrev pub edac_vendor : List ℕ → Option ℕ
 edac_vendor word =
-    provided (is_some (register_of (after 58 word))) (decimal_of (2 ^ 64 - 1) (up_to 58 word))
+    provided (is_some (edac_number (after 58 word))) (decimal_of (2 ^ 64 - 1) (up_to 58 word))
 
 -- ---- lines, behind their first word
 
 -- `<register>`, and then nothing but spaces
 unfoldable pub edac_register : List (List ℕ) → Option ℕ
 edac_register words =
-    read_then (register_of (word words 0)) (λ register.
+    read_then (edac_number (word words 0)) (λ register.
     provided (list_all is_empty (drop 1 words)) (Some register))
 
 -- `<mcg> Bank <bank>: <status>`, and then nothing but spaces
 unfoldable pub edac_bank : ℕ → List (List ℕ) → Option EdacLine
 edac_bank cpu words =
-    read_then (register_of (word words 0)) (λ mcg.
+    read_then (edac_number (word words 0)) (λ mcg.
     provided (bytes_eq (word words 1) (codes "Bank")) (
     read_then (colon_number 255 (word words 2)) (λ bank.
     read_then (edac_register (drop 3 words)) (λ status. Some (Start cpu mcg bank status)))))

@@ -50,9 +50,9 @@ plain_next report (Part (Klog.Start cpu mcg bank status) print vendor) = Idle
 plain_next report line = report
 
 -- what a line tells, and what is in work after it
-abbrev pub told_by : EdacReport → MarkedLine → LogLine
-told_by report (Plain line) = plain_told report line
-told_by report (Edac line stamp) = edac_told report line stamp
+abbrev pub marked_told : EdacReport → MarkedLine → LogLine
+marked_told report (Plain line) = plain_told report line
+marked_told report (Edac line stamp) = edac_told report line stamp
 
 abbrev pub edac_after : EdacReport → MarkedLine → EdacReport
 edac_after report (Plain line) = plain_next report line
@@ -62,7 +62,7 @@ edac_after report (Edac line stamp) = edac_next report line
 abbrev pub told_lines : EdacReport → List (List ℕ) → List LogLine
 told_lines report [] = []
 told_lines report (line ∷ lines) =
-    told_by report (log_line_of line) ∷ told_lines (edac_after report (log_line_of line)) lines
+    marked_told report (log_line_of line) ∷ told_lines (edac_after report (log_line_of line)) lines
 
 abbrev pub edac_over : EdacReport → List (List ℕ) → EdacReport
 edac_over report [] = report

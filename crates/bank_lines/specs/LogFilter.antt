@@ -11,7 +11,7 @@ use Rattle.ras_klog.specs.declared.state.KlogOut.TheVariants as Told
 use Rattle.ras_klog.specs.declared.state.Stage.{Stage}
 use Rattle.ras_script.specs.SplittingLaws.{script_of}
 use Rattle.ras_script.specs.declared.line.LineRefused.{LineRefused}
-use Rattle.bank_lines.specs.EdacReports.{edac_over, no_edac, told_by, told_lines}
+use Rattle.bank_lines.specs.EdacReports.{edac_over, no_edac, marked_told, told_lines}
 use Rattle.bank_lines.specs.Finding.{is_torn, log_found_of, report_in}
 use Rattle.bank_lines.specs.LogGroups.{before_end, klog_part, log_founds}
 use Rattle.bank_lines.specs.LogLines.{log_line_of}
@@ -74,7 +74,7 @@ comment_at boot cap number stage line =
 abbrev pub comment_text : ℕ → ℕ → List (List ℕ) → List ℕ → List ℕ
 comment_text boot cap before line =
     comment_at boot cap (length before + 1) (work_after at_start (told_lines no_edac before))
-    (told_by (edac_over no_edac before) (log_line_of line))
+    (marked_told (edac_over no_edac before) (log_line_of line))
 
 -- ---- the filter
 

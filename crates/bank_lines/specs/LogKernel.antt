@@ -18,8 +18,8 @@ time_words hex p more =
     ∷ codes "SOCKET" ∷ decimal p.socket ∷ codes "APIC" ∷ hex p.apic ∷ more
 
 -- a bank and its status
-abbrev pub bank_words : Printed → List ℕ → List ℕ → List (List ℕ)
-bank_words p mcg status = mcg ∷ codes "Bank" ∷ (decimal p.event.bank ++ 58 ∷ []) ∷ status ∷ []
+abbrev pub status_words : Printed → List ℕ → List ℕ → List (List ℕ)
+status_words p mcg status = mcg ∷ codes "Bank" ∷ (decimal p.event.bank ++ 58 ∷ []) ∷ status ∷ []
 
 abbrev pub check_words : Printed → List (List ℕ) → List (List ℕ)
 check_words p kind = codes "CPU" ∷ (decimal p.event.cpu ++ 58 ∷ []) ∷ codes "Machine" ∷ kind
@@ -29,8 +29,8 @@ check_words p kind = codes "CPU" ∷ (decimal p.event.cpu ++ 58 ∷ []) ∷ code
 -- whether the machine check came as an exception
 abbrev pub plain_start : Bool → Printed → List (List ℕ)
 plain_start true p =
-    check_words p (codes "Check" ∷ codes "Exception:" ∷ bank_words p (hexadecimal p.event.mcg) (register p.event.status))
-plain_start false p = check_words p (codes "Check:" ∷ bank_words p (hexadecimal p.event.mcg) (register p.event.status))
+    check_words p (codes "Check" ∷ codes "Exception:" ∷ status_words p (hexadecimal p.event.mcg) (register p.event.status))
+plain_start false p = check_words p (codes "Check:" ∷ status_words p (hexadecimal p.event.mcg) (register p.event.status))
 
 -- a number behind its name, unless it is 0
 abbrev pub named_words : List ℕ → ℕ → List (List ℕ) → List (List ℕ)
@@ -79,7 +79,7 @@ edac_kind false = codes "Event:"
 abbrev pub edac_words : Driver → Bool → Printed → List (List (List ℕ))
 edac_words driver exception p =
     check_words p (codes "Check" ∷ edac_kind exception
-    ∷ bank_words p (edac_hex driver p.event.mcg) (edac_status driver p.event.status))
+    ∷ status_words p (edac_hex driver p.event.mcg) (edac_status driver p.event.status))
     ∷ (codes "TSC" ∷ edac_hex driver p.event.tsc ∷ [] ∷ [])
     ∷ (codes "ADDR" ∷ edac_hex driver p.event.addr ∷ [] ∷ [])
     ∷ (codes "MISC" ∷ edac_hex driver p.event.misc ∷ [] ∷ [])

@@ -15,8 +15,8 @@ use Rattle.bank_lines.specs.declared.log_line.LogLine.TheVariants.{Nothing, Unre
 use Rattle.bank_lines.specs.declared.log_line.MarkedLine.{MarkedLine}
 use Rattle.bank_lines.specs.declared.log_line.MarkedLine.TheVariants.{Plain, Edac}
 use Rattle.bank_lines.specs.declared.log_line.Print.{Print}
-use Rattle.bank_lines.specs.declared.mark.Mark.{Mark}
-use Rattle.bank_lines.specs.declared.mark.Mark.TheVariants.{AtPlain, AtEdac}
+use Rattle.bank_lines.specs.declared.mark.LogMark.{LogMark}
+use Rattle.bank_lines.specs.declared.mark.LogMark.TheVariants.{AtPlain, AtEdac}
 use Rattle.bank_lines.specs.declared.log_line.TheConstants.{LAST_SECOND, LAST_STAMP, MICROSECONDS}
 
 -- what begins the kernel's own text of a machine check
@@ -107,15 +107,15 @@ edac_line_after head marked =
 
 -- Where the mark stands by which a line is read: the first one of the kernel's own text, and only if it
 -- has none the first one of EDAC's.
-abbrev pub mark_by : Option ℕ → Option ℕ → Option Mark
+abbrev pub mark_by : Option ℕ → Option ℕ → Option LogMark
 mark_by (Some place) edac = Some (AtPlain place)
 mark_by None edac = option_map (λ place. AtEdac place) edac
 
-abbrev pub mark_of : List ℕ → Option Mark
+abbrev pub mark_of : List ℕ → Option LogMark
 mark_of line = mark_by (mark_place log_mark line) (mark_place edac_mark line)
 
 -- a line, by its mark
-abbrev pub log_line_by : List ℕ → Option Mark → MarkedLine
+abbrev pub log_line_by : List ℕ → Option LogMark → MarkedLine
 log_line_by line None = Plain Nothing
 log_line_by line (Some (AtPlain place)) = Plain (log_line_after (take place line) (drop place line))
 log_line_by line (Some (AtEdac place)) = edac_line_after (take place line) (drop place line)
@@ -124,7 +124,7 @@ log_line_by line (Some (AtEdac place)) = edac_line_after (take place line) (drop
 abbrev pub log_line_of : List ℕ → MarkedLine
 log_line_of line = log_line_by line (mark_of line)
 
-abbrev pub place_in : Mark → ℕ
+abbrev pub place_in : LogMark → ℕ
 place_in (AtPlain place) = place
 place_in (AtEdac place) = place
 

@@ -5,7 +5,7 @@ ghost use Rattle.std.specs.List.{list_all};
 ghost use Rattle.std.specs.Option.{option_map};
 ghost use Rattle.ras_klog.specs.Reading.{colon_number, is_empty, word};
 ghost use Rattle.bank_lines.specs.EdacLines.{driver_text, edac_line_of, edac_vendor, is_check, is_driver, is_of_edac};
-ghost use Rattle.bank_lines.specs.EdacLines.{edac_bank, edac_processor, edac_register, edac_start, register_of};
+ghost use Rattle.bank_lines.specs.EdacLines.{edac_bank, edac_processor, edac_register, edac_start, edac_number};
 ghost use Rattle.bank_lines.specs.Steps.PartsLeft.{parts_in};
 
 use crate::log_heads::{cut, is_number};
@@ -120,7 +120,7 @@ fn start_of(words: &mut Parts<'_>) -> Option<EdacLine>
 fn bank_of(cpu: u16, words: &mut Parts<'_>) -> Option<EdacLine>
     ensures { result ≡ edac_bank cpu (parts_in words.old) }
 {
-    let mcg = register_of(next_word(words))?;
+    let mcg = edac_number(next_word(words))?;
     if next_word(words) != b"Bank".as_slice() {
         return None;
     }
@@ -139,7 +139,7 @@ fn bank_of(cpu: u16, words: &mut Parts<'_>) -> Option<EdacLine>
 fn edac_register(words: &mut Parts<'_>) -> Option<u64>
     ensures { result ≡ edac_register (parts_in words.old) }
 {
-    let register = register_of(next_word(words))?;
+    let register = edac_number(next_word(words))?;
     if are_empty(words) {
         Some(register)
     } else {
@@ -172,9 +172,9 @@ fn colon_number(word: &[u8], most: u64) -> Option<u64>
 }
 
 // A number in hexadecimal, behind `0x` or not.
-#[tactic(auto, unfolding(crate::specs::EdacLines::register_of))]
-fn register_of(word: &[u8]) -> Option<u64>
-    ensures { result ≡ register_of word.now }
+#[tactic(auto, unfolding(crate::specs::EdacLines::edac_number))]
+fn edac_number(word: &[u8]) -> Option<u64>
+    ensures { result ≡ edac_number word.now }
 {
     match value_after(b"0x", word) {
         Some(digits) => hexadecimal(digits),
@@ -187,7 +187,7 @@ fn edac_vendor(word: &[u8]) -> Option<u64>
     ensures { result ≡ edac_vendor word.now }
 {
     let (vendor, id) = cut(b':', word);
-    register_of(id)?;
+    edac_number(id)?;
     decimal(vendor, u64::MAX)
 }
 

@@ -1,7 +1,7 @@
 //! The reports that EDAC prints, told as the kernel's own text of the same registers.
 
 ghost use Rattle.std.specs.Prelude.{◌≡◌};
-ghost use Rattle.bank_lines.specs.EdacReports.{edac_after, edac_next, edac_told, no_edac, plain_next, plain_told, printed_by_edac, told_by};
+ghost use Rattle.bank_lines.specs.EdacReports.{edac_after, edac_next, edac_told, no_edac, plain_next, plain_told, printed_by_edac, marked_told};
 
 use crate::edac_line::EdacLine;
 use crate::log_line::{LogLine, MarkedLine, Print};
@@ -32,7 +32,7 @@ impl EdacReport {
 
     // Takes a line, and returns what it tells.
     pub(crate) fn step(&mut self, line: MarkedLine) -> LogLine
-        ensures told { result ≡ told_by self.old line }
+        ensures told { result ≡ marked_told self.old line }
         ensures report { self.new ≡ edac_after self.old line }
     {
         match line {

@@ -8,7 +8,7 @@ ghost use Rattle.bank_lines.specs.LogLines.{driver_told, edac_line_after, left_u
 
 use crate::edac_line::{EdacLine, driver_text, edac_line, is_of_edac};
 use crate::log_heads::{cut, is_joined, is_own, record_time, without_spaces};
-use crate::mark::{EDAC_MARK, Mark, PLAIN_MARK, mark_of};
+use crate::mark::{EDAC_MARK, LogMark, PLAIN_MARK, mark_of};
 use ras_klog::{KlogLine, klog_line};
 use ras_script::decimal;
 
@@ -59,10 +59,10 @@ pub(crate) fn log_line(line: &[u8]) -> MarkedLine
     ensures { result ≡ log_line_of line.now }
 {
     match mark_of(line) {
-        Some(Mark::AtPlain(place)) => {
+        Some(LogMark::AtPlain(place)) => {
             MarkedLine::Plain(log_line_after(&line[..place], &line[place..]))
         }
-        Some(Mark::AtEdac(place)) => edac_line_after(&line[..place], &line[place..]),
+        Some(LogMark::AtEdac(place)) => edac_line_after(&line[..place], &line[place..]),
         None => MarkedLine::Plain(LogLine::Nothing),
     }
 }

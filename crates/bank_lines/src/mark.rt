@@ -19,14 +19,14 @@ const PLAIN_PIVOT: usize = 15;
 
 // A mark, and where it stands.
 #[derive(Clone, Copy, Debug, PartialEq, Eq)]
-pub(crate) enum Mark {
+pub(crate) enum LogMark {
     AtPlain(usize),
     AtEdac(usize),
 }
 
 // The mark by which a line is read: the first one of the kernel's own text, or if it has none the
 // first one of EDAC's.
-pub(crate) fn mark_of(line: &[u8]) -> Option<Mark>
+pub(crate) fn mark_of(line: &[u8]) -> Option<LogMark>
     ensures place { result ≡ mark_of line.now }
     ensures within { IfSome result (λ mark. IsWithin mark line.now) }
 {
@@ -35,13 +35,13 @@ pub(crate) fn mark_of(line: &[u8]) -> Option<Mark>
     while let Some(passed) = position_of(b'E', &line[from..]) {
         let place = from + passed;
         if stands_round(place, PLAIN_PIVOT, PLAIN_MARK, line) {
-            return Some(Mark::AtPlain(place - PLAIN_PIVOT));
+            return Some(LogMark::AtPlain(place - PLAIN_PIVOT));
         }
         edac = first_edac(edac, place, line);
         from = place + 1;
     }
     match edac {
-        Some(place) => Some(Mark::AtEdac(place)),
+        Some(place) => Some(LogMark::AtEdac(place)),
         None => None,
     }
 }

@@ -1,1 +1,5 @@
+mod KernelLemmas
+mod LineLemmas
+mod PrintedLemmas
+mod ReadBackLemmas
 mod TextLemmas

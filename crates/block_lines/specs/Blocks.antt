@@ -1,6 +1,6 @@
--- The generic error status block that is made of a report: ACPI 6.5, section 18.3.2.7.1, "Generic
--- Error Data", with a memory section of UEFI, appendix N, "Memory Error Section", for each error.
--- What the kernel doesn't print is 0, and its validation bit is clear.
+-- The generic error status block of a report: ACPI 6.5, section 18.3.2.7.1, "Generic Error Data", with a
+-- memory section of UEFI, appendix N, "Memory Error Section", for each error. What the kernel doesn't print
+-- is 0, and its validation bit is clear.
 use Rattle.std.specs.Prelude.{ℕ, ◌+◌, ◌*◌, ◌==◌, Bool, List, [], ◌∷◌, ◌++◌, length, replicate, Option, is_some, unwrap_or, if◌then◌else◌}
 use Rattle.std.specs.List.{flat_map}
 use Rattle.ras_base.specs.LittleEndian.{u16_bytes, u32_bytes, u64_bytes}
@@ -33,7 +33,7 @@ location_bytes at =
     u16_bytes (unwrap_or at.node 0) ++ u16_bytes (unwrap_or at.card 0)
     ++ u16_bytes (unwrap_or at.«module» 0)
 
--- the type of error, with what isn't printed or isn't taken before and behind it
+-- the type of error, with what the kernel doesn't print, or the reader skips, before and after it
 unfoldable pub kind_bytes : Option ℕ → List ℕ
 kind_bytes kind = replicate 34 0 ++ unwrap_or kind 0 ∷ replicate 7 0
 
@@ -58,8 +58,7 @@ error_entry_bytes error = entry_header_bytes error.severity ++ memory_section_by
 
 -- ---- a block
 
--- The number of entries stands from bit 4 on; bit 1 says that errors were corrected, bit 0 that some
--- weren't.
+-- The number of entries begins at bit 4; bit 1 says that errors were corrected, bit 0 that some weren't.
 abbrev pub made_status : ℕ → ℕ → ℕ
 made_status severity count = 16 * count + (if severity == 2 then 2 else 1)
 
@@ -68,6 +67,6 @@ unfoldable pub block_front : ℕ → ℕ → List ℕ
 block_front severity count =
     u32_bytes (made_status severity count) ++ replicate 8 0 ++ u32_bytes (152 * count) ++ u32_bytes severity
 
--- the block of a report of this severity
+-- the block of a report with this severity
 unfoldable pub block_bytes : ℕ → List MemoryError → List ℕ
 block_bytes severity errors = block_front severity (length errors) ++ flat_map error_entry_bytes errors

@@ -1,32 +1,33 @@
--- What `lines ghes` makes of a kernel log.
+-- The lines of script that `lines ghes` makes of a kernel log.
 use Rattle.std.specs.Prelude.{ℕ, ◌+◌, List, [], ◌∷◌, Result, Ok}
 use Rattle.line_filters.specs.Filter.{Filter}
 use Rattle.ras_script.specs.declared.line.LineRefused.{LineRefused}
 use Rattle.block_lines.specs.LogLines.{report_log_line}
 use Rattle.block_lines.specs.Reports.{Reporting, no_reports, reporting_after}
-use Rattle.block_lines.specs.Texts.{end_text, blocks_text_at}
+use Rattle.block_lines.specs.Texts.{rest_text, blocks_text_at}
 
--- the text of each line, after so many lines; no line is refused
+-- the text of each line, after this many lines; no line is refused
 abbrev pub block_answers : ℕ → Reporting → List (List ℕ) → List (Result (List ℕ) LineRefused)
 block_answers taken r [] = []
 block_answers taken r (line ∷ lines) =
     Ok (blocks_text_at r (taken + 1) (report_log_line line))
     ∷ block_answers (taken + 1) (reporting_after r (report_log_line line)) lines
 
--- the state after lines
+-- the state of the filter after lines
 abbrev pub reporting_over : Reporting → List (List ℕ) → Reporting
 reporting_over r [] = r
 reporting_over r (line ∷ lines) = reporting_over (reporting_after r (report_log_line line)) lines
 
--- the text of a report that is in work after them
+-- the text after all lines: about a report that none of them ended
 abbrev pub rest_after : Reporting → List (List ℕ) → List ℕ
-rest_after r lines = end_text (reporting_over r lines)
+rest_after r lines = rest_text (reporting_over r lines)
 
--- how far a filter came in a log
+-- how far a filter has come in a log
 pub record BlockProgress : Type 0 where
   pub reports : Reporting
   pub taken : ℕ
 
+-- the filter that goes on from here
 abbrev pub blocks_make : BlockProgress → Filter
 blocks_make log = record {
   answers = block_answers log.taken log.reports;
@@ -34,6 +35,6 @@ blocks_make log = record {
   last = λ lines. [];
 }
 
--- what is made of the log of a boot that began at this second
+-- the filter for the log of a boot that began at this second
 abbrev pub block_filter : ℕ → ℕ → Filter
 block_filter boot began = blocks_make (record { reports = no_reports boot began; taken = 0 })

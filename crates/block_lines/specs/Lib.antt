@@ -5,3 +5,7 @@ pub mod Sources
 pub mod Reports
 pub mod Texts
 pub mod Filter
+pub mod ReadBack
+pub mod Kernel
+pub mod Reading
+pub mod Printed

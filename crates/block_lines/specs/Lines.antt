@@ -1,8 +1,7 @@
--- What the kernel prints of a firmware's report, line by line, behind the mark: the functions
--- `__ghes_print_estatus` of drivers/acpi/apei/ghes.c, and `cper_estatus_print`,
--- `cper_estatus_print_section`, `cper_print_mem` and `cper_mem_err_location` of
--- drivers/firmware/efi/cper.c.
-use Rattle.std.specs.Prelude.{ℕ, ◌^◌, ◌-◌, ◌||◌, List, codes, drop, length, Option, None, Some, if◌then◌else◌}
+-- What the kernel prints of a firmware's report, line by line, after the prefix: the functions
+-- `__ghes_print_estatus` of drivers/acpi/apei/ghes.c, and `cper_estatus_print`, `cper_estatus_print_section`,
+-- `cper_print_mem` and `cper_mem_err_location` of drivers/firmware/efi/cper.c.
+use Rattle.std.specs.Prelude.{ℕ, ◌^◌, ◌-◌, ◌||◌, List, codes, Option, None, Some, if◌then◌else◌}
 use Rattle.std.specs.Option.{option_map, option_map_or}
 use Rattle.std.specs.Str.{bytes_eq}
 use Rattle.ras_klog.specs.Reading.{read_then}
@@ -53,7 +52,7 @@ mask_line value = Field (option_map (λ n. Mask n) (hexadecimal_of value))
 abbrev pub kind_line : List ℕ → ReportLine
 kind_line value = Field (option_map (λ n. Kind n) (decimal_of 255 (up_to 44 value)))
 
--- a number behind its name, as in `node:1 ` or, of older kernels, `node: 1 `, and what follows it
+-- a number after its name, as in `node:1 ` or, of older kernels, `node: 1 `, and what follows it
 abbrev pub number_named : List ℕ → List ℕ → Option ℕ
 number_named name text =
     read_then (value_after name text) (λ value. decimal_of 65535 (up_to 32 (without_spaces value)))
@@ -61,7 +60,7 @@ number_named name text =
 abbrev pub after_named : List ℕ → List ℕ → List ℕ
 after_named name text = option_map_or (λ value. after 32 (without_spaces value)) (value_after name text) text
 
--- the node, the card and the module stand in this order, each if it is known
+-- the node, the card and the module in this order, each of which may be missing
 abbrev pub location_of : List ℕ → ErrorLocation
 location_of text =
     let cards = after_named (codes "node:") text in
@@ -79,12 +78,12 @@ location_line text =
 
 -- ---- any line
 
--- what is read of a value, if there is one
+-- what is read of a value, if there is one, and otherwise this
 abbrev pub told_by : Option (List ℕ) → (List ℕ → ReportLine) → ReportLine → ReportLine
 told_by None read otherwise = otherwise
 told_by (Some value) read otherwise = read value
 
--- a line of a section, behind its two spaces
+-- a line of a section, after its two spaces
 abbrev pub section_said : List ℕ → ReportLine
 section_said text =
     told_by (value_after (codes "section_type: ") text) type_line (
@@ -94,11 +93,11 @@ section_said text =
     told_by (value_after (codes "error_type: ") text) kind_line (
     location_line text)))))
 
--- what begins a report
+-- the words that begin a report
 abbrev pub source_words : List ℕ
 source_words = codes "Hardware error from APEI Generic Hardware Error Source: "
 
--- what a text behind the mark says
+-- what a text after the prefix says
 abbrev pub report_line_of : List ℕ → ReportLine
 report_line_of text =
     told_by (value_after source_words text) start_line (

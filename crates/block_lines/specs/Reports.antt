@@ -1,5 +1,5 @@
 -- A report while its lines are read, and what a line changes.
-use Rattle.std.specs.Prelude.{ℕ, ◌+◌, ◌-◌, ◌≤◌, ◌==◌, ◌||◌, Bool, true, false, not, List, [], ◌∷◌, ◌++◌, length, nat_lt, Option, None, Some, unwrap_or, if◌then◌else◌}
+use Rattle.std.specs.Prelude.{ℕ, ◌-◌, ◌≤◌, ◌==◌, ◌||◌, Bool, true, false, not, List, [], ◌∷◌, ◌++◌, length, nat_lt, Option, None, Some, unwrap_or, if◌then◌else◌}
 use Rattle.std.specs.Option.{option_map_or}
 use Rattle.bank_lines.specs.declared.log_line.TheConstants.{LAST_SECOND}
 use Rattle.block_lines.specs.Sources.{sources_with}
@@ -20,7 +20,7 @@ use Rattle.block_lines.specs.declared.sources.TheConstants.{MOST_SOURCES}
 
 -- ---- a section
 
--- an error of which nothing but its severity is told
+-- an error of which only the severity is known
 abbrev pub blank_error : ℕ → MemoryError
 blank_error severity = record {
   severity = severity;
@@ -40,13 +40,13 @@ abbrev pub section_with : OpenSection → MemoryField → OpenSection
 section_with (Memory error) field = Memory (error_with error field)
 section_with section field = section
 
--- a section whose type is told after so many errors: a report keeps 12
+-- a section whose type is known, after this many errors: a report stores at most 12
 abbrev pub typed_section : ℕ → OpenSection → OpenSection
 typed_section count (Begun severity) =
     if nat_lt count MOST_ERRORS then Memory (blank_error severity) else LeftOut
 typed_section count section = section
 
--- the section after a line of its report, of which so many errors ended
+-- the section after a line of its report, of which this many errors ended before
 abbrev pub section_after : ℕ → OpenSection → ReportLine → OpenSection
 section_after count section (lines.Error severity) = Begun severity
 section_after count section lines.MemoryType = typed_section count section
@@ -59,11 +59,11 @@ abbrev pub section_errors : OpenSection → List MemoryError
 section_errors (Memory error) = error ∷ []
 section_errors section = []
 
--- whether a section ends before its type is told, or none began
-abbrev pub is_cut : OpenSection → Bool
-is_cut Absent = true
-is_cut (Begun severity) = true
-is_cut section = false
+-- whether a section ends before its type is known, or no section began
+abbrev pub ends_early : OpenSection → Bool
+ends_early Absent = true
+ends_early (Begun severity) = true
+ends_early section = false
 
 -- ---- a report
 
@@ -71,7 +71,7 @@ abbrev pub severity_after : ℕ → ReportLine → ℕ
 severity_after severity (lines.Event told) = told
 severity_after severity line = severity
 
--- a report after a line of it, with this stamp, if so many errors ended
+-- a report after one of its lines, with this time stamp, if this many of its errors ended before
 abbrev pub report_after : ℕ → OpenReport → Option ℕ → ReportLine → OpenReport
 report_after count report stamp line = record report {
   last = unwrap_or stamp report.last;
@@ -84,7 +84,7 @@ abbrev pub errors_after : List MemoryError → OpenSection → ReportLine → Li
 errors_after errors section (lines.Error severity) = errors ++ section_errors section
 errors_after errors section line = errors
 
--- what begins with a report's first line. A report whose severity isn't told has that of no word.
+-- A report after its first line. As long as no line says its severity, it has the severity that has no word.
 abbrev pub report_from : ℕ → ℕ → ℕ → OpenReport
 report_from number source stamp = record {
   number = number;
@@ -97,7 +97,7 @@ report_from number source stamp = record {
 
 -- ---- where a report ends
 
--- Another line may stand among those of a report, but not a tenth of a second later.
+-- Another line may come among a report's lines, but not more than a tenth of a second later.
 abbrev pub is_late : OpenReport → Option ℕ → Bool
 is_late report None = false
 is_late report (Some stamp) = nat_lt LONGEST_PAUSE (stamp - report.last)
@@ -106,14 +106,14 @@ abbrev pub is_start : ReportLine → Bool
 is_start (lines.Start source) = true
 is_start line = false
 
--- a line ends a report before it: of its own number only one that begins a report
+-- a line ends the report before it; among lines with the report's number only one that begins a report does
 abbrev pub is_ended_by : OpenReport → Option ℕ → Option OwnLine → Bool
 is_ended_by report stamp None = is_late report stamp
 is_ended_by report stamp (Some own) = not (own.report == report.number) || is_start own.line
 
--- ---- what is said of a line
+-- ---- what is printed about a line
 
--- of a line that begins a section, if the one before it is cut
+-- about a line that begins a section, if the section before it is cut
 abbrev pub begun_remark : ℕ → ℕ → OpenSection → Remark
 begun_remark source begun (Begun severity) = remarks.Partial source begun
 begun_remark source begun section = remarks.Nothing
@@ -123,7 +123,7 @@ type_remark count (Begun severity) =
     if nat_lt count MOST_ERRORS then remarks.Nothing else remarks.LeftOut
 type_remark count section = remarks.Unread
 
--- of a field that can't be read; sections that are left out have fields of these names too
+-- about a field that can't be read; sections that no block gets have fields of these names too
 abbrev pub field_remark : OpenSection → Remark
 field_remark (Memory error) = remarks.Unread
 field_remark section = remarks.Nothing
@@ -138,8 +138,8 @@ remark_in count report line = remarks.Nothing
 
 -- ---- the state of a filter
 
--- the boot and the second at which it began; the report in work, its errors that ended; and the sources
--- of the table that was printed last
+-- the boot and the second at which it began; the open report and its errors whose sections ended; and the
+-- sources of the table printed last
 pub record Reporting : Type 0 where
   pub boot : ℕ
   pub began : ℕ
@@ -151,7 +151,7 @@ abbrev pub no_reports : ℕ → ℕ → Reporting
 no_reports boot began =
     record { boot = boot; began = began; work = None; errors = []; sources = [] }
 
--- a report that begins; without a stamp it has no name
+-- a report that begins; without a time stamp it has no name
 abbrev pub begun_work : ℕ → ℕ → Option ℕ → Option OpenReport
 begun_work number source None = None
 begun_work number source (Some stamp) = Some (report_from number source stamp)
@@ -159,7 +159,7 @@ begun_work number source (Some stamp) = Some (report_from number source stamp)
 abbrev pub begun_at : Reporting → ℕ → ℕ → Option ℕ → Reporting
 begun_at r number source stamp = record r { work = begun_work number source stamp; errors = [] }
 
--- after a line that begins none, if one is in work or not
+-- after a line that begins no report, whether one is open or not
 abbrev pub gone_on : Reporting → Option OpenReport → Option ℕ → ReportLine → Reporting
 gone_on r None stamp line = r
 gone_on r (Some report) stamp line = record r {
@@ -167,7 +167,7 @@ gone_on r (Some report) stamp line = record r {
   errors = errors_after r.errors report.section line;
 }
 
--- after a line of the kernel's own
+-- after a line that the kernel itself printed
 abbrev pub own_taken : Reporting → ℕ → Option ℕ → ReportLine → Reporting
 own_taken r number stamp (lines.Start source) = begun_at r number source stamp
 own_taken r number stamp line = gone_on r r.work stamp line
@@ -176,17 +176,17 @@ abbrev pub line_taken : Reporting → ReportLogLine → Reporting
 line_taken r line =
     option_map_or (λ (own : OwnLine). own_taken r own.report line.stamp own.line) line.own r
 
--- what is said of a line that begins a report: without a stamp it can't
+-- about a line that begins a report: without a time stamp it can't
 abbrev pub start_remark : Option ℕ → Remark
 start_remark None = remarks.Unread
 start_remark (Some stamp) = remarks.Nothing
 
--- what is said of another one, if a report is in work or not
+-- about any other line, whether a report is open or not
 abbrev pub going_remark : ℕ → Option OpenReport → ReportLine → Remark
 going_remark count None line = remarks.Unread
 going_remark count (Some report) line = remark_in count report line
 
--- what is said of a line of the kernel's own
+-- about a line that the kernel itself printed
 abbrev pub own_remark : Reporting → Option ℕ → ReportLine → Remark
 own_remark r stamp (lines.Start source) = start_remark stamp
 own_remark r stamp line = going_remark (length r.errors) r.work line
@@ -210,7 +210,7 @@ after_report r None = r
 after_report r (Some report) =
     record r { work = None; errors = []; sources = sources_after r report }
 
--- whether a line ends the report in work, if there is one
+-- whether a line ends the open report, if there is one
 abbrev pub is_end : Reporting → ReportLogLine → Bool
 is_end r line = option_map_or (λ report. is_ended_by report line.stamp line.own) r.work false
 
@@ -222,9 +222,11 @@ reporting_after r line = line_taken (ended_at r line) line
 
 -- ---- what always holds
 
+-- the error of the last section of the open report, if there is one
 abbrev pub work_errors : Option OpenReport → List MemoryError
 work_errors work = option_map_or (λ (report : OpenReport). section_errors report.section) work []
 
+-- A filter stores no more errors and sources than its limits.
 pub record IsReporting (r : Reporting) : Type 0 where
   pub errors : length (r.errors ++ work_errors r.work) ≤ MOST_ERRORS
   pub sources : length r.sources ≤ MOST_SOURCES

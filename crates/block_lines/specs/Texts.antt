@@ -1,5 +1,5 @@
--- The lines that are printed of a report, and of lines that are in none.
-use Rattle.std.specs.Prelude.{ℕ, ◌+◌, ◌/◌, ◌≤◌, Bool, List, [], ◌∷◌, ◌++◌, codes, decimal, length, Option, None, Some, if◌then◌else◌}
+-- The lines printed of a report, and about lines that are in no report.
+use Rattle.std.specs.Prelude.{ℕ, ◌+◌, ◌/◌, List, [], ◌∷◌, ◌++◌, codes, decimal, if◌then◌else◌}
 use Rattle.std.specs.Option.{option_map_or}
 use Rattle.ras_script.specs.LineLaws.{line_text}
 use Rattle.ras_script.specs.declared.line.ErrorReport.TheVariants.{Block}
@@ -7,7 +7,7 @@ use Rattle.ras_script.specs.declared.line.Line.TheVariants as asks
 use Rattle.ras_script.specs.declared.line.Table.TheVariants.{Hest}
 use Rattle.bank_lines.specs.declared.log_line.TheConstants.{MICROSECONDS}
 use Rattle.block_lines.specs.Blocks.{block_bytes}
-use Rattle.block_lines.specs.Reports.{Reporting, section_errors, has_error, is_cut, is_end, line_remark, ended_at}
+use Rattle.block_lines.specs.Reports.{Reporting, section_errors, has_error, ends_early, is_end, line_remark, ended_at}
 use Rattle.block_lines.specs.Sources.{is_listed, kept_sources, table_bytes}
 use Rattle.block_lines.specs.declared.log_line.ReportLogLine.{ReportLogLine}
 use Rattle.block_lines.specs.declared.report.Remark.{Remark}
@@ -20,15 +20,15 @@ use Rattle.block_lines.specs.declared.report.OpenReport.{OpenReport}
 abbrev pub hest_line : List ℕ → List ℕ
 hest_line sources = line_text (asks.Table (Hest (table_bytes sources)))
 
--- The line of a report's block. Its number is the microseconds since the boot of its first line, and its
--- time that of this line.
+-- The line of a report's block. Its number is the time stamp of its first line in microseconds since the
+-- boot, and its time is the time of that line.
 abbrev pub ghes_line : Reporting → OpenReport → List ℕ
 ghes_line r report =
     line_text (asks.Report (Block r.boot (r.began + report.begun / MICROSECONDS) report.source
     report.begun (block_bytes report.severity (r.errors ++ section_errors report.section))))
 
--- the comments: of a report that is cut, of a line that can't be read or is in no report, and of one that
--- tells of a section that is left out
+-- the comments: of a report that is cut, of a line that can't be read or is in no report, and of a section
+-- that no block gets
 abbrev pub cut_report_line : ℕ → ℕ → List ℕ
 cut_report_line source number =
     codes "# partial source=" ++ decimal source ++ codes " number=" ++ decimal number
@@ -41,35 +41,44 @@ left_out_line number = codes "# left out " ++ decimal number
 
 -- ---- texts: a line feed ends each line
 
--- what is said of the line of this number
+-- what is printed about the line with this number
 abbrev pub remark_text : ℕ → Remark → List ℕ
 remark_text number Nothing = []
 remark_text number Unread = unread_report_line number ++ 10 ∷ []
 remark_text number LeftOut = left_out_line number ++ 10 ∷ []
 remark_text number (Partial source begun) = cut_report_line source begun ++ 10 ∷ []
 
--- the table, at the first report of a source that the last one doesn't have
+-- the table, at the first report of a source that the last table doesn't have
 abbrev pub table_text : List ℕ → ℕ → List ℕ
 table_text sources source =
     if is_listed sources source then [] else hest_line (kept_sources sources ++ source ∷ []) ++ 10 ∷ []
 
+-- the text of a report's block, if the report has errors, after its table if one is due
 abbrev pub block_text : Reporting → OpenReport → List ℕ
 block_text r report =
     if has_error r.errors report.section
     then table_text r.sources report.source ++ ghes_line r report ++ 10 ∷ [] else []
 
+-- the comment of a report that is cut
 abbrev pub cut_text : OpenReport → List ℕ
 cut_text report =
-    if is_cut report.section then cut_report_line report.source report.begun ++ 10 ∷ [] else []
+    if ends_early report.section then cut_report_line report.source report.begun ++ 10 ∷ [] else []
 
 -- the text of a report that ends: its block, if it has errors, and whether it is cut
 abbrev pub report_text : Reporting → OpenReport → List ℕ
 report_text r report = block_text r report ++ cut_text report
 
+-- the text of the open report, if there is one
 abbrev pub end_text : Reporting → List ℕ
 end_text r = option_map_or (report_text r) r.work []
 
--- the text of the line of this number: of the report that it ends, and of the line itself
+-- The text after all lines. The log may have less of the open report than the kernel printed, so no block is
+-- made of it.
+abbrev pub rest_text : Reporting → List ℕ
+rest_text r =
+    option_map_or (λ (report : OpenReport). cut_report_line report.source report.begun ++ 10 ∷ []) r.work []
+
+-- the text of the line with this number: of the report that it ends, and about the line itself
 abbrev pub blocks_text_at : Reporting → ℕ → ReportLogLine → List ℕ
 blocks_text_at r number line =
     (if is_end r line then end_text r else []) ++ remark_text number (line_remark (ended_at r line) line)

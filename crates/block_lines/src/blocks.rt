@@ -1,4 +1,4 @@
-//! The bytes of the blocks that are made.
+//! Writes the bytes of the blocks.
 
 ghost use Rattle.std.specs.Prelude.{◌≡◌, ◌≤◌, ◌<◌, ◌++◌, length, unwrap_or, OnOk};
 ghost use Rattle.std.specs.List.{flat_map};
@@ -12,13 +12,13 @@ use crate::report::{MOST_ERRORS, OpenSection};
 use ras_base::NoMemory;
 use ras_base::little_endian::{push_u16, push_u32, push_u64};
 
-// The type of memory sections, as it stands in a block.
+// The type of memory sections, as a block has it.
 const MEMORY_TYPE: [u8; 16] = [
     0x14, 0x11, 0xbc, 0xa5, 0x64, 0x6f, 0xde, 0x4e, 0xb8, 0x63, 0x3e, 0x83, 0xed, 0x7c, 0x83, 0xb1,
 ];
 
-// Adds the block of a report of this severity: its errors that ended, and the one of its last
-// section.
+// Appends the block of a report with this severity: the errors whose sections ended, and the error
+// of the last section.
 pub(crate) fn push_block(
     bytes: &mut Vec<u8>,
     severity: u32,
@@ -35,7 +35,7 @@ pub(crate) fn push_block(
     }
 }
 
-// Adds the block of a report of this severity with these errors and others after them.
+// Appends the block of a report with this severity, of these errors and others after them.
 #[tactic(auto, unfolding(crate::specs::Blocks::block_bytes))]
 fn push_both(
     bytes: &mut Vec<u8>,
@@ -52,7 +52,7 @@ fn push_both(
     push_entries(bytes, others)
 }
 
-// Adds what stands before the entries of a block.
+// Appends what is before the entries of a block.
 #[tactic(auto, unfolding(crate::specs::Blocks::block_front))]
 fn push_front(bytes: &mut Vec<u8>, severity: u32, count: usize) -> Result<(), NoMemory>
     requires { count ≤ MOST_ERRORS }
@@ -65,7 +65,7 @@ fn push_front(bytes: &mut Vec<u8>, severity: u32, count: usize) -> Result<(), No
     push_u32(bytes, severity)
 }
 
-// Adds entries in order.
+// Appends entries in order.
 fn push_entries(bytes: &mut Vec<u8>, errors: &[MemoryError]) -> Result<(), NoMemory>
     ensures { OnOk result (bytes.new.items
         ≡ bytes.old.items ++ flat_map error_entry_bytes errors.now) }
@@ -76,7 +76,7 @@ fn push_entries(bytes: &mut Vec<u8>, errors: &[MemoryError]) -> Result<(), NoMem
     Ok(())
 }
 
-// Adds the entry of an error.
+// Appends the entry of an error.
 #[tactic(auto, unfolding(crate::specs::Blocks::error_entry_bytes))]
 fn push_entry(bytes: &mut Vec<u8>, error: &MemoryError) -> Result<(), NoMemory>
     ensures { OnOk result (bytes.new.items ≡ bytes.old.items ++ error_entry_bytes error.now) }
@@ -85,7 +85,7 @@ fn push_entry(bytes: &mut Vec<u8>, error: &MemoryError) -> Result<(), NoMemory>
     push_section(bytes, error)
 }
 
-// Adds the header of an entry.
+// Appends the header of an entry.
 #[tactic(auto, unfolding(crate::specs::Blocks::entry_header_bytes))]
 fn push_header(bytes: &mut Vec<u8>, severity: u32) -> Result<(), NoMemory>
     ensures { OnOk result (bytes.new.items ≡ bytes.old.items ++ entry_header_bytes severity) }
@@ -97,7 +97,7 @@ fn push_header(bytes: &mut Vec<u8>, severity: u32) -> Result<(), NoMemory>
     Ok(())
 }
 
-// Adds the memory section of an error.
+// Appends the memory section of an error.
 #[tactic(auto, unfolding(crate::specs::Blocks::memory_section_bytes))]
 fn push_section(bytes: &mut Vec<u8>, error: &MemoryError) -> Result<(), NoMemory>
     ensures { OnOk result (bytes.new.items
@@ -108,7 +108,7 @@ fn push_section(bytes: &mut Vec<u8>, error: &MemoryError) -> Result<(), NoMemory
     push_kind(bytes, error.kind)
 }
 
-// Adds what a memory section has up to its place.
+// Appends a memory section's bytes up to its location.
 #[tactic(auto, unfolding(crate::specs::Blocks::address_bytes))]
 fn push_address(bytes: &mut Vec<u8>, error: &MemoryError) -> Result<(), NoMemory>
     ensures { OnOk result (bytes.new.items ≡ bytes.old.items ++ address_bytes error.now) }
@@ -119,7 +119,7 @@ fn push_address(bytes: &mut Vec<u8>, error: &MemoryError) -> Result<(), NoMemory
     push_u64(bytes, error.mask.unwrap_or(0))
 }
 
-// Adds the place of an error.
+// Appends the location of an error.
 #[tactic(auto, unfolding(crate::specs::Blocks::location_bytes))]
 fn push_location(bytes: &mut Vec<u8>, at: &ErrorLocation) -> Result<(), NoMemory>
     ensures { OnOk result (bytes.new.items ≡ bytes.old.items ++ location_bytes at.now) }
@@ -129,7 +129,7 @@ fn push_location(bytes: &mut Vec<u8>, at: &ErrorLocation) -> Result<(), NoMemory
     push_u16(bytes, at.module.unwrap_or(0))
 }
 
-// Adds the type of an error, and what stands before and behind it.
+// Appends the type of an error, and the bytes before and after it.
 #[tactic(auto, unfolding(crate::specs::Blocks::kind_bytes))]
 fn push_kind(bytes: &mut Vec<u8>, kind: Option<u8>) -> Result<(), NoMemory>
     ensures { OnOk result (bytes.new.items ≡ bytes.old.items ++ kind_bytes kind) }
@@ -140,7 +140,7 @@ fn push_kind(bytes: &mut Vec<u8>, kind: Option<u8>) -> Result<(), NoMemory>
     Ok(())
 }
 
-// Which fields of a memory section are valid.
+// Returns which fields of a memory section are valid.
 fn validation_of(error: &MemoryError) -> u64
     ensures { result ≡ validation_of error.now }
 {
@@ -150,7 +150,7 @@ fn validation_of(error: &MemoryError) -> u64
         + flag(error.kind.is_some(), 16384)
 }
 
-// Which numbers of a place are valid.
+// Returns which numbers of a location are valid.
 fn location_flags(at: &ErrorLocation) -> u64
     ensures value { result ≡ location_flags at.now }
     ensures within { result ≤ 56 }
@@ -158,7 +158,7 @@ fn location_flags(at: &ErrorLocation) -> u64
     flag(at.node.is_some(), 8) + flag(at.card.is_some(), 16) + flag(at.module.is_some(), 32)
 }
 
-// The value of a validation bit, if it is set.
+// Returns the value of a validation bit if it is set, otherwise 0.
 fn flag(present: bool, value: u64) -> u64
     ensures value { result ≡ flag present value }
     ensures within { result ≤ value }

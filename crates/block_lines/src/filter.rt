@@ -12,14 +12,15 @@ use ras_script::LineRefused;
 use std::alloc::Global;
 use std::marker::Model;
 
-/// Makes of the lines of a kernel log lines of script: a line `ghes` of each report of the firmware
-/// with errors of memory, and a line `hest` before the first report of a source.
+/// Converts the lines of a kernel log to lines of script: a line `ghes` for each firmware report
+/// with memory errors, and a line `hest` before a source's first report.
 ///
-/// A report is told at the line that ends it: one of another report, or one of something else that
-/// the kernel printed more than a tenth of a second later; or after all lines. Sections about
-/// something else than memory, a thirteenth error of a report, a report that is cut, and each line
-/// that begins as one of a report and is in none, are told by comments. Only lines that are the
-/// kernel's own count. No line is refused.
+/// A report is printed at the line that ends it: a line of another report, or any other line that
+/// the kernel printed more than a tenth of a second later. If no line ends a report, the log may
+/// lack some of its lines, so the report becomes a comment after all lines instead of a block.
+/// Comments are also printed for sections about anything but memory, for every error of a report
+/// after its twelfth, for a report that is cut, and for each line that begins like a report's and
+/// is in no report. Only lines that the kernel itself printed count. No line is refused.
 #[derive(Drop)]
 pub struct BlockFilter {
     reports: Reports,
@@ -35,7 +36,8 @@ impl Model for BlockFilter {
 }
 
 impl BlockFilter {
-    /// Before the first line of the log of a boot that began at this second since 1970.
+    /// Returns the filter before the first line of a log. `boot` is the boot's number, and `began`
+    /// the second since 1970 at which the boot began. Requires `began` to be at most `LAST_SECOND`.
     pub fn new(alloc: Global, boot: u64, began: u64) -> BlockFilter
         requires { began ≤ LAST_SECOND }
         ensures makes { blocks_make result ≡ block_filter boot began }
@@ -68,8 +70,8 @@ impl LineFilter for BlockFilter {
         }
     }
 
-    fn push_rest(&self, alloc: Global, text: &mut Vec<u8>) -> Result<(), NoMemory> {
-        self.reports.push_end(alloc, text)
+    fn push_rest(&self, _: Global, text: &mut Vec<u8>) -> Result<(), NoMemory> {
+        self.reports.push_rest(text)
     }
 
     fn push_last(&self, _: Global, _: &mut Vec<u8>) -> Result<(), NoMemory> {

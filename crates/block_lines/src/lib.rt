@@ -1,9 +1,14 @@
-//! Lines of script of the errors that the firmware reported, as a kernel log tells them: the lines
-//! of a report, the generic error status block that is made of them, and the table of its source.
+//! Converts the errors that the firmware reported, as a kernel log has them, to lines of script:
+//! reads the lines of a report, and makes the report's generic error status block and the table of
+//! its source.
+//!
+//! A public function with an empty body is a law: its clauses are the point.
 #![tactic(auto)]
 
 mod blocks;
 mod filter;
+mod kernel_laws;
+mod laws;
 mod log_line;
 mod memory;
 mod report;
@@ -13,3 +18,5 @@ mod sources;
 mod text;
 
 pub use filter::BlockFilter;
+pub use kernel_laws::{printed_reports_are_read, printed_texts_are_read};
+pub use laws::{made_blocks_are_read_back, made_lines_are_read_back};

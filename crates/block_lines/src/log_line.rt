@@ -1,4 +1,4 @@
-//! The lines of a kernel log that are of a firmware's report.
+//! Reads the lines of a kernel log that belong to a firmware's report.
 
 ghost use Rattle.std.specs.Prelude.{◌≡◌};
 ghost use Rattle.std.specs.Option.{option_map};
@@ -10,23 +10,23 @@ use crate::report_line::{ReportLine, report_line};
 use bank_lines::{cut, is_own, log_stamp_of};
 use ras_script::decimal;
 
-/// What a line of a kernel log tells.
+/// What is read of a line of a kernel log.
 #[derive(Clone, Copy, Debug, PartialEq, Eq)]
 pub(crate) struct ReportLogLine {
-    // When it was printed, in microseconds since the boot.
+    // When the line was printed, in microseconds since the boot, if the line says so.
     pub(crate) stamp: Option<u64>,
-    // What it says, if it is the kernel's own and of a firmware's report.
+    // The report's line, if the kernel itself printed it and it belongs to a firmware's report.
     pub(crate) own: Option<OwnLine>,
 }
 
-/// A line of a firmware's report: the report's number, and what is said.
+/// A line of a firmware's report: the report's number, and what the line says.
 #[derive(Clone, Copy, Debug, PartialEq, Eq)]
 pub(crate) struct OwnLine {
     pub(crate) report: u64,
     pub(crate) line: ReportLine,
 }
 
-// What a line of a kernel log tells. It takes no memory.
+// Returns what a line of a kernel log says. Allocates nothing.
 pub(crate) fn log_line(line: &[u8]) -> ReportLogLine
     ensures { result ≡ report_log_line line.now }
 {
@@ -37,7 +37,7 @@ pub(crate) fn log_line(line: &[u8]) -> ReportLogLine
     }
 }
 
-// A line without the carriage return at its end.
+// Returns a line without the carriage return at its end.
 fn without_return(line: &[u8]) -> &[u8]
     ensures { result.now ≡ without_return line.now }
 {
@@ -47,7 +47,7 @@ fn without_return(line: &[u8]) -> &[u8]
     }
 }
 
-// A line of a report, by its first brace.
+// Returns a report's line, which is split at its first brace.
 fn own_line(line: &[u8]) -> Option<OwnLine>
     ensures { result ≡ own_line_of line.now }
 {
@@ -55,7 +55,7 @@ fn own_line(line: &[u8]) -> Option<OwnLine>
     own_after(head, rest)
 }
 
-// A line of a report, by its head and what follows the brace after that.
+// Returns a report's line from its head and what follows the brace after the head.
 fn own_after(head: &[u8], text: &[u8]) -> Option<OwnLine>
     ensures { result ≡ own_after head.now text.now }
 {
@@ -71,7 +71,7 @@ fn own_after(head: &[u8], text: &[u8]) -> Option<OwnLine>
     })
 }
 
-// What follows the mark that a text begins with.
+// Returns what follows the prefix of a text, if the text begins with it.
 fn after_mark(text: &[u8]) -> Option<&[u8]>
     ensures { option_map (λ words. words.now) result ≡ value_after error_mark text.now }
 {

@@ -1,9 +1,9 @@
-//! What the kernel prints of an error of memory.
+//! What the kernel prints of a memory error.
 
 ghost use Rattle.std.specs.Prelude.{◌≡◌};
 ghost use Rattle.block_lines.specs.Reports.{blank_error, error_with};
 
-/// Where the error is, as the firmware counts: each number if it is known.
+/// Where an error is, in the firmware's numbers, each of which may be unknown.
 #[derive(Clone, Copy, Debug, PartialEq, Eq)]
 pub(crate) struct ErrorLocation {
     pub(crate) node: Option<u16>,
@@ -11,8 +11,8 @@ pub(crate) struct ErrorLocation {
     pub(crate) module: Option<u16>,
 }
 
-/// An error of memory: its severity, its address and which bits of it count, its place and its
-/// type.
+/// A memory error: its severity, its address and which bits of the address are valid, its location
+/// and its type.
 #[derive(Clone, Copy, Debug, PartialEq, Eq)]
 pub(crate) struct MemoryError {
     pub(crate) severity: u32,
@@ -22,7 +22,7 @@ pub(crate) struct MemoryError {
     pub(crate) kind: Option<u8>,
 }
 
-/// What a line of a memory section tells.
+/// What a line of a memory section says.
 #[derive(Clone, Copy, Debug, PartialEq, Eq)]
 pub(crate) enum MemoryField {
     Physical(u64),
@@ -32,7 +32,7 @@ pub(crate) enum MemoryField {
 }
 
 impl MemoryError {
-    // An error of which nothing but its severity is told.
+    // Returns an error of which only the severity is known.
     pub(crate) fn blank(severity: u32) -> MemoryError
         ensures { result ≡ blank_error severity }
     {
@@ -49,7 +49,7 @@ impl MemoryError {
         }
     }
 
-    // The error with what a line tells of it.
+    // Returns the error with what a line says of it.
     pub(crate) fn with(self, field: MemoryField) -> MemoryError
         ensures { result ≡ error_with self field }
     {

@@ -1,7 +1,7 @@
 //! A report while its lines are read.
 
 ghost use Rattle.std.specs.Prelude.{◌≡◌};
-ghost use Rattle.block_lines.specs.Reports.{begun_remark, field_remark, is_cut, is_ended_by};
+ghost use Rattle.block_lines.specs.Reports.{begun_remark, field_remark, ends_early, is_ended_by};
 ghost use Rattle.block_lines.specs.Reports.{is_late, is_start, remark_in, report_after, report_from};
 ghost use Rattle.block_lines.specs.Reports.{section_after, section_with, severity_after};
 ghost use Rattle.block_lines.specs.Reports.{type_remark, typed_section};
@@ -10,28 +10,28 @@ use crate::log_line::{OwnLine, ReportLogLine};
 use crate::memory::{MemoryError, MemoryField};
 use crate::report_line::ReportLine;
 
-/// The most errors of a report that are kept, so that its line is no longer than what a pipe keeps
-/// whole.
+/// The most errors of a report that are stored, so that its line isn't longer than what a pipe
+/// writes as a whole.
 pub const MOST_ERRORS: usize = 12;
 
-/// The most microseconds by which a line of something else may follow one of a report in work.
+/// The most microseconds by which any other line may follow a line of the open report.
 pub const LONGEST_PAUSE: u64 = 100_000;
 
-/// How far the section in work has come.
+/// How far the current section has been read.
 #[derive(Clone, Copy, Debug, PartialEq, Eq)]
 pub(crate) enum OpenSection {
-    // None began.
+    // No section began.
     Absent,
-    // An error of this severity, and not yet what it is about.
+    // An error of this severity, whose section's type isn't known yet.
     Begun { severity: u32 },
     // A section about memory.
     Memory(MemoryError),
-    // A section of which no block is made.
+    // A section that no block gets.
     LeftOut,
 }
 
-/// A report in work: its number, its source, the stamps of its first line and of its last so far,
-/// its severity, and its last section.
+/// A report that is being read: its number, its source, the time stamps of its first and its latest
+/// line, its severity, and its last section.
 #[derive(Clone, Copy, Debug, PartialEq, Eq)]
 pub(crate) struct OpenReport {
     pub(crate) number: u64,
@@ -42,21 +42,21 @@ pub(crate) struct OpenReport {
     pub(crate) section: OpenSection,
 }
 
-/// What is said of a line.
+/// What is printed about a line.
 #[derive(Clone, Copy, Debug, PartialEq, Eq)]
 pub(crate) enum Remark {
     // Nothing.
     Nothing,
-    // It can't be read, or is in no report.
+    // The line can't be read, or is in no report.
     Unread,
-    // It tells of a section of which no block is made.
+    // The line belongs to a section that no block gets.
     LeftOut,
-    // The report of this source and this number is cut.
+    // The report with this source and this time stamp is cut.
     Partial { source: u16, begun: u64 },
 }
 
 impl OpenReport {
-    // A report that begins.
+    // Returns a report that begins.
     pub(crate) fn new(number: u64, source: u16, stamp: u64) -> OpenReport
         ensures { result ≡ report_from number source stamp }
     {
@@ -70,7 +70,8 @@ impl OpenReport {
         }
     }
 
-    // The report after a line of it with this stamp, if so many of its errors ended.
+    // Returns the report after one of its lines, with this time stamp, if `count` of its errors
+    // ended before.
     pub(crate) fn after(self, count: usize, stamp: Option<u64>, line: ReportLine) -> OpenReport
         ensures { result ≡ report_after count self stamp line }
     {
@@ -82,7 +83,7 @@ impl OpenReport {
         }
     }
 
-    // Whether a line ends it, with this stamp and of a report or not.
+    // Returns whether a line with this time stamp, of a report or not, ends the report.
     pub(crate) fn is_ended_by(&self, stamp: Option<u64>, own: Option<OwnLine>) -> bool
         ensures { result ≡ is_ended_by self.now stamp own }
     {
@@ -92,7 +93,7 @@ impl OpenReport {
         }
     }
 
-    // Whether a line of something else comes too late to be among its own.
+    // Returns whether another line comes too late to be among the report's lines.
     fn is_late(&self, stamp: Option<u64>) -> bool
         ensures { result ≡ is_late self.now stamp }
     {
@@ -102,7 +103,7 @@ impl OpenReport {
         }
     }
 
-    // What is said of a line of it, if so many of its errors ended.
+    // Returns what is printed about a line of the report, if `count` of its errors ended before.
     pub(crate) fn remark(&self, count: usize, line: ReportLine) -> Remark
         ensures { result ≡ remark_in count self.now line }
     {
@@ -117,7 +118,7 @@ impl OpenReport {
     }
 }
 
-// What is said of a line that begins a section after this one.
+// Returns what is printed about a line that begins a section after this one.
 fn begun_remark(source: u16, begun: u64, section: OpenSection) -> Remark
     ensures { result ≡ begun_remark source begun section }
 {
@@ -127,7 +128,7 @@ fn begun_remark(source: u16, begun: u64, section: OpenSection) -> Remark
     }
 }
 
-// The severity of a report after a line of it.
+// Returns the severity of a report after one of its lines.
 fn severity_after(severity: u32, line: ReportLine) -> u32
     ensures { result ≡ severity_after severity line }
 {
@@ -137,7 +138,7 @@ fn severity_after(severity: u32, line: ReportLine) -> u32
     }
 }
 
-// Whether a line begins a report.
+// Returns whether a line begins a report.
 fn is_start(line: ReportLine) -> bool
     ensures { result ≡ is_start line }
 {
@@ -145,7 +146,8 @@ fn is_start(line: ReportLine) -> bool
 }
 
 impl OpenSection {
-    // The section after a line of its report, if so many of the report's errors ended.
+    // Returns the section after a line of its report, if `count` of the report's errors ended
+    // before.
     fn after(self, count: usize, line: ReportLine) -> OpenSection
         ensures { result ≡ section_after count self line }
     {
@@ -158,7 +160,7 @@ impl OpenSection {
         }
     }
 
-    // The section once it is known to be about memory.
+    // Returns the section once it is known to be about memory.
     fn typed(self, count: usize) -> OpenSection
         ensures { result ≡ typed_section count self }
     {
@@ -171,7 +173,7 @@ impl OpenSection {
         }
     }
 
-    // The section with a field.
+    // Returns the section with a field.
     fn with(self, field: MemoryField) -> OpenSection
         ensures { result ≡ section_with self field }
     {
@@ -181,14 +183,14 @@ impl OpenSection {
         }
     }
 
-    // Whether it ends before its type is told, or none began.
-    pub(crate) fn is_cut(&self) -> bool
-        ensures { result ≡ is_cut self.now }
+    // Returns whether the section ends before its type is known, or no section began.
+    pub(crate) fn ends_early(&self) -> bool
+        ensures { result ≡ ends_early self.now }
     {
         matches!(*self, OpenSection::Absent | OpenSection::Begun { .. })
     }
 
-    // What is said of a line that tells that the section is about memory.
+    // Returns what is printed about a line that says that the section is about memory.
     fn type_remark(&self, count: usize) -> Remark
         ensures { result ≡ type_remark count self.now }
     {
@@ -199,7 +201,7 @@ impl OpenSection {
         }
     }
 
-    // What is said of a field that can't be read.
+    // Returns what is printed about a field that can't be read.
     fn field_remark(&self) -> Remark
         ensures { result ≡ field_remark self.now }
     {

@@ -1,4 +1,4 @@
-//! What the lines of a firmware's report say, behind the mark.
+//! Reads the text after the prefix of a firmware report's line.
 
 ghost use Rattle.std.specs.Prelude.{◌≡◌};
 ghost use Rattle.std.specs.Option.{option_map};
@@ -15,7 +15,7 @@ use ras_script::{decimal, hexadecimal};
 /// What a line of a firmware's report says.
 #[derive(Clone, Copy, Debug, PartialEq, Eq)]
 pub(crate) enum ReportLine {
-    // It begins a report of a source.
+    // A report of this source begins.
     Start { source: u16 },
     // The severity of all errors of the report.
     Event { severity: u32 },
@@ -25,15 +25,15 @@ pub(crate) enum ReportLine {
     MemoryType,
     // The section is about something else.
     OtherType,
-    // What a memory section tells, if it can be read. Other sections have fields of these names too.
+    // What a memory section says, if it can be read. Other sections have fields of these names too.
     Field(Option<MemoryField>),
-    // It begins as one of these lines, and can't be read as one.
+    // The line begins like one of these lines, but can't be read as one.
     Unread,
-    // Something that no block is made of.
+    // Anything else, which no block gets.
     Other,
 }
 
-// What a text behind the mark says.
+// Returns what the text after the prefix says.
 pub(crate) fn report_line(text: &[u8]) -> ReportLine
     ensures { result ≡ report_line_of text.now }
 {
@@ -55,14 +55,14 @@ pub(crate) fn report_line(text: &[u8]) -> ReportLine
     }
 }
 
-// What follows a name that a text begins with.
+// Returns what follows a name, if a text begins with it.
 fn value_after<'a>(name: &[u8], text: &'a [u8]) -> Option<&'a [u8]>
     ensures { option_map (λ value. value.now) result ≡ value_after name.now text.now }
 {
     text.strip_prefix(name)
 }
 
-// The number of a severity that the kernel names.
+// Returns the number of a severity by the kernel's word for it.
 fn severity_of(word: &[u8]) -> u32
     ensures { result ≡ severity_of word.now }
 {
@@ -77,7 +77,7 @@ fn severity_of(word: &[u8]) -> u32
     }
 }
 
-// The first line of a report, by the number of its source.
+// Reads the first line of a report, which has the number of its source.
 fn start_line(value: &[u8]) -> ReportLine
     ensures { result ≡ start_line value.now }
 {
@@ -89,7 +89,7 @@ fn start_line(value: &[u8]) -> ReportLine
     }
 }
 
-// The first line of a section, by its number and its severity.
+// Reads the first line of a section, which has its number and its severity.
 fn error_line(value: &[u8]) -> ReportLine
     ensures { result ≡ error_line value.now }
 {
@@ -99,7 +99,7 @@ fn error_line(value: &[u8]) -> ReportLine
     }
 }
 
-// The severity of `<number>, type: <severity>`.
+// Returns the severity in `<number>, type: <severity>`.
 fn error_severity(value: &[u8]) -> Option<u32>
     ensures { result ≡ error_severity value.now }
 {
@@ -109,7 +109,7 @@ fn error_severity(value: &[u8]) -> Option<u32>
     Some(severity_of(word))
 }
 
-// A line of a section, behind its two spaces.
+// Reads a line of a section, after its two spaces.
 fn section_said(text: &[u8]) -> ReportLine
     ensures { result ≡ section_said text.now }
 {
@@ -131,7 +131,7 @@ fn section_said(text: &[u8]) -> ReportLine
     location_line(text)
 }
 
-// What a section is about.
+// Reads what a section is about.
 fn type_line(value: &[u8]) -> ReportLine
     ensures { result ≡ type_line value.now }
 {
@@ -142,7 +142,7 @@ fn type_line(value: &[u8]) -> ReportLine
     }
 }
 
-// The physical address.
+// Reads the physical address.
 fn physical_line(value: &[u8]) -> ReportLine
     ensures { result ≡ physical_line value.now }
 {
@@ -152,7 +152,7 @@ fn physical_line(value: &[u8]) -> ReportLine
     }
 }
 
-// The mask of the physical address.
+// Reads the mask of the physical address.
 fn mask_line(value: &[u8]) -> ReportLine
     ensures { result ≡ mask_line value.now }
 {
@@ -162,7 +162,7 @@ fn mask_line(value: &[u8]) -> ReportLine
     }
 }
 
-// The type of error, `<number>, <words>`.
+// Reads the type of error, `<number>, <words>`.
 fn kind_line(value: &[u8]) -> ReportLine
     ensures { result ≡ kind_line value.now }
 {
@@ -173,7 +173,7 @@ fn kind_line(value: &[u8]) -> ReportLine
     }
 }
 
-// The place of an error, if a line tells it.
+// Reads the location of an error, if the line has one.
 fn location_line(text: &[u8]) -> ReportLine
     ensures { result ≡ location_line text.now }
 {
@@ -184,7 +184,7 @@ fn location_line(text: &[u8]) -> ReportLine
     }
 }
 
-// The place of an error: the numbers stand in this order, each if it is known.
+// Returns the location of an error. Its numbers come in this order, and each may be missing.
 fn location_of(text: &[u8]) -> ErrorLocation
     ensures { result ≡ location_of text.now }
 {
@@ -197,7 +197,7 @@ fn location_of(text: &[u8]) -> ErrorLocation
     }
 }
 
-// The number behind a name that a text begins with.
+// Returns the number after a name, if a text begins with that name.
 fn number_named(name: &[u8], text: &[u8]) -> Option<u16>
     ensures { result ≡ number_named name.now text.now }
 {
@@ -206,7 +206,8 @@ fn number_named(name: &[u8], text: &[u8]) -> Option<u16>
     Some(decimal(number, u64::from(u16::MAX))? as u16)
 }
 
-// What follows the number behind a name, or all of a text that doesn't begin with it.
+// Returns what follows the number after a name, or the whole text if it doesn't begin with the
+// name.
 fn after_named<'a>(name: &[u8], text: &'a [u8]) -> &'a [u8]
     ensures { result.now ≡ after_named name.now text.now }
 {

@@ -1,4 +1,4 @@
-//! The report in work, its errors, and the sources that were seen.
+//! The open report, its errors, and the sources seen so far.
 
 ghost use Rattle.std.specs.Prelude.{◌≡◌, ◌≤◌, [], ◌∷◌, ◌++◌, length, Some, OnErr, OnOk};
 ghost use Rattle.bank_lines.specs.declared.log_line.TheConstants.{LAST_SECOND};
@@ -6,7 +6,8 @@ ghost use Rattle.block_lines.specs.Reports.{after_report, begun_at, begun_work, 
 ghost use Rattle.block_lines.specs.Reports.{going_remark, gone_on, has_error, is_end, line_remark};
 ghost use Rattle.block_lines.specs.Reports.{line_taken, no_reports, own_remark, own_taken};
 ghost use Rattle.block_lines.specs.Reports.{reporting_after, start_remark};
-ghost use Rattle.block_lines.specs.Texts.{end_text, ghes_line, report_text, table_text, blocks_text_at};
+ghost use Rattle.block_lines.specs.Texts.{blocks_text_at, cut_report_line, end_text, ghes_line};
+ghost use Rattle.block_lines.specs.Texts.{report_text, rest_text, table_text};
 
 use crate::blocks::push_block;
 use crate::log_line::ReportLogLine;
@@ -20,8 +21,8 @@ use ras_base::NoMemory;
 use std::alloc::Global;
 use std::marker::Model;
 
-// The reports of the log of a boot: the one in work, its errors whose sections ended, and the
-// sources of the table that was printed last. It keeps 12 errors and 28 sources at most.
+// The reports in the log of a boot: the open report, its errors whose sections ended, and the
+// sources of the table printed last. It stores at most 12 errors and 28 sources.
 #[derive(Drop)]
 pub(crate) struct Reports {
     boot: u64,
@@ -54,7 +55,7 @@ impl Model for Reports {
 }
 
 impl Reports {
-    // Before the first line of the log of a boot that began at this second.
+    // Returns the state before the first line of the log of a boot that began at this second.
     pub(crate) fn new(alloc: Global, boot: u64, began: u64) -> Reports
         requires { began ≤ LAST_SECOND }
         ensures { result ≡ no_reports boot began }
@@ -68,7 +69,8 @@ impl Reports {
         }
     }
 
-    // Takes a line, and adds the text of the report that it ends and what is said of the line.
+    // Takes a line, and appends the text of the report that it ends and what is printed about the
+    // line.
     pub(crate) fn take_line(
         &mut self,
         alloc: Global,
@@ -89,7 +91,7 @@ impl Reports {
         push_remark(text, remark, number)
     }
 
-    // Whether a line ends the report in work.
+    // Returns whether a line ends the open report.
     fn is_end(&self, line: &ReportLogLine) -> bool
         ensures { result ≡ is_end self.now line.now }
     {
@@ -99,7 +101,7 @@ impl Reports {
         }
     }
 
-    // What is said of a line that ends no report.
+    // Returns what is printed about a line that ends no report.
     fn remark(&self, line: &ReportLogLine) -> Remark
         ensures { result ≡ line_remark self.now line.now }
     {
@@ -109,7 +111,7 @@ impl Reports {
         }
     }
 
-    // What is said of a line of the kernel's own.
+    // Returns what is printed about a line that the kernel itself printed.
     fn own_remark(&self, stamp: Option<u64>, line: ReportLine) -> Remark
         ensures { result ≡ own_remark self.now stamp line }
     {
@@ -119,7 +121,7 @@ impl Reports {
         }
     }
 
-    // What is said of a line that begins no report.
+    // Returns what is printed about a line that begins no report.
     fn going_remark(&self, line: ReportLine) -> Remark
         ensures { result ≡ going_remark (length self.now.errors) self.now.work line }
     {
@@ -139,7 +141,7 @@ impl Reports {
         }
     }
 
-    // Takes a line of the kernel's own.
+    // Takes a line that the kernel itself printed.
     fn take_own(
         &mut self,
         number: u64,
@@ -157,7 +159,7 @@ impl Reports {
         }
     }
 
-    // Begins a report, if it has a stamp.
+    // Begins a report, if its line has a time stamp.
     fn begin(&mut self, number: u64, source: u16, stamp: Option<u64>)
         ensures { self.new ≡ begun_at self.old number source stamp }
     {
@@ -178,7 +180,7 @@ impl Reports {
         Ok(())
     }
 
-    // Ends the report in work.
+    // Ends the open report.
     fn end(&mut self) -> Result<(), NoMemory>
         ensures { OnOk result (self.new ≡ after_report self.old self.old.work) }
     {
@@ -193,8 +195,18 @@ impl Reports {
         Ok(())
     }
 
-    // Adds the text of the report in work, as if it ended here.
-    pub(crate) fn push_end(&self, alloc: Global, text: &mut Vec<u8>) -> Result<(), NoMemory>
+    // Appends the comment that the open report, if there is one, may lack lines.
+    pub(crate) fn push_rest(&self, text: &mut Vec<u8>) -> Result<(), NoMemory>
+        ensures { OnOk result (text.new.items ≡ text.old.items ++ rest_text self.now) }
+    {
+        match self.work {
+            Some(report) => push_cut(text, report),
+            None => Ok(()),
+        }
+    }
+
+    // Appends the text of the open report, which ends.
+    fn push_end(&self, alloc: Global, text: &mut Vec<u8>) -> Result<(), NoMemory>
         ensures { OnOk result (text.new.items ≡ text.old.items ++ end_text self.now) }
     {
         match self.work {
@@ -203,14 +215,14 @@ impl Reports {
         }
     }
 
-    // Whether the report in work has an error.
+    // Returns whether the open report has an error.
     fn has_error(&self, report: &OpenReport) -> bool
         ensures { result ≡ has_error self.now.errors report.now.section }
     {
         matches!(report.section, OpenSection::Memory(_)) || !self.errors.is_empty()
     }
 
-    // Adds the text of the report in work.
+    // Appends the text of the open report.
     fn push_report(
         &self,
         alloc: Global,
@@ -224,14 +236,13 @@ impl Reports {
             self.push_source(alloc, report.source, text)?;
             self.push_block(alloc, report, text)?;
         }
-        if report.section.is_cut() {
-            push_partial(text, report.source, report.begun)?;
-            text.push(b'\n')?;
+        if report.section.ends_early() {
+            push_cut(text, *report)?;
         }
         Ok(())
     }
 
-    // Adds the line of a table, if the last one hasn't this source.
+    // Appends the line of a table, if the last table doesn't have this source.
     fn push_source(&self, alloc: Global, source: u16, text: &mut Vec<u8>) -> Result<(), NoMemory>
         ensures { OnOk result (text.new.items
             ≡ text.old.items ++ table_text self.now.sources source) }
@@ -248,7 +259,7 @@ impl Reports {
         push_table(alloc, text, &table)
     }
 
-    // Adds the line of the block of the report in work.
+    // Appends the line of the open report's block.
     fn push_block(
         &self,
         alloc: Global,
@@ -271,7 +282,17 @@ impl Reports {
     }
 }
 
-// What is said of a line that begins a report.
+// Appends the comment of a report that is cut, and a line feed.
+fn push_cut(text: &mut Vec<u8>, report: OpenReport) -> Result<(), NoMemory>
+    ensures { OnOk result (text.new.items
+        ≡ text.old.items ++ cut_report_line report.source report.begun ++ 10 ∷ []) }
+{
+    push_partial(text, report.source, report.begun)?;
+    text.push(b'\n')?;
+    Ok(())
+}
+
+// Returns what is printed about a line that begins a report.
 fn start_remark(stamp: Option<u64>) -> Remark
     ensures { result ≡ start_remark stamp }
 {
@@ -281,7 +302,7 @@ fn start_remark(stamp: Option<u64>) -> Remark
     }
 }
 
-// A report that begins, if it has a stamp.
+// Returns a report that begins, if its line has a time stamp.
 fn begun_work(number: u64, source: u16, stamp: Option<u64>) -> Option<OpenReport>
     ensures { result ≡ begun_work number source stamp }
 {
@@ -291,7 +312,7 @@ fn begun_work(number: u64, source: u16, stamp: Option<u64>) -> Option<OpenReport
     }
 }
 
-// Adds the error of a section, if a line ends it.
+// Appends the error of a section, if a line ends the section.
 fn push_ended(
     errors: &mut Vec<MemoryError>,
     section: OpenSection,

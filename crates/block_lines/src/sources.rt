@@ -1,4 +1,4 @@
-//! The table of the sources that were seen.
+//! The table of the sources seen so far.
 
 ghost use Rattle.std.specs.Prelude.{◌≡◌, ◌<◌, ◌≤◌, ◌%◌, [], ◌∷◌, ◌++◌, length, sum, IfOk, OnOk};
 ghost use Rattle.std.specs.List.{flat_map};
@@ -9,10 +9,10 @@ use ras_base::NoMemory;
 use ras_base::little_endian::{push_u16, push_u32};
 use std::alloc::Global;
 
-/// The most sources of a table, so that its line is no longer than what a pipe keeps whole.
+/// The most sources of a table, so that its line isn't longer than what a pipe keeps in one piece.
 pub const MOST_SOURCES: usize = 28;
 
-// Keeps a source that was seen, if it isn't known; a full table begins anew.
+// Stores a source, unless it is known. If the table is full, a new table begins.
 pub(crate) fn keep_source(sources: &mut Vec<u16>, source: u16) -> Result<(), NoMemory>
     requires { length sources.old.items ≤ MOST_SOURCES }
     ensures ok { OnOk result (sources.new.items ≡ sources_with sources.old.items source) }
@@ -28,7 +28,7 @@ pub(crate) fn keep_source(sources: &mut Vec<u16>, source: u16) -> Result<(), NoM
     Ok(())
 }
 
-// The table of these sources and one after them.
+// Returns the table of these sources and one more.
 #[tactic(auto, unfolding(crate::specs::Sources::table_bytes))]
 pub(crate) fn table_with(alloc: Global, kept: &[u16], source: u16) -> Result<Vec<u8>, NoMemory>
     requires { length kept.now < MOST_SOURCES }
@@ -44,7 +44,7 @@ pub(crate) fn table_with(alloc: Global, kept: &[u16], source: u16) -> Result<Vec
     Ok(table)
 }
 
-// Adds what stands before the checksum of a table of so many sources.
+// Appends what is before the checksum of a table with this number of sources.
 #[tactic(auto, unfolding(crate::specs::Sources::table_front))]
 fn push_front(bytes: &mut Vec<u8>, count: usize) -> Result<(), NoMemory>
     requires { count ≤ MOST_SOURCES }
@@ -56,7 +56,7 @@ fn push_front(bytes: &mut Vec<u8>, count: usize) -> Result<(), NoMemory>
     Ok(())
 }
 
-// Adds what follows the checksum of a table of these sources and one after them.
+// Appends what follows the checksum of a table of these sources and one more.
 #[tactic(auto, unfolding(crate::specs::Sources::table_rest))]
 fn push_rest(bytes: &mut Vec<u8>, kept: &[u16], source: u16) -> Result<(), NoMemory>
     requires { length kept.now < MOST_SOURCES }
@@ -68,7 +68,7 @@ fn push_rest(bytes: &mut Vec<u8>, kept: &[u16], source: u16) -> Result<(), NoMem
     push_all(bytes, kept, source)
 }
 
-// Adds sources in order, and one after them.
+// Appends sources in order, and one more.
 fn push_all(bytes: &mut Vec<u8>, kept: &[u16], source: u16) -> Result<(), NoMemory>
     ensures { OnOk result (bytes.new.items
         ≡ bytes.old.items ++ flat_map source_bytes (kept.now ++ source ∷ [])) }
@@ -77,7 +77,7 @@ fn push_all(bytes: &mut Vec<u8>, kept: &[u16], source: u16) -> Result<(), NoMemo
     push_source(bytes, source)
 }
 
-// Adds sources in order.
+// Appends sources in order.
 fn push_sources(bytes: &mut Vec<u8>, sources: &[u16]) -> Result<(), NoMemory>
     ensures { OnOk result (bytes.new.items ≡ bytes.old.items ++ flat_map source_bytes sources.now) }
 {
@@ -87,7 +87,7 @@ fn push_sources(bytes: &mut Vec<u8>, sources: &[u16]) -> Result<(), NoMemory>
     Ok(())
 }
 
-// Adds a source.
+// Appends a source.
 #[tactic(auto, unfolding(crate::specs::Sources::source_bytes))]
 fn push_source(bytes: &mut Vec<u8>, source: u16) -> Result<(), NoMemory>
     ensures { OnOk result (bytes.new.items ≡ bytes.old.items ++ source_bytes source) }
@@ -98,14 +98,14 @@ fn push_source(bytes: &mut Vec<u8>, source: u16) -> Result<(), NoMemory>
     Ok(())
 }
 
-// The checksum of a table, by what stands before it and what follows it.
+// Returns the checksum of a table from what is before the checksum and what follows it.
 fn checksum(front: &[u8], rest: &[u8]) -> u8
     ensures { result ≡ checksum front.now rest.now }
 {
     ((512 - u32::from(byte_sum(front)) - u32::from(byte_sum(rest))) % 256) as u8
 }
 
-// The sum of bytes modulo 256.
+// Returns the sum of bytes modulo 256.
 fn byte_sum(bytes: &[u8]) -> u8
     ensures { result ≡ sum bytes.now % 256 }
 {

@@ -1,4 +1,4 @@
-//! The lines that are printed.
+//! The lines that the filter prints.
 
 ghost use Rattle.std.specs.Prelude.{◌≡◌, ◌∷◌, ◌++◌, [], OnOk};
 ghost use Rattle.std.specs.Fmt.{decimal};
@@ -13,7 +13,7 @@ use crate::report::Remark;
 use ras_base::{NoMemory, push_number};
 use std::alloc::Global;
 
-// Adds what is said of the line of this number.
+// Appends what is printed about the line with this number.
 pub(crate) fn push_remark(text: &mut Vec<u8>, remark: Remark, number: u64) -> Result<(), NoMemory>
     ensures { OnOk result (text.new.items ≡ text.old.items ++ remark_text number remark) }
 {
@@ -27,7 +27,7 @@ pub(crate) fn push_remark(text: &mut Vec<u8>, remark: Remark, number: u64) -> Re
     Ok(())
 }
 
-// Adds the comment of a report that is cut.
+// Appends the comment of a report that is cut.
 pub(crate) fn push_partial(text: &mut Vec<u8>, source: u16, begun: u64) -> Result<(), NoMemory>
     ensures { OnOk result (text.new.items ≡ text.old.items ++ cut_report_line source begun) }
 {
@@ -35,7 +35,7 @@ pub(crate) fn push_partial(text: &mut Vec<u8>, source: u16, begun: u64) -> Resul
     push_named(text, b" number=", begun)
 }
 
-// Adds the line of a table of sources, and a line feed.
+// Appends the line of a table of sources, and a line feed.
 pub(crate) fn push_table(alloc: Global, text: &mut Vec<u8>, table: &[u8]) -> Result<(), NoMemory>
     ensures { OnOk result (text.new.items
         ≡ text.old.items ++ line_text (asks.Table (Hest table.now)) ++ 10 ∷ []) }
@@ -46,7 +46,7 @@ pub(crate) fn push_table(alloc: Global, text: &mut Vec<u8>, table: &[u8]) -> Res
     Ok(())
 }
 
-/// What a line `ghes` tells of a block, but for its bytes.
+/// What a line `ghes` says of a block, besides the block's bytes.
 #[derive(Clone, Copy, Debug)]
 pub(crate) struct BlockName {
     pub(crate) boot: u64,
@@ -55,7 +55,7 @@ pub(crate) struct BlockName {
     pub(crate) number: u64,
 }
 
-// Adds the line of a block, and a line feed.
+// Appends the line of a block, and a line feed.
 pub(crate) fn push_ghes(
     alloc: Global,
     text: &mut Vec<u8>,
@@ -76,7 +76,7 @@ pub(crate) fn push_ghes(
     Ok(())
 }
 
-// Adds bytes in hexadecimal.
+// Appends bytes in hexadecimal.
 fn push_hexadecimal(alloc: Global, text: &mut Vec<u8>, bytes: &[u8]) -> Result<(), NoMemory>
     ensures { OnOk result (text.new.items ≡ text.old.items ++ encode_lower bytes.now) }
 {
@@ -84,7 +84,7 @@ fn push_hexadecimal(alloc: Global, text: &mut Vec<u8>, bytes: &[u8]) -> Result<(
     Ok(())
 }
 
-// Adds a number in decimal after a name.
+// Appends a number in decimal after a name.
 fn push_named(text: &mut Vec<u8>, name: &[u8], number: u64) -> Result<(), NoMemory>
     ensures { OnOk result (text.new.items ≡ text.old.items ++ name.now ++ decimal number) }
 {

@@ -1,4 +1,4 @@
--- Calls made of a board one after another, and which ranges of a file they wrote.
+-- Calls of a board in a row, and which ranges of a file they wrote.
 use Rattle.std.specs.Prelude.{◌≡◌, List, [], ◌∷◌}
 use Rattle.std.specs.List.{flat_map}
 use Rattle.board_core.specs.declared.board.FileNo.{FileNo}
@@ -8,7 +8,7 @@ use Rattle.board_core.specs.DiskModel.{Range, Disk, MayLeave, Call, writes, sync
 use Rattle.board_core.specs.Stop.{Left, Same, InFile, InStore, InOut, Becomes, Begins, Appends}
 use Rattle.board_core.specs.Told.{Torn}
 
--- This call was made, as the clauses of the trait say of it.
+-- This call was made, according to the clauses of the trait.
 abbrev pub IsMade : Call → Clock → Clock → Type 0
 IsMade (writes file place count) old new = Passes (InFile file (Torn place count)) old new
 IsMade (syncs file bytes) old new = Passes Same old new × IsSynced file bytes new
@@ -16,12 +16,12 @@ IsMade (stores made store) old new = Passes (InStore (Becomes made)) old new × 
 IsMade (prints piece part) old new = Passes (InOut (Begins piece)) old new × Leads (InOut (Appends part)) old new
 IsMade rests old new = Passes Same old new
 
--- These calls were made of a board, one after another.
+-- These calls of a board were made, one after another.
 abbrev pub AreMade : {B : Type 0} → (B → Clock) → List Call → B → B → Type 0
 AreMade clock [] first last = last ≡ first
 AreMade {B} clock (call ∷ calls) first last = (next : B) × IsMade call (clock first) (clock next) × AreMade clock calls next last
 
--- A stop now leaves only what the disk model says of this disk.
+-- A crash now leaves only what the disk model says of this disk.
 abbrev pub KeepsDisk : Disk → Clock → Type 0
 KeepsDisk disk clock = (left : Left) → LeftNow clock left → MayLeave disk rests left
 

@@ -1,27 +1,25 @@
--- When a call may fail: only if the count of its kind of faults rose.
+-- When a call may fail: only if the count of its kind of fault rose.
 use Rattle.std.specs.Prelude.{◌≡◌, ℕ, ◌+◌, ◌-◌, ◌^◌, ◌≤◌, min, Result, Ok, Err, OnOk, OnErr}
 use Rattle.board_core.specs.declared.board.BoardPut.{BoardPut}
 use Rattle.board_core.specs.declared.board.BoardPut.TheVariants.{Refused, Failed}
 
--- A count is greater by just one than it was before: one call failed, and no other. A count ends at
--- 2^64 - 1, where it stays.
+-- A count is greater by exactly one than it was before: one call failed, and no other. A count stops at 2^64 - 1.
 abbrev pub Rose : ℕ → ℕ → Type 0
 Rose before now = now ≡ min (before + 1) (2 ^ 64 - 1)
 
--- A count never falls over a call, rose by one if the call failed, and is as it was if it
--- didn't fail.
+-- A count rose by one if the call failed, and is as it was if it didn't.
 pub record HasCause {T E : Type 0} (before now : ℕ) (result : Result T E) : Type 0 where
   pub later : before ≤ now
   pub failed : OnErr result (Rose before now)
   pub same : OnOk result (now ≡ before)
 
--- How often calls of a board have failed: disk calls; register, range and put calls; prints.
+-- How many calls of a board have failed: disk calls; register, range and put calls; prints.
 pub record Faults : Type 0 where
   pub disk : ℕ
   pub registers : ℕ
   pub prints : ℕ
 
--- the three kinds
+-- the three kinds of fault
 pub data Kind : Type 0 where
   disk_call : Kind
   device_call : Kind
@@ -37,13 +35,12 @@ with_count disk_call n faults = record faults { disk = n }
 with_count device_call n faults = record faults { registers = n }
 with_count print_call n faults = record faults { prints = n }
 
--- The count of the call's kind rose exactly if the call failed, and the two others are as they
--- were.
+-- The count of the call's kind rose if and only if the call failed, and the two others are as they were.
 pub record FailsAs {T E : Type 0} (kind : Kind) (old new : Faults) (result : Result T E) : Type 0 where
   pub own : HasCause (count_of kind old) (count_of kind new) result
   pub others : new ≡ with_count kind (count_of kind new) old
 
--- A put that is refused hasn't failed.
+-- A put that is refused counts as a call that succeeded.
 abbrev pub put_failure : {T : Type 0} → Result T BoardPut → Result (Unit {0}) BoardPut
 put_failure (Ok done) = Ok tt
 put_failure (Err (Refused cause)) = Ok tt

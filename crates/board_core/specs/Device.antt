@@ -1,4 +1,4 @@
--- The error record device and its store stay as they are.
+-- The error record device and its store stay unchanged.
 use Rattle.std.specs.Prelude.{◌≡◌, List, None, Some, Option, IsSomeAnd, ⊤}
 use Rattle.erst_store.specs.Store.{Stored}
 use Rattle.board_core.specs.Clock.{Clock, Adds, IsStored}
@@ -10,13 +10,13 @@ pub record KeepsDevice (before now : Told) : Type 0 where
   pub volatile : now.volatile ≡ before.volatile
   pub accesses : now.accesses ≡ before.accesses
 
--- From the old board to the new one a stop of the machine leaves this record store, and no other.
+-- From the old board to the new one a crash leaves this record store, and no other.
 pub record LeavesStore (store : List Stored) (old new : Clock) : Type 0 where
   pub since : Adds (λ left. left.store ≡ store) old new
   pub now : IsStored store new
 
--- The device stays as it is told. If a stop before leaves the record store that was told, so does one
--- at any moment since then. Of a board that tells nothing this says nothing.
+-- The model of the device doesn't change. If a crash before would leave the record store that the model has, so would a
+-- crash at any point since. Says nothing of a board that isn't modelled.
 abbrev pub LeavesDevice : Option Told → Option Told → Clock → Clock → Type 0
 LeavesDevice None told old new = ⊤
 LeavesDevice (Some before) told old new =

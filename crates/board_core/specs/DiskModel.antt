@@ -1,5 +1,4 @@
--- The disk model: what a stop may leave of files, record store and printed text, by the calls that
--- were made.
+-- The disk model: what a crash may leave of files, record store and printed text, by the calls that were made.
 use Rattle.std.specs.Prelude.{◌≡◌, ℕ, zero, suc, ◌+◌, ◌<◌, ◌≤◌, ◌⊎◌, max, List, [], ◌∷◌, ◌++◌, length, slice_index}
 use Rattle.erst_store.specs.Store.{Stored}
 use Rattle.board_core.specs.declared.board.FileNo.{FileNo}
@@ -7,12 +6,12 @@ use Rattle.board_core.specs.declared.board.FileNo.TheVariants.{Zero, One}
 use Rattle.board_core.specs.Clock.{Clock}
 use Rattle.board_core.specs.Stop.{Left, Begins, Becomes}
 
--- a range of a file: the place of its first byte, and how many bytes it has
+-- a range of a file: the offset of its first byte, and how many bytes it has
 pub record Range : Type 0 where
   pub place : ℕ
   pub count : ℕ
 
--- a place that lies in none of these ranges
+-- an offset in none of these ranges
 abbrev pub IsOutside : List Range → ℕ → Type 0
 IsOutside [] place = Unit {0}
 IsOutside (range ∷ ranges) place = ((place < range.place) ⊎ (range.place + range.count ≤ place)) × IsOutside ranges place
@@ -31,8 +30,8 @@ pub record DiskFile : Type 0 where
 abbrev pub settled_file : List ℕ → DiskFile
 settled_file bytes = record { synced = bytes; written = [] }
 
--- What a stop may leave of a file: in written ranges and past the old end stand any bytes, all
--- other bytes stay, and the length lies between the old one and the new one.
+-- What a crash may leave of a file: any bytes in written ranges and past the old end, all other bytes unchanged, and a
+-- length between the old one and the new one.
 pub record MayLeaveFile (file : DiskFile) (bytes : List ℕ) : Type 0 where
   pub stays : (k : ℕ) → k < length file.synced → IsOutside file.written k → slice_index bytes k ≡ slice_index file.synced k
   pub no_shorter : length file.synced ≤ length bytes
@@ -45,11 +44,10 @@ pub record Disk : Type 0 where
   pub store : List Stored
   pub out : List ℕ
 
--- A call as the disk sees it: a write at a place of a file, with its length, whether it ended well
--- or not; a sync that ended well, with the file's bytes as a read then gives them; a call of the
--- device, with the store that it makes and the store after it, which is that one if the call
--- ended well; a print of a piece, and the part of it that was appended, which is all of it if
--- the print ended well; any other.
+-- A call as the disk sees it. A write, with its file, offset and length, whether it succeeded or not. A sync that
+-- succeeded, with the file's bytes as a read then returns them. A call of the device, with the store that it would make
+-- and the store after it, which is that store if the call succeeded. A print, with its piece and the part of it that
+-- was appended, which is all of it if the print succeeded. Any other call.
 pub data Call : Type 0 where
   writes : FileNo → ℕ → ℕ → Call
   syncs : FileNo → List ℕ → Call
@@ -57,18 +55,19 @@ pub data Call : Type 0 where
   prints : List ℕ → List ℕ → Call
   rests : Call
 
--- what a call prints, and the store that it makes
+-- what a call prints, and the store that it would make
 abbrev pub piece_of : Call → List ℕ
 piece_of (prints piece part) = piece
 piece_of call = []
 
+-- the store that a call would make; only a call of the device makes another one
 abbrev pub store_made : Call → List Stored → List Stored
 store_made (stores made store) old = made
 store_made call old = old
 
--- What a stop may leave while this call is in work, which is `rests` if none is: of each file
--- what the disk may leave of it; the store as before the call or as after it, never between; of the
--- text what earlier prints appended and a beginning of the piece.
+-- What a crash may leave during this call, or between calls if it is `rests`: of each file what the disk may leave of
+-- it; the store as before the call or as after it, never between; of the text what earlier prints appended and a
+-- beginning of the piece.
 pub record MayLeave (disk : Disk) (call : Call) (left : Left) : Type 0 where
   pub zero : MayLeaveFile disk.zero left.file0
   pub one : MayLeaveFile disk.one left.file1
@@ -83,7 +82,7 @@ abbrev pub with_disk_file : FileNo → DiskFile → Disk → Disk
 with_disk_file Zero file disk = record disk { zero = file }
 with_disk_file One file disk = record disk { one = file }
 
--- a file with one range more that was written
+-- a file with one more range that was written
 abbrev pub with_range : ℕ → ℕ → DiskFile → DiskFile
 with_range place count file = record file { written = file.written ++ record { place = place; count = count } ∷ [] }
 
@@ -99,14 +98,13 @@ abbrev pub after_all : List Call → Disk → Disk
 after_all [] disk = disk
 after_all (call ∷ calls) disk = after_all calls (after call disk)
 
--- What a stop may leave from the moment on that comes after the first n of these calls: before one of
--- the later ones, while it is made, or after the last.
+-- What a crash may leave once the first n of these calls are made: before a later call, during it, or after the last.
 abbrev pub MayLeaveSince : Disk → List Call → ℕ → Left → Type 0
 MayLeaveSince disk [] zero left = MayLeave disk rests left
 MayLeaveSince disk [] (suc t) left = ⊥
 MayLeaveSince disk (call ∷ calls) zero left = MayLeave disk call left ⊎ MayLeaveSince (after call disk) calls zero left
 MayLeaveSince disk (call ∷ calls) (suc t) left = MayLeaveSince (after call disk) calls t left
 
--- the moments of these calls: their number, and what stops may leave
+-- the clock of these calls: their number, and what a crash may leave
 abbrev pub disk_clock : Disk → List Call → Clock
 disk_clock disk calls = record { now = length calls; may_leave_since = MayLeaveSince disk calls }

@@ -1,5 +1,4 @@
--- What a call over a board does, said once: its acts one after another, how far they came, and what
--- stops leave meanwhile.
+-- What a function over a board does: its acts one after another, how far they came, and what a crash leaves meanwhile.
 use Rattle.std.specs.Prelude.{◌≡◌, ℕ, ◌≤◌, ◌⊎◌, List, [], ◌∷◌, ◌++◌, length, Option, Result, Ok, Err}
 use Rattle.erst_store.specs.Device.{Device}
 use Rattle.board_core.specs.declared.board.FileNo.{FileNo}
@@ -17,12 +16,13 @@ use Rattle.board_core.specs.Told.{Told, Torn, Steps, Relates, device_of, on_devi
 use Rattle.board_core.specs.Told.{after_write_through, after_print, after_reg_write, after_range_write, after_put}
 use Rattle.board_core.specs.Told.{MayList, MayListAccess, MayAct, FailsAccess, FailsThrough, FailsPrint}
 
--- what is seen of a board: what it tells, what stops leave of it, and its counts
+-- what contracts see of a board: its model, what a crash leaves of it, and its counts of faults
 pub record Seen : Type 1 where
   pub told : Option Told
   pub clock : Clock
   pub faults : Faults
 
+-- what contracts see of a board, by its three ghosts
 abbrev pub looks : {X : Type 0} → (X → Option Told) → (X → Clock) → (X → Faults) → X → Seen
 looks told clock faults x = record { told = told x; clock = clock x; faults = faults x }
 
@@ -45,14 +45,16 @@ pub data Act : Type 0 where
   calls : DiskCall → Act
   device : DeviceCall → Act
 
+-- the kind of fault that a failed call of this act raises
 abbrev pub kind_of : Act → Kind
 kind_of (through file place bytes) = disk_call
 kind_of (prints bytes) = print_call
 kind_of (calls call) = disk_call
 kind_of (device call) = device_call
 
--- ---- a call of the device: done, failed, torn by a stop
+-- ---- a call of the device: done, failed, torn by a crash
 
+-- the model after a device call that succeeded
 abbrev pub after_device : DeviceCall → Told → Told
 after_device (reg_read reg) t = with_access (Read reg (register_in reg (device_of t))) t
 after_device (reg_write reg value) t = with_access (Write reg value) (on_device (after_reg_write reg value) t)
@@ -61,7 +63,7 @@ after_device (range_write place bytes) t =
     with_access (RangeWrite place (length bytes)) (on_device (after_range_write place bytes) t)
 after_device (put id bytes) t = on_device (after_put id bytes) t
 
--- It has acted or hasn't, and is listed or isn't.
+-- A failed device call may or may not have acted, and may or may not be listed.
 abbrev pub FailsDevice : DeviceCall → Told → Told → Type 0
 FailsDevice (reg_read reg) old new = MayListAccess (Read reg 0) old new
 FailsDevice (reg_write reg value) old new = FailsAccess (Write reg value) (after_reg_write reg value) old new
@@ -70,7 +72,7 @@ FailsDevice (range_write place bytes) old new =
     FailsAccess (RangeWrite place (length bytes)) (after_range_write place bytes) old new
 FailsDevice (put id bytes) old new = MayAct (after_put id bytes) old new
 
--- The store is as before the call or as after it.
+-- After a crash during a device call the store is as before the call or as after it.
 abbrev pub TornDevice : DeviceCall → Told → Left → Type 0
 TornDevice (reg_read reg) t left = Same t.here left
 TornDevice (reg_write reg value) t left = InStore (Becomes (after_reg_write reg value (device_of t)).store) t.here left
@@ -78,7 +80,7 @@ TornDevice (range_read place count) t left = Same t.here left
 TornDevice (range_write place bytes) t left = Same t.here left
 TornDevice (put id bytes) t left = InStore (Becomes (after_put id bytes (device_of t)).store) t.here left
 
--- the accesses that are listed of it
+-- the accesses that are listed of a device call
 abbrev pub accesses_by : DeviceCall → Device → List Access
 accesses_by (reg_read reg) d = Read reg (register_in reg d) ∷ []
 accesses_by (reg_write reg value) d = Write reg value ∷ []
@@ -86,20 +88,23 @@ accesses_by (range_read place count) d = RangeRead place count ∷ []
 accesses_by (range_write place bytes) d = RangeWrite place (length bytes) ∷ []
 accesses_by (put id bytes) d = []
 
--- ---- one act: done, failed, torn by a stop
+-- ---- one act: done, failed, torn by a crash
 
+-- the model after an act that is done
 abbrev pub after_act : Act → Told → Told
 after_act (through file place bytes) t = after_write_through file place bytes t
 after_act (prints bytes) t = after_print bytes t
 after_act (calls call) t = with_call call t
 after_act (device call) t = after_device call t
 
+-- how the model may change if a call of this act fails
 abbrev pub FailsAct : Act → Told → Told → Type 0
 FailsAct (through file place bytes) old new = FailsThrough file place bytes old new
 FailsAct (prints bytes) old new = FailsPrint bytes old new
 FailsAct (calls call) old new = MayList call old new
 FailsAct (device call) old new = FailsDevice call old new
 
+-- what a crash during this act may leave
 abbrev pub TornAct : Act → Told → Left → Type 0
 TornAct (through file place bytes) t left = InFile file (Torn place (length bytes)) t.here left
 TornAct (prints bytes) t left = InOut (Begins bytes) t.here left
@@ -118,23 +123,23 @@ abbrev pub after_acts : List Act → Told → Told
 after_acts [] t = t
 after_acts (act ∷ acts) t = after_acts acts (after_act act t)
 
--- One of them, of this kind, failed and was the last. Those before it are done.
+-- One of the acts failed, as a fault of this kind, and was the last. The acts before it are done.
 abbrev pub FailsActs : Kind → List Act → Told → Told → Type 0
 FailsActs kind [] old new = ⊥
 FailsActs kind (act ∷ acts) old new =
     ((kind_of act ≡ kind) × FailsAct act old new) ⊎ FailsActs kind acts (after_act act old) new
 
--- A stop tore one of them, and those before it are done.
+-- A crash tore one of the acts, and the acts before it are done.
 abbrev pub Moment : List Act → Told → Left → Type 0
 Moment [] t left = ⊥
 Moment (act ∷ acts) t left = TornAct act t left ⊎ Moment acts (after_act act t) left
 
--- the disk calls that are listed of them
+-- the disk calls that are listed of these acts
 abbrev pub calls_of : List Act → List DiskCall
 calls_of [] = []
 calls_of (act ∷ acts) = disk_calls_by act ++ calls_of acts
 
--- the accesses that are listed of them, if this is told at first
+-- the accesses that are listed of these acts, if the model says this at first
 abbrev pub accesses_of : List Act → Told → List Access
 accesses_of [] t = []
 accesses_of (device call ∷ acts) t = accesses_by call (device_of t) ++ accesses_of acts (after_device call t)
@@ -142,18 +147,18 @@ accesses_of (act ∷ acts) t = accesses_of acts (after_act act t)
 
 -- ---- what a call does
 
--- All went well; a call of the board of this kind failed; or it gave up before the first.
+-- All calls succeeded; a call of the board of this kind failed; or the function gave up before the first.
 pub data Ended : Type 0 where
   went_well : Ended
   broke : Kind → Ended
   gave_up : Ended
 
--- how a result ends, if each error ends so
+-- how a result ends, given how each error ends
 abbrev pub ended_by : {T E : Type 0} → (E → Ended) → Result T E → Ended
 ended_by why (Ok x) = went_well
 ended_by why (Err e) = why e
 
--- of a call that can fail only so
+-- how a call ends whose errors are all of this kind
 abbrev pub one_end : {T E : Type 0} → Kind → Result T E → Ended
 one_end kind result = ended_by (λ _. broke kind) result
 
@@ -162,37 +167,38 @@ abbrev pub put_acts : ℕ → List ℕ → Result (Unit {0}) BoardPut → List A
 put_acts id bytes (Err (Refused cause)) = []
 put_acts id bytes result = device (put id bytes) ∷ []
 
--- of the counts of faults that of one kind rose
+-- the count of this kind of fault rose by one, and the other counts are unchanged
 pub record Raises (kind : Kind) (old new : Faults) : Type 0 where
   pub later : count_of kind old ≤ count_of kind new
   pub own : Rose (count_of kind old) (count_of kind new)
   pub others : new ≡ with_count kind (count_of kind new) old
 
+-- All acts are done: the model has changed by them, a crash meanwhile leaves a moment of them, and no fault is counted.
 pub record GoesWell (acts : List Act) (old new : Seen) : Type 0 where
   pub told : Steps (after_acts acts) old.told new.told
   pub stops : (t : Told) → Rests t old.told old.clock → Adds (Moment acts t) old.clock new.clock
   pub rests : (t : Told) → Rests t old.told old.clock → Rests (after_acts acts t) new.told new.clock
   pub faults : new.faults ≡ old.faults
 
+-- A call of this kind failed in one of the acts: the fault is counted, and the acts before it are done.
 pub record Breaks (kind : Kind) (acts : List Act) (old new : Seen) : Type 0 where
   pub told : Relates (FailsActs kind acts) old.told new.told
   pub stops : (t : Told) → Rests t old.told old.clock → Adds (Moment acts t) old.clock new.clock
   pub faults : Raises kind old.faults new.faults
 
--- A call did these acts, or began them and a call of the board failed, or it gave up and the board
--- is as it was.
+-- A function did these acts; or it began them and a call of the board failed; or it gave up and the board is as it was.
 abbrev pub Does : {X : Type 0} → (X → Seen) → List Act → Ended → X → X → Type 0
 Does see acts went_well old new = GoesWell acts (see old) (see new)
 Does see acts (broke kind) old new = Breaks kind acts (see old) (see new)
 Does see acts gave_up old new = new ≡ old
 
--- calls were made
+-- the function didn't give up before its first call
 abbrev pub IsMade : Ended → Type 0
 IsMade went_well = Unit {0}
 IsMade (broke kind) = Unit {0}
 IsMade gave_up = ⊥
 
--- not all went well
+-- a call failed, or the function gave up
 abbrev pub IsBad : Ended → Type 0
 IsBad went_well = ⊥
 IsBad (broke kind) = Unit {0}
@@ -200,13 +206,14 @@ IsBad gave_up = Unit {0}
 
 -- ---- acts of one sort
 
+-- an act of the disk: neither a print nor a call of the device
 abbrev pub IsOnDisk : Act → Type 0
 IsOnDisk (through file place bytes) = Unit {0}
 IsOnDisk (prints bytes) = ⊥
 IsOnDisk (calls call) = Unit {0}
 IsOnDisk (device call) = ⊥
 
--- All are acts of the disk.
+-- All acts are of the disk.
 abbrev pub AreOnDisk : List Act → Type 0
 AreOnDisk [] = Unit {0}
 AreOnDisk (act ∷ acts) = IsOnDisk act × AreOnDisk acts
@@ -217,7 +224,7 @@ IsOffDevice (prints bytes) = Unit {0}
 IsOffDevice (calls call) = Unit {0}
 IsOffDevice (device call) = ⊥
 
--- None is a call of the device.
+-- No act is a call of the device.
 abbrev pub AreOffDevice : List Act → Type 0
 AreOffDevice [] = Unit {0}
 AreOffDevice (act ∷ acts) = IsOffDevice act × AreOffDevice acts

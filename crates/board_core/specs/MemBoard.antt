@@ -15,8 +15,7 @@ use Rattle.board_core.specs.MemSource.{next_count, is_chosen}
 use Rattle.board_core.specs.Stop.{Left, file_in, with_file_in}
 use Rattle.board_core.specs.Told.{Told, overlay, after_reg_write, after_range_write, after_put}
 
--- what a board in memory holds: the files, the store and the text as they are now, and the rest of
--- the device
+-- what a board in memory has now: the files, the store and the text, and the rest of the device
 pub record Held : Type 0 where
   pub here : Left
   pub volatile : Volatile
@@ -34,20 +33,21 @@ pub data DeviceChange : Type 0 where
   wrote_range : ℕ → List ℕ → DeviceChange
   put_record : ℕ → List ℕ → DeviceChange
 
+-- the device after a change of it
 abbrev pub device_step : DeviceChange → Device → Device
 device_step (wrote_register reg value) d = after_reg_write reg value d
 device_step (wrote_range place bytes) d = after_range_write place bytes d
 device_step (put_record id bytes) d = after_put id bytes d
 
--- a call that went well and changed what a read gives or what a stop may leave: bytes written at a
--- place of a file, a file synced, something done to the device, a piece appended to the text
+-- a call that succeeded and changed what a read returns or what a crash may leave: bytes written at an offset of a
+-- file, a file synced, something done to the device, a piece appended to the text
 pub data Change : Type 0 where
   wrote : FileNo → ℕ → List ℕ → Change
   synced : FileNo → Change
   acted : DeviceChange → Change
   printed : List ℕ → Change
 
--- what there was at first, and the changes since, the first of them first
+-- the first state, and the changes since, in order
 pub record Past : Type 0 where
   pub first : Held
   pub changes : List Change
@@ -58,12 +58,12 @@ new_past first = record { first = first; changes = [] }
 abbrev pub with_change : Change → Past → Past
 with_change change past = record past { changes = past.changes ++ change ∷ [] }
 
--- the past after a call, which made this change if it went well, and else none
+-- the past after a call, with this change if the call succeeded, else unchanged
 abbrev pub past_after : {T E : Type 0} → Result T E → Change → Past → Past
 past_after (Ok value) change past = with_change change past
 past_after (Err error) change past = past
 
--- what is held after a change, and after changes in order
+-- the state after a change, and after changes in order
 abbrev pub after_change : Change → Held → Held
 after_change (wrote file place bytes) held =
     record held { here = with_file_in file (overlay place bytes (file_in file held.here)) held.here }
@@ -87,7 +87,7 @@ abbrev pub calls_of : List Change → Held → List Call
 calls_of [] held = []
 calls_of (change ∷ changes) held = call_of change held ∷ calls_of changes (after_change change held)
 
--- a disk on which all is as a read gives it
+-- a disk on which everything is as a read returns it
 abbrev pub settled_disk : Left → Disk
 settled_disk here = record {
   zero = settled_file here.file0;
@@ -96,20 +96,19 @@ settled_disk here = record {
   out = here.out;
 }
 
--- what is held now, and the disk now
+-- the state now, and the disk now
 abbrev pub held_of : Past → Held
 held_of past = after_changes past.changes past.first
 
 abbrev pub disk_of : Past → Disk
 disk_of past = after_all (calls_of past.changes past.first) (settled_disk past.first.here)
 
--- Moments are counted by changes. What stops may leave is what the disk model says of the changes
--- as calls, no less and no more.
+-- Points in time are counted by changes. A crash may leave exactly what the disk model says of the changes as calls.
 abbrev pub clock_of : Past → Clock
 clock_of past = disk_clock (settled_disk past.first.here) (calls_of past.changes past.first)
 
--- its past, the calls that it lists, the numbers of the calls that fail, how many calls go well at
--- most, how many calls were made, how many of them were refused a growth, and the faults
+-- the board's past, the calls that it lists, the numbers of the calls that fail, how many calls succeed at most, how
+-- many calls were made, for how many of them memory ran out, and the faults
 pub record State : Type 0 where
   pub past : Past
   pub disk_calls : List DiskCall
@@ -120,6 +119,7 @@ pub record State : Type 0 where
   pub starved : ℕ
   pub faults : Faults
 
+-- the model of a board in memory, which has all of it
 abbrev pub told_of : State → Told
 told_of s = record {
   here = (held_of s.past).here;
@@ -128,7 +128,7 @@ told_of s = record {
   accesses = s.accesses;
 }
 
--- files and a store that are held in a new board: nothing is printed, and the device is new
+-- the state of a new board with these files and this store: nothing is printed, and the device is new
 abbrev pub new_held : List ℕ → List ℕ → List Stored → ℕ → Held
 new_held file0 file1 store slow = record {
   here = record { file0 = file0; file1 = file1; store = store; out = [] };
@@ -153,17 +153,18 @@ new_board file0 file1 store slow = record {
 
 -- ---- a call
 
--- whether the next call was chosen to fail, by its number or since it comes past the last
+-- whether the next call was chosen to fail, by its number or because it comes after the last that succeeds
 abbrev pub fails_next : State → Bool
 fails_next s = is_chosen (next_count s.made) s.fails || ltb s.allowed (next_count s.made)
 
+-- the kind of fault that a call raises if it fails
 abbrev pub call_kind : BoardCall → Kind
 call_kind (OnDisk call) = disk_call
 call_kind (OnDevice access) = device_call
 call_kind Put = device_call
 call_kind Print = print_call
 
--- the lists with a call more
+-- the lists with one more call
 abbrev pub with_disk_call : BoardCall → List DiskCall → List DiskCall
 with_disk_call (OnDisk call) calls = calls ++ call ∷ []
 with_disk_call other calls = calls
@@ -182,22 +183,22 @@ listed call s = record s {
   accesses = with_device_call call s.accesses;
 }
 
--- A fault of the call's kind more: its count never falls.
+-- One more fault of the call's kind.
 pub record Faulted (call : BoardCall) (old new : State) : Type 0 where
   pub is : new ≡ record old { faults = with_count (call_kind call) (next_count (count_of (call_kind call) old.faults)) old.faults }
   pub later : count_of (call_kind call) old.faults ≤ count_of (call_kind call) new.faults
 
--- a board with a refused growth more
+-- a board with one more call for which memory ran out
 abbrev pub with_refusal : State → State
 with_refusal s = record s { starved = next_count s.starved }
 
--- A call was refused a growth: of its list, so that it isn't listed, or of what it changes.
+-- Memory ran out for a call: for its list, so that it isn't listed, or for what it changes.
 abbrev pub IsRefused : BoardCall → State → State → Type 0
 IsRefused call old new = Faulted call (with_refusal old) new ⊎ Faulted call (with_refusal (listed call old)) new
 
--- A call was made, and is counted. Either it went well: then it wasn't to fail, is listed, and this
--- is the past after it. Or it failed: then it was to and is listed, or it was refused a growth, and
--- nothing else changed but the count of its faults.
+-- A call was made, and is counted. Either it succeeded: then it wasn't chosen to fail, is listed, and this is the past
+-- after it. Or it failed: then it was chosen to and is listed, or memory ran out, and nothing else changed but the
+-- count of its faults.
 abbrev pub Performs : {T E : Type 0} → BoardCall → Past → State → State → Result T E → Type 0
 Performs call past old new (Ok value) =
     (fails_next old ≡ false) × (new ≡ record (listed call (counted old)) { past = past })

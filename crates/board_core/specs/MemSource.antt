@@ -2,6 +2,8 @@
 use Rattle.std.specs.Prelude.{◌≡◌, ℕ, ◌+◌, ◌-◌, ◌^◌, min, Bool, List, nat_eq}
 use Rattle.std.specs.List.{list_any}
 
+-- the bytes left, the most bytes of a read, the numbers of the reads that fail, how many reads were made, and the
+-- faults
 pub record Reading : Type 0 where
   pub left : List ℕ
   pub piece : ℕ
@@ -9,7 +11,7 @@ pub record Reading : Type 0 where
   pub made : ℕ
   pub faults : ℕ
 
--- a number of calls or faults, one greater, which ends at 2^64 - 1
+-- a number of calls or faults, greater by one, which stops at 2^64 - 1
 abbrev pub next_count : ℕ → ℕ
 next_count n = min (n + 1) (2 ^ 64 - 1)
 
@@ -21,7 +23,7 @@ is_chosen call fails = list_any (λ fail. nat_eq fail call) fails
 abbrev pub read_fails_next : Reading → Bool
 read_fails_next s = is_chosen (next_count s.made) s.fails
 
--- The reads are numbered on, and the chosen ones and the pieces stay.
+-- The numbering of reads goes on, and the chosen reads and the length of pieces stay.
 pub record CountsRead (old new : Reading) : Type 0 where
   pub made : new.made ≡ next_count old.made
   pub fails : new.fails ≡ old.fails

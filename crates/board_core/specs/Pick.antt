@@ -1,10 +1,10 @@
--- Which of the states that a stop may leave a new board is made of.
+-- Which of the states that a crash may leave a new board starts in.
 use Rattle.std.specs.Prelude.{◌≡◌, ℕ, ◌+◌, ◌<◌, ◌≤◌, ◌⊎◌, List, [], ◌∷◌, length, slice_index}
 use Rattle.board_core.specs.declared.pick.Pick.{Pick}
 use Rattle.board_core.specs.declared.pick.Pick.TheVariants.{Old, New, Fill}
 use Rattle.board_core.specs.DiskModel.{Range, IsOutside, DiskFile}
 
--- a place that lies in one of these ranges
+-- an offset in one of these ranges
 abbrev pub IsInside : List Range → ℕ → Type 0
 IsInside [] place = ⊥
 IsInside (range ∷ ranges) place = ((range.place ≤ place) × (place < range.place + range.count)) ⊎ IsInside ranges place
@@ -15,8 +15,8 @@ pub record IsFilled (byte : ℕ) (ranges : List Range) (old new : List ℕ) : Ty
   pub filled : (k : ℕ) → k < length old → IsInside ranges k → slice_index new k ≡ byte
   pub others : (k : ℕ) → IsOutside ranges k → slice_index new k ≡ slice_index old k
 
--- What is taken of a file: its bytes as of the last sync, or as a read gives them, or these with
--- every byte written since the last sync set to one byte.
+-- What is chosen of a file: its bytes as of the last sync, or as a read returns them, or these with every byte written
+-- since the last sync set to one byte.
 abbrev pub IsPicked : Pick → DiskFile → List ℕ → List ℕ → Type 0
 IsPicked Old file now taken = taken ≡ file.synced
 IsPicked New file now taken = taken ≡ now

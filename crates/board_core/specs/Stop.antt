@@ -1,11 +1,10 @@
--- What a stop of the machine leaves, and how it may differ from what an earlier stop would have
--- left.
+-- What a crash of the machine leaves, and how it may differ from what an earlier crash would have left.
 use Rattle.std.specs.Prelude.{◌≡◌, ℕ, ◌⊎◌, List, ◌++◌}
 use Rattle.erst_store.specs.Store.{Stored}
 use Rattle.board_core.specs.declared.board.FileNo.{FileNo}
 use Rattle.board_core.specs.declared.board.FileNo.TheVariants.{Zero, One}
 
--- what a stop leaves: the bytes of both files, the record store, and the printed text
+-- what a crash leaves: the bytes of both files, the record store, and the printed text
 pub record Left : Type 0 where
   pub file0 : List ℕ
   pub file1 : List ℕ
@@ -38,7 +37,7 @@ pub record InStore (Step : List Stored → List Stored → Type 0) (old new : Le
   pub step : Step old.store store
   pub rest : new ≡ record old { store = store }
 
--- a store is as it was, or has become this one
+-- a store is unchanged, or has become this one
 abbrev pub Becomes : List Stored → List Stored → List Stored → Type 0
 Becomes store old new = (new ≡ old) ⊎ (new ≡ store)
 

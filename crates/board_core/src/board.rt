@@ -1,5 +1,5 @@
-//! Two files, a record store behind a device, and an output, which one stop of the machine hits
-//! together.
+//! Two files, a record store behind a device, and an output. One crash of the machine hits all of
+//! them.
 ghost use Rattle.std.specs.Prelude.{◌≡◌, ℕ, ◌+◌, ◌≤◌, length, take, drop, Option, Some, IfSome, IfOk, OnOk, OnErr};
 ghost use Rattle.erst_store.specs.Actions.{range_length};
 ghost use Rattle.erst_store.specs.DeviceLaws.{IsDevice};
@@ -27,11 +27,11 @@ pub enum FileNo {
 pub enum Reg {
     /// A number that is written here is an action, which the device then does.
     Action,
-    /// What an action takes and answers.
+    /// The number that an action takes or returns.
     Value,
 }
 
-/// A disk call that a board lists: of which file, and with place and length in bytes.
+/// A disk call, as a board lists it: its file, and offset and length in bytes.
 #[derive(Clone, Copy, Debug, PartialEq, Eq)]
 pub enum DiskCall {
     Size(FileNo),
@@ -40,8 +40,8 @@ pub enum DiskCall {
     Sync(FileNo),
 }
 
-/// An access to the device that a board lists: a register with the number read or written, or the
-/// place and the length of bytes of its range. A read that failed is listed with the number 0.
+/// An access to the device, as a board lists it: a register with the number read or written, or the
+/// offset and the length of bytes of its range. A read that failed is listed with the number 0.
 #[derive(Clone, Copy, Debug, PartialEq, Eq)]
 pub enum Access {
     Read(Reg, u64),
@@ -59,24 +59,26 @@ pub enum BoardPut {
     Failed,
 }
 
-/// Two files, a device with its record store, and an output, which a stop of the machine hits
-/// together.
+/// Two files, a device with its record store, and an output; one crash of the machine hits all of
+/// them.
 ///
-/// At every moment a disk call changes what a stop may leave of its own file alone, a device call
-/// of the record store alone, and a print of the printed text alone. A call answers `Failed` only
-/// if the count of its kind of faults rose, and no call raises a count of another kind.
+/// A disk call affects only what a crash may leave of its own file, a device call only the record
+/// store, and a print only the printed text. A call returns `Failed` only if the count of its kind
+/// of fault rose, and no call raises a count of another kind.
 pub trait Board {
-    /// What the board tells of itself, if anything.
+    /// The board's contents, if the board is modelled.
     ghost told: { Self → Option Told };
 
-    /// Its moments, and what a stop of the machine at each may leave. A board that tells nothing
-    /// has nothing here either.
+    /// The number of the present moment, and what a crash at any moment may leave. Says nothing of
+    /// a board that isn't modelled.
     ghost clock: { Self → Clock };
 
-    /// How often its calls have failed, by their kinds.
+    /// How many calls have failed, by their kinds.
     ghost faults: { Self → Faults };
 
-    /// The file's length in bytes.
+    /// Returns the file's length in bytes.
+    ///
+    /// `Failed`: only if the count of failed disk calls rose.
     fn size(&mut self, file: FileNo) -> Result<u64, Failed>
         ensures length { IfOk result (λ n. IfSome (told self.old) (λ t. n
             ≡ length (file_of file t))) }
@@ -86,8 +88,8 @@ pub trait Board {
         ensures stops { Passes Same (clock self.old) (clock self.new) }
         ensures cause { FailsAs disk_call (faults self.old) (faults self.new) result };
 
-    /// Reads the bytes from `place` on into the front of `buf` and answers their number: fewer than
-    /// `buf` has room for only if the file ends.
+    /// Reads the bytes from offset `place` on into the front of `buf` and returns how many: fewer
+    /// than `buf` has room for only if the file ends there.
     fn read_at(&mut self, file: FileNo, place: u64, buf: &mut [u8]) -> Result<usize, Failed>
         ensures within { IfOk result (λ n. n ≤ length buf.old) }
         ensures read { IfOk result
@@ -101,10 +103,10 @@ pub trait Board {
         ensures stops { Passes Same (clock self.old) (clock self.new) }
         ensures cause { FailsAs disk_call (faults self.old) (faults self.new) result };
 
-    /// Writes `bytes` at `place`, which is at most the file's length, over what is there and past
-    /// the file's end.
+    /// Writes `bytes` at offset `place`, which is at most the file's length. They replace what is
+    /// there and may extend the file.
     ///
-    /// After `Failed` any of the bytes may have been written. A stop during the call, or later and
+    /// After `Failed` any of the bytes may have been written. A crash during the call, or later but
     /// before the file's next sync, may leave any bytes in the written range, and any length
     /// between the old one and the new one.
     fn write_at(&mut self, file: FileNo, place: u64, bytes: &[u8]) -> Result<(), Failed>
@@ -118,9 +120,9 @@ pub trait Board {
             (clock self.new) }
         ensures cause { FailsAs disk_call (faults self.old) (faults self.new) result };
 
-    /// Makes the file durable: from then on, and until its next write, a stop leaves it as a read
-    /// gives it. So it does with the record store, until a call of the device changes it. After
-    /// `Failed` neither is known to be durable.
+    /// Makes the file durable: until its next write, a crash leaves what a read returns. The same
+    /// holds of the record store until a device call changes it. After `Failed` neither is known to
+    /// be durable.
     fn sync(&mut self, file: FileNo) -> Result<(), Failed>
         ensures told { OnOk result (Steps (with_call (Sync file)) (told self.old) (told self.new)) }
         ensures failed { OnErr result
@@ -131,7 +133,7 @@ pub trait Board {
         ensures stored { OnOk result (StoreIsLeft (told self.new) (clock self.new)) }
         ensures cause { FailsAs disk_call (faults self.old) (faults self.new) result };
 
-    /// Reads a register of the device.
+    /// Returns the number in a register of the device.
     fn reg_read(&mut self, reg: Reg) -> Result<u64, Failed>
         ensures value { IfOk result (λ n. IfSome (told self.old) (λ t. n
             ≡ register_in reg (device_of t))) }
@@ -143,12 +145,11 @@ pub trait Board {
         ensures cause { FailsAs device_call (faults self.old) (faults self.new) result }
         ensures device { IfSome (told self.old) (λ t. IsDevice (device_of t)) };
 
-    /// Writes a number to a register of the device. A number that is written to Action is an
-    /// action, which the device then does.
-    ///
-    /// After `Failed` the device has done so or hasn't, and a stop during the call leaves the
-    /// record store as before it or as after it. So does a stop after `Failed`: it need not leave
-    /// the store that is told.
+    /// Writes a number to a register of the device. A number written to Action is an action, which
+    /// the device then does.
+    /// After `Failed` the device may or may not have done so. A crash during the call leaves the
+    /// record store as before it or as after it. So does a crash after `Failed`, which need not
+    /// leave the store that the model has.
     fn reg_write(&mut self, reg: Reg, value: u64) -> Result<(), Failed>
         ensures told { OnOk result (Steps (λ t. with_access (Write reg value)
             (on_device (after_reg_write reg value) t)) (told self.old) (told self.new)) }
@@ -163,7 +164,7 @@ pub trait Board {
         ensures cause { FailsAs device_call (faults self.old) (faults self.new) result }
         ensures device { IfSome (told self.old) (λ t. IsDevice (device_of t)) };
 
-    /// Copies the bytes of the device's range from a place on into a buffer, all of it.
+    /// Copies the bytes of the device's range from `place` on into `buf`, and fills all of it.
     fn range_read(&mut self, place: u32, buf: &mut [u8]) -> Result<(), Failed>
         requires { place + length buf.old ≤ range_length }
         ensures read { OnOk result (IfSome (told self.old)
@@ -178,8 +179,8 @@ pub trait Board {
         ensures cause { FailsAs device_call (faults self.old) (faults self.new) result }
         ensures device { IfSome (told self.old) (λ t. IsDevice (device_of t)) };
 
-    /// Writes bytes into the device's range from a place on. After `Failed` they were written or
-    /// weren't.
+    /// Writes bytes into the device's range from `place` on. After `Failed` they may or may not
+    /// have been written.
     fn range_write(&mut self, place: u32, bytes: &[u8]) -> Result<(), Failed>
         requires { place + length bytes.now ≤ range_length }
         ensures told { OnOk result (Steps (λ t. with_access (RangeWrite place (length bytes.now))
@@ -193,10 +194,10 @@ pub trait Board {
     /// Puts a record into the store from outside, as `Store::put` of erst_store does, and sets the
     /// device's cursor to 0.
     ///
-    /// `Refused` comes with the store's own refusal, `NoMemory` among them, and leaves all as it
-    /// was, also if a stop comes during the call. After `Failed` the record was put or wasn't. A
-    /// stop during a call that isn't refused, or after one that failed, leaves the store as before
-    /// it or as after it.
+    /// `Refused`: the store refuses the record, with its own refusal, which may be `NoMemory`;
+    /// nothing changes then, even if a crash comes during the call. After `Failed` the record may
+    /// or may not have been put. A crash during a call that isn't refused, or after one that
+    /// failed, leaves the store as before the call or as after it.
     fn put(&mut self, id: u64, bytes: &[u8]) -> Result<(), BoardPut>
         ensures told { OnOk result
             (Steps (on_device (after_put id bytes.now)) (told self.old) (told self.new)) }
@@ -216,7 +217,7 @@ pub trait Board {
         ensures device { IfSome (told self.old) (λ t. IsDevice (device_of t)) };
 
     /// Appends `bytes` to the output. After `Failed` a beginning of them, maybe nothing, was
-    /// appended, and a stop during the call leaves such a beginning too.
+    /// appended. A crash during the call leaves such a beginning too.
     fn print(&mut self, bytes: &[u8]) -> Result<(), Failed>
         ensures told { OnOk result (Steps (after_print bytes.now) (told self.old) (told self.new)) }
         ensures failed { OnErr result
@@ -226,15 +227,16 @@ pub trait Board {
             (Leads (InOut (Appends bytes.now)) (clock self.old) (clock self.new)) }
         ensures cause { FailsAs print_call (faults self.old) (faults self.new) result };
 
-    /// What the board tells is among what a stop now may leave.
+    /// A crash now may leave what the model says.
     ghost told_may_be_left: { (board : Self) (t : Told) → told board ≡ Some t
         → LeftNow (clock board) t.here };
 
-    /// Between calls a stop leaves the text that was printed, no less and no more.
+    /// Between calls a crash leaves the text that was printed, no less and no more.
     ghost text_is_left: { (board : Self) (t : Told) (left : Left) → told board ≡ Some t
         → LeftNow (clock board) left → left.out ≡ t.here.out };
 
-    /// What may be left from a moment on may be left from every earlier one on.
+    /// What a crash at or after some point may leave is also what a crash at or after any earlier
+    /// point may leave.
     ghost counts_earlier: { (board : Self) (s t : ℕ) (left : Left) → s ≤ t
         → (clock board).may_leave_since t left → (clock board).may_leave_since s left };
 }

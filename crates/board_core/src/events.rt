@@ -1,4 +1,4 @@
-//! What a board in memory keeps of each call that went well, and the calls on plain vectors.
+//! What a board in memory records of each call that succeeded, and the calls on plain vectors.
 ghost use Rattle.std.specs.Prelude.{◌≡◌, ◌≤◌, ◌++◌, [], ◌∷◌, length, IsSome, OnOk, OnErr};
 ghost use Rattle.board_core.specs.Steps.History.{first_bytes, changes_of};
 ghost use Rattle.board_core.specs.MemBoard.{wrote, printed};
@@ -9,7 +9,7 @@ use crate::history::{MemChange, MemFile};
 use ras_base::NoMemory;
 use std::alloc::Global;
 
-/// Keeps the bytes and what the file began with, and writes them.
+/// Records the bytes and the file's first contents, and writes them.
 pub fn write(
     alloc: Global,
     file: &mut MemFile,
@@ -34,7 +34,7 @@ pub fn write(
     Ok(())
 }
 
-// Keeps what the file began with, unless it was kept before.
+// Records the file's first contents, unless they were recorded before.
 fn keep_first(alloc: Global, file: &mut MemFile) -> Result<(), NoMemory>
     ensures bytes { file.new.bytes ≡ file.old.bytes }
     ensures first { first_bytes file.new ≡ first_bytes file.old }
@@ -46,7 +46,7 @@ fn keep_first(alloc: Global, file: &mut MemFile) -> Result<(), NoMemory>
     Ok(())
 }
 
-/// Keeps the piece, and appends it.
+/// Records the piece, and appends it.
 pub fn print(
     alloc: Global,
     out: &mut Vec<u8>,
@@ -66,7 +66,7 @@ pub fn print(
     Ok(())
 }
 
-/// Writes bytes over what is there and past the end, in place.
+/// Writes bytes over what is there, and past the end of the file.
 pub fn overlay_bytes(file: &mut Vec<u8>, place: usize, bytes: &[u8]) -> Result<(), NoMemory>
     requires { place ≤ length file.old.items }
     ensures ok { OnOk result (file.new.items ≡ overlay place bytes.now file.old.items) }

@@ -1,5 +1,5 @@
-//! What was done to the files, the device and the output of a board in memory, and what they hold
-//! now.
+//! What was done to the files, the device and the output of a board in memory, and what they
+//! contain now.
 ghost use Rattle.std.specs.Prelude.{◌≡◌, ℕ, ◌+◌, ◌≤◌, ◌++◌, [], ◌∷◌, List, length, take, drop, IfOk, OnOk, OnErr};
 ghost use Rattle.erst_store.specs.Actions.{range_length};
 ghost use Rattle.erst_store.specs.DeviceLaws.{IsDevice};
@@ -19,9 +19,9 @@ use std::marker::Model;
 
 /// Two files, a device and an output in memory, with a record of all that was done to them.
 ///
-/// A write is done in place, and its bytes are kept beside. What a file began with is kept apart at
-/// its first write. The store that the device began with is kept, and no other: what is done to the
-/// device is kept as it was asked for.
+/// A write is done in place, and its bytes are recorded as well. The first contents of a file are
+/// kept apart at its first write. The record store's first state is kept, and no other earlier one:
+/// what is done to the device is recorded as the calls that asked for it.
 #[derive(Drop)]
 pub struct History {
     alloc: Global,
@@ -34,14 +34,14 @@ pub struct History {
     events: Vec<MemChange>,
 }
 
-/// A file in memory: its bytes, and once something was written those that it began with.
+/// A file in memory: its bytes and, once something was written, its first bytes.
 #[derive(Drop)]
 pub struct MemFile {
     pub bytes: Vec<u8>,
     pub first: Option<Vec<u8>>,
 }
 
-/// A change of the board, as it is remembered.
+/// A change of the board, as it is recorded.
 #[derive(Drop)]
 pub enum MemChange {
     /// Bytes were written at a place of a file.
@@ -77,7 +77,7 @@ impl Model for History {
 }
 
 impl History {
-    /// Files with these bytes and a new device over this store, with nothing printed.
+    /// Returns files with these bytes and a new device over this store, with nothing printed.
     pub fn new(
         alloc: Global,
         file0: Vec<u8>,
@@ -107,7 +107,7 @@ impl History {
         })
     }
 
-    /// Puts these bytes into a file before anything was done.
+    /// Replaces a file's bytes, before anything else was done.
     pub fn set_file(&mut self, file: FileNo, bytes: Vec<u8>)
         requires { self.old.changes ≡ [] }
         ensures { self.new ≡ new_past (record self.old.first {
@@ -121,7 +121,7 @@ impl History {
         }
     }
 
-    /// A file's bytes.
+    /// Returns a file's bytes.
     pub fn file(&self, file: FileNo) -> &[u8]
         ensures { result.now ≡ file_in file (held_of self.now).here }
     {
@@ -131,14 +131,14 @@ impl History {
         }
     }
 
-    /// The bytes printed so far.
+    /// Returns the bytes printed so far.
     pub fn out(&self) -> &[u8]
         ensures { result.now ≡ (held_of self.now).here.out }
     {
         &self.out
     }
 
-    /// The record store.
+    /// Returns the record store.
     pub fn store(&self) -> &Store
         ensures same { result.now ≡ (held_of self.now).here.store }
         ensures device { IsDevice (device_in (held_of self.now)) }
@@ -146,7 +146,7 @@ impl History {
         self.device.store()
     }
 
-    /// What a register of the device holds.
+    /// Returns the number in a register of the device.
     pub fn register(&self, reg: Reg) -> u64
         ensures { result ≡ register_in reg (device_in (held_of self.now)) }
     {
@@ -156,7 +156,7 @@ impl History {
         }
     }
 
-    /// Copies bytes of the device's range from a place on into a buffer, all of it.
+    /// Copies bytes of the device's range from `place` on into a buffer, and fills all of it.
     pub fn range_read(&self, place: u32, buf: &mut [u8])
         requires { place + length buf.old ≤ range_length }
         ensures { buf.new
@@ -165,7 +165,7 @@ impl History {
         self.device.range_read(place, buf);
     }
 
-    /// Writes bytes at a place of a file that is at most its length.
+    /// Writes bytes into a file at an offset, which is at most its length.
     pub fn write(&mut self, file: FileNo, place: u64, bytes: &[u8]) -> Result<(), NoMemory>
         requires { place ≤ length (file_in file (held_of self.old).here) }
         ensures ok { OnOk result (self.new ≡ with_change (wrote file place bytes.now) self.old) }
@@ -191,7 +191,7 @@ impl History {
         }
     }
 
-    /// Notes that a file is settled as it is.
+    /// Records that a file was synced.
     pub fn sync(&mut self, file: FileNo) -> Result<(), NoMemory>
         ensures ok { OnOk result (self.new ≡ with_change (synced file) self.old) }
         ensures err { OnErr result (self.new ≡ self.old) }
@@ -228,8 +228,8 @@ impl History {
         Ok(())
     }
 
-    /// Puts a record into the store, and answers what the store answers, unless the record of the
-    /// put can't be kept.
+    /// Puts a record into the store and returns what the store returns, or `NoMemory` if the put
+    /// can't be recorded.
     pub fn put(&mut self, id: u64, bytes: &[u8]) -> Result<Result<(), PutRefused>, NoMemory>
         ensures past { IfOk result (λ put. self.new
             ≡ past_after put (acted (put_record id bytes.now)) self.old) }
@@ -256,7 +256,7 @@ impl History {
         print(self.alloc, &mut self.out, &mut self.events, bytes)
     }
 
-    /// Both files as they are picked, and the store.
+    /// Returns both files in the state that `pick` names, the store, and how slow the device is.
     pub fn into_left(self, pick: Pick) -> Result<(Vec<u8>, Vec<u8>, Store, u64), NoMemory>
         ensures zero { IfOk result
             (λ left. IsPicked pick (disk_of self).zero (held_of self).here.file0 left.0.items) }

@@ -1,4 +1,4 @@
-//! What the clauses of a board say of calls one after another.
+//! What the clauses of a board say of several calls in a row.
 ghost use Rattle.std.specs.Prelude.{◌≡◌, ℕ, ◌≤◌, ◌↔◌, List, [], ◌∷◌, ◌++◌, length};
 ghost use Rattle.erst_store.specs.Store.{Stored};
 ghost use Rattle.board_core.specs.declared.board.FileNo.{FileNo};
@@ -11,11 +11,10 @@ ghost use Rattle.board_core.specs.Told.{overlay};
 
 use crate::Board;
 
-/// Every board keeps the disk model, over any calls one after another. The function does nothing:
-/// its clauses are what it is for.
+/// Every board keeps to the disk model, over any calls in a row.
 pub fn disk_model<B: Board>()
-    // Whatever calls are made after a sync of a file, a stop during them or after them leaves of
-    // that file what the disk model says of the bytes as of that sync and of the ranges written
+    // Whatever calls are made after a sync of a file, a crash during them or after them leaves of
+    // that file what the disk model says, from the bytes as of that sync and the ranges written
     // since.
     ensures file { (file : FileNo) (bytes : List ℕ) (calls : List Call) (first last : B)
         → IsSynced file bytes (B.clock first) → AreMade B.clock calls first last
@@ -23,8 +22,8 @@ pub fn disk_model<B: Board>()
         → MayLeaveFile (record { synced = bytes; written = ranges_in file calls })
         (file_in file left) }
 
-    // Both files, the record store and the printed text together: a stop leaves what the disk model
-    // says of one and the same moment.
+    // Both files, the record store and the printed text together: a crash leaves what the disk
+    // model says of one point in time.
     ensures together { (disk : Disk) (calls : List Call) (first last : B)
         → KeepsDisk disk (B.clock first) → AreMade B.clock calls first last
         → (left : Left) → (B.clock last).may_leave_since (B.clock first).now left
@@ -35,20 +34,20 @@ pub fn disk_model<B: Board>()
         → KeepsDisk (after_all calls disk) (B.clock last) }
 {}
 
-/// What the words of the disk model come to.
+/// What the definitions of the disk model amount to.
 pub fn disk_model_words()
-    // A file that wasn't written since its last sync is left as it was then.
+    // A file that wasn't written since its last sync is left as it was at that sync.
     ensures unwritten { (bytes left : List ℕ)
         → MayLeaveFile (record { synced = bytes; written = [] }) left ↔
         (left ≡ bytes) }
 
-    // The new length is that of the file with the bytes written over it.
+    // The new length is the length of the file with the bytes written over it.
     ensures grows { (place : ℕ) (bytes old : List ℕ) → place ≤ length old
         → length (overlay place bytes old)
         ≡ greatest_length (length old) (record { place = place; count = length bytes } ∷ []) }
 
-    // A board in memory leaves all that the disk model says, and nothing else. While it prints it
-    // leaves each beginning of the piece.
+    // A board in memory leaves exactly what the disk model says. During a print it leaves each
+    // beginning of the piece.
     ensures memory { (past : Past) (left : Left)
         → LeftNow (clock_of past) left ↔ MayLeave (disk_of past) rests
         left }
@@ -56,7 +55,7 @@ pub fn disk_model_words()
         → (clock_of (with_change (printed (part ++ missing)) past)).may_leave_since
         (clock_of past).now (record (held_of past).here { out = (held_of past).here.out ++ part }) }
 
-    // While its device acts it leaves the store as before the call and as after it.
+    // During a call of its device it leaves the store as before the call and as after it.
     ensures acting { (past : Past) (change : DeviceChange) (store : List Stored)
         → Becomes (device_step change (device_in (held_of past))).store
         (held_of past).here.store store

@@ -1,4 +1,4 @@
-//! A file of a board in memory as a stop may leave it.
+//! A file of a board in memory as a crash may leave it.
 ghost use Rattle.std.specs.Prelude.{◌≡◌, ◌↔◌, ℕ, ◌≤◌, IsTrue, [], ◌∷◌, length, take, drop, List, IfOk, OnOk};
 ghost use Rattle.board_core.specs.Steps.FileHistory.{bytes_after, bytes_after_all, disk_after_all, range_of, ranges_of, ArePartedAtSync};
 ghost use Rattle.board_core.specs.Steps.History.{change_of, changes_of, first_bytes};
@@ -11,7 +11,8 @@ use crate::history::{MemChange, MemFile};
 use crate::{FileNo, Pick};
 use ras_base::NoMemory;
 
-/// The file of this number as it is picked, if these events made it what it is.
+/// Returns the file of this number in the state that `pick` names, given the events that made it
+/// what it is.
 pub fn picked_bytes(
     file: MemFile,
     events: &[MemChange],
@@ -38,7 +39,7 @@ pub fn picked_bytes(
     }
 }
 
-// How many events lead up to the last sync of a file and with it: none if it wasn't synced.
+// How many events there are up to and including the last sync of a file: 0 if it wasn't synced.
 fn events_to_last_sync(events: &[MemChange], number: FileNo) -> usize
     ensures within { result ≤ length events.now }
     ensures parted { ArePartedAtSync number (changes_of (take result events.now))

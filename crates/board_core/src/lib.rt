@@ -1,10 +1,12 @@
-//! What the daemon stands on: a source of script bytes, and a board with two files, a device with
-//! its record store, and an output.
+//! What the daemon runs on: a source of script bytes, and a board with two files, a device with its
+//! record store, and an output.
 //!
-//! Both are traits. Their clauses say what each call does to what a source or board tells of
-//! itself, and when it may fail. A real file or pipe tells nothing, so a clause on contents binds
-//! it to nothing, while the versions in memory tell everything. Code that is generic over the
-//! traits can't find out which it was given.
+//! Both are traits. A source or board may be modelled: its clauses then say what each call does to
+//! its contents and when it may fail. A real file or pipe isn't modelled, so clauses about contents
+//! don't apply to it; the versions in memory are. Code that is generic over the traits can't find
+//! out which it was given.
+//!
+//! A public function with an empty body is a law: its clauses are the point.
 #![tactic(auto)]
 
 mod board;

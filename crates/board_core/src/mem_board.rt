@@ -18,11 +18,11 @@ use ras_base::NoMemory;
 use std::alloc::Global;
 use std::marker::Model;
 
-/// A board in memory, which tells all and fails at chosen calls.
+/// A board in memory, which is modelled in full and fails at chosen calls.
 ///
-/// It keeps each change since it was new, so that what a stop at any moment may have left is known.
-/// A failing call changes nothing but its counts and lists. A growth that is refused for want of
-/// memory makes the call fail, and raises the count of its kind and `starved`.
+/// It records each change since it was new, so what a crash at any point may have left is known. A
+/// failing call changes nothing but its counts and lists. If memory for a call runs out, the call
+/// fails, and the count of its kind and `starved` rise.
 #[derive(Drop)]
 pub struct MemBoard {
     history: History,
@@ -67,8 +67,8 @@ impl Model for MemBoard {
 }
 
 impl MemBoard {
-    /// A board with empty files, nothing printed and no faults, and a new device over this store
-    /// that is busy `slow` times after each EXECUTE_OPERATION.
+    /// Returns a board with empty files, nothing printed and no faults, over a new device with this
+    /// store. The device is busy for `slow` checks after each EXECUTE_OPERATION.
     pub fn new(alloc: Global, store: Store, slow: u64) -> Result<MemBoard, NoMemory>
         ensures { IfOk result (λ board. board ≡ new_board [] [] store slow) }
     {
@@ -99,7 +99,7 @@ impl MemBoard {
         })
     }
 
-    /// Puts these bytes into a file, synced, before any call of the trait was made.
+    /// Replaces a file's bytes, synced, before any call of the trait was made.
     pub fn set_file(&mut self, file: FileNo, bytes: Vec<u8>)
         requires { self.old.made ≡ 0 }
         ensures { self.new ≡ record self.old {
@@ -111,7 +111,7 @@ impl MemBoard {
         self.history.set_file(file, bytes);
     }
 
-    /// Makes the call of this number fail. All calls of the trait are numbered from 1.
+    /// Makes the call of this number fail. All calls of the trait are numbered, from 1.
     pub fn fail_at(&mut self, call: u64) -> Result<(), NoMemory>
         ensures ok { OnOk result (self.new
             ≡ record self.old { fails = self.old.fails ++ call ∷ [] }) }
@@ -121,59 +121,59 @@ impl MemBoard {
         Ok(())
     }
 
-    /// Makes every call past the first `calls` of the trait fail.
+    /// Makes every call of the trait after the first `calls` fail.
     pub fn stop_after(&mut self, calls: u64)
         ensures { self.new ≡ record self.old { allowed = min self.old.allowed calls } }
     {
         self.allowed = self.allowed.min(calls);
     }
 
-    /// How many calls failed because the board was refused a growth.
+    /// Returns how many calls failed because memory ran out.
     pub fn starved(&self) -> u64
         ensures { result ≡ self.now.starved }
     {
         self.starved
     }
 
-    /// The bytes printed so far.
+    /// Returns the bytes printed so far.
     pub fn out(&self) -> &[u8]
         ensures { result.now ≡ (told_of self.now).here.out }
     {
         self.history.out()
     }
 
-    /// A file's bytes.
+    /// Returns a file's bytes.
     pub fn file(&self, file: FileNo) -> &[u8]
         ensures { result.now ≡ file_of file (told_of self.now) }
     {
         self.history.file(file)
     }
 
-    /// The record store behind the device.
+    /// Returns the record store behind the device.
     pub fn store(&self) -> &Store
         ensures { result.now ≡ (told_of self.now).here.store }
     {
         self.history.store()
     }
 
-    /// The disk calls made so far.
+    /// Returns the disk calls made so far.
     pub fn disk_calls(&self) -> &[DiskCall]
         ensures { result.now ≡ self.now.disk_calls }
     {
         &self.disk_calls
     }
 
-    /// The accesses to the device made so far.
+    /// Returns the accesses to the device made so far.
     pub fn accesses(&self) -> &[Access]
         ensures { result.now ≡ self.now.accesses }
     {
         &self.accesses
     }
 
-    /// A new board with one state that a stop now may leave, and nothing printed. Its device is
-    /// new, with the store that a stop leaves, and as slow as this board's.
+    /// Returns a new board in one of the states that a crash now may leave, with nothing printed.
+    /// Its device is new, with the store that the crash leaves, and as slow as this board's.
     ///
-    /// After `NoMemory` this board is given up.
+    /// After `NoMemory` this board is lost.
     pub fn left(self, alloc: Global, pick: Pick) -> Result<MemBoard, NoMemory>
         ensures fresh { IfOk result (λ board. board
             ≡ new_board (told_of board).here.file0 (told_of board).here.file1
@@ -222,7 +222,7 @@ impl MemBoard {
         Ok(())
     }
 
-    // Ends a call that began well. It fails if its change was refused a growth.
+    // Ends a call that began successfully. It fails if memory for its change ran out.
     fn end(&mut self, call: BoardCall, made: Result<(), NoMemory>) -> Result<(), Failed>
         ensures { Ends call made self.old self.new result }
     {
@@ -232,7 +232,7 @@ impl MemBoard {
         }
     }
 
-    // Counts a call that was refused a growth.
+    // Counts a call for which memory ran out.
     fn starve(&mut self, call: BoardCall) -> Failed
         ensures { Faulted call (with_refusal self.old) self.new }
     {

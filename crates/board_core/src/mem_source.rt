@@ -7,7 +7,8 @@ ghost use Rattle.board_core.specs.MemSource.{Reading, CountsRead, read_fails_nex
 use crate::{Failed, Source};
 use std::marker::Model;
 
-/// A source over bytes in memory, which tells them, gives them in pieces and fails at chosen calls.
+/// A source over bytes in memory, which is modelled, returns the bytes in pieces and fails at
+/// chosen calls.
 #[derive(Drop)]
 pub struct MemSource {
     bytes: Vec<u8>,
@@ -30,8 +31,8 @@ impl Model for MemSource {
 }
 
 impl MemSource {
-    /// A source of these bytes that gives at most `piece` of them a call, which is at least 1. It
-    /// fails at the calls whose numbers, from 1, are in `fails`, and at no other.
+    /// Returns a source of these bytes. Each call returns at most `piece` of them, which has to be
+    /// at least 1. A call fails if and only if its number, from 1, is in `fails`.
     pub fn new(bytes: Vec<u8>, piece: usize, fails: Vec<u64>) -> MemSource
         requires { 0 < piece }
         ensures { result ≡ record {
@@ -66,10 +67,10 @@ impl Source for MemSource {
         ensures failed { OnErr result (Some self.new.left ≡ Some self.old.left) }
         ensures cause { HasCause self.old.faults self.new.faults result }
 
-        // Each read gives a whole piece, or what is left.
+        // Each read returns a whole piece, or what is left.
         ensures piece { IfOk result
             (λ n. n ≡ min self.old.piece (min (length buf.old) (length self.old.left))) }
-        // It fails exactly at the calls that were chosen.
+        // A read fails if and only if it was chosen to.
         ensures chosen { IsErr result ↔ IsTrue (read_fails_next self.old) }
         ensures counted { CountsRead self.old self.new }
     {

@@ -1,5 +1,4 @@
-//! Calls of a board that do one act each: a write that is on the disk once it has ended well, and a
-//! put.
+//! Calls of a board that do one act each: a write that is durable once it has succeeded, and a put.
 ghost use Rattle.std.specs.Prelude.{◌≤◌, ◌∷◌, [], length, IfSome};
 ghost use Rattle.erst_store.specs.DeviceLaws.{IsDevice};
 ghost use Rattle.erst_store.specs.Store.{refusal_of};
@@ -11,13 +10,13 @@ ghost use Rattle.board_core.specs.Told.{AnswersPut, Torn, device_of, file_of};
 
 use crate::{Board, BoardPut, Failed, FileNo};
 
-/// Writes `bytes` at `place`, which is at most the file's length, and syncs the file.
+/// Writes `bytes` at offset `place`, which is at most the file's length, and syncs the file.
 ///
-/// If a stop before left just what the board tells, so does a stop after it ended well, and the
-/// bytes are on the disk. A stop in between, or after `Failed`, leaves of the file what a torn
-/// write may leave, and all else as it was.
+/// If a crash before the call would have left exactly what the model says, so does a crash after it
+/// succeeded, and the bytes are durable. A crash in between, or after `Failed`, leaves of the file
+/// what a torn write may leave, and all else as it was.
 ///
-/// `Failed` comes only if the write or the sync failed.
+/// `Failed`: only if the write or the sync failed.
 pub fn write_through<B: Board>(
     file: FileNo,
     place: u64,
@@ -27,7 +26,8 @@ pub fn write_through<B: Board>(
     requires { IfSome (B.told board.old) (λ told. place ≤ length (file_of file told)) }
     ensures does { Does (looks B.told B.clock B.faults) (through file place bytes.now ∷ [])
         (one_end disk_call result) board.old board.new }
-    // Also if a stop before might have left something else than the board tells.
+    // This holds even if a crash before the call might have left something other than the model
+    // says.
     ensures stops { Adds (After (B.clock board.old) (InFile file (Torn place (length bytes.now))))
         (B.clock board.old) (B.clock board.new) }
 {
@@ -35,10 +35,10 @@ pub fn write_through<B: Board>(
     board.sync(file)
 }
 
-/// Puts a record into the store from outside, by one call.
+/// Puts a record into the store from outside, by one call of the board.
 ///
-/// `Refused` comes with the store's own refusal, which is told by what the board tells, or with
-/// `NoMemory`; then nothing was done. After `Failed` the record was put or wasn't.
+/// `Refused`: with the store's own refusal, which follows from the model, or with `NoMemory`;
+/// nothing was done. `Failed`: the record may or may not have been put.
 pub fn put<B: Board>(id: u64, bytes: &[u8], board: &mut B) -> Result<(), BoardPut>
     ensures does { Does (looks B.told B.clock B.faults) (put_acts id bytes.now result)
         (one_end device_call (put_failure result)) board.old board.new }

@@ -1,5 +1,5 @@
--- What the filter of PCI Express sections makes of the lines to come, by the reports that count so
--- far. Of a new filter it is what each line makes at its place (specs/Filter.antt).
+-- What the filter of PCI Express sections prints for the lines to come, given the reports that count so far. For a new
+-- filter it is what each line gives at its place (specs/Filter.antt).
 use Rattle.std.specs.Prelude.{ℕ, ◌+◌, ◌*◌, ◌≤◌, List, [], ◌∷◌, ◌++◌, Option, None, Some, Result, Ok, Err, if◌then◌else◌}
 use Rattle.std.specs.List.{flat_map, list_any}
 use Rattle.std.specs.Option.{option_map_or}
@@ -21,7 +21,7 @@ use Rattle.cper_pcie.specs.declared.section.PcieSection.{PcieSection}
 abbrev pub no_errors : ErrorCounts
 no_errors = record { uncor = 0; cor = 0 }
 
--- errors with those of one section more
+-- errors with the errors of one more section
 abbrev pub sums_with : ErrorCounts → PcieSection → ErrorCounts
 sums_with errors section = record {
   uncor = errors.uncor + error_count section.uncor;
@@ -39,17 +39,17 @@ abbrev pub totals_after : Totals → List PcieSection → Totals
 totals_after totals [] = totals
 totals_after totals (section ∷ sections) = totals_after (totals_with totals section) sections
 
--- the reports that count so far: their names, and what their sections add up to
+-- the reports that count so far: their names, and the totals of their sections
 pub record Counted : Type 0 where
   pub names : List Name
   pub totals : Totals
 
--- a name that is held, or is held now after the others
+-- the names with one more at the end, unless it is there
 abbrev pub names_with : List Name → Option Name → List Name
 names_with names None = names
 names_with names (Some name) = if list_any (same_name name) names then names else names ++ name ∷ []
 
--- the sections that are taken of a report if these names are held
+-- the sections that are taken of a report, given the names of the reports that count
 abbrev pub fresh_sections : List Name → FirmwareReport → List Taken
 fresh_sections names report =
     if list_any (same_name report.name) names then [] else pcie_sections report
@@ -73,7 +73,7 @@ abbrev pub line_answer : List Name → Result Line LineRefused → Result (List 
 line_answer names (Ok line) = Ok (text_with names (line_report line))
 line_answer names (Err why) = Err why
 
--- an answer, and the answers after it if it is no refusal
+-- an answer, and the answers after it unless it is a refusal
 abbrev pub then_answers : Result (List ℕ) LineRefused → List (Result (List ℕ) LineRefused) → List (Result (List ℕ) LineRefused)
 then_answers (Ok text) answers = Ok text ∷ answers
 then_answers (Err why) answers = Err why ∷ []
@@ -92,7 +92,7 @@ counted_from counted (line ∷ lines) =
 abbrev pub last_from : Counted → List (List ℕ) → List ℕ
 last_from counted lines = totals_text (counted_from counted lines).totals
 
--- what is made of lines after those by which these reports count
+-- what is printed for lines after the lines by which these reports count
 abbrev pub filter_from : Counted → Filter
 filter_from counted = record {
   answers = answers_from counted;

@@ -24,7 +24,7 @@ correctable_names =
 abbrev pub bits_of : ℕ → List ℕ
 bits_of status = filter (λ bit. is_set bit status) (range_with_len 0 32)
 
--- how many bits of a status are set; one that isn't there has none
+-- how many bits of a status are set; 0 if there is no status
 abbrev pub error_count : Option ℕ → ℕ
 error_count None = 0
 error_count (Some status) = length (bits_of status)

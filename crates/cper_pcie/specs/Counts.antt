@@ -9,11 +9,11 @@ use Rattle.cper_pcie.specs.declared.counts.ErrorCounts.{ErrorCounts}
 use Rattle.cper_pcie.specs.Bits.{error_count}
 use Rattle.cper_pcie.specs.Devices.{same_device}
 
--- what a section is counted under: its function, or that it names none
+-- the key of a section: its function, or that it names none
 abbrev pub counted_device : PcieSection → Option (Option PcieDevice)
 counted_device section = Some section.device
 
--- a sum in a register of 64 bits, which stays at its greatest number
+-- a sum in 64 bits, which stops at the greatest number
 abbrev pub in_64_bits : ℕ → ℕ
 in_64_bits sum = min sum (2 ^ 64 - 1)
 
@@ -29,14 +29,14 @@ errors_in sections = record {
 abbrev pub counts_of : List PcieSection → List (Option PcieDevice × ErrorCounts)
 counts_of sections = table same_device counted_device errors_in sections
 
--- errors with those of one section more
+-- errors with the errors of one more section
 unfoldable pub errors_with : ErrorCounts → PcieSection → ErrorCounts
 errors_with errors section = record {
   uncor = in_64_bits (errors.uncor + error_count section.uncor);
   cor = in_64_bits (errors.cor + error_count section.cor);
 }
 
--- counts with one section more: its function's row grows, or one begins after the others
+-- counts with one more section: its function's row grows, or a row is added after the others
 abbrev pub pcie_counts_with : List (Option PcieDevice × ErrorCounts) → PcieSection → List (Option PcieDevice × ErrorCounts)
 pcie_counts_with rows section =
     updated_rows same_device section.device (errors_with (record { uncor = 0; cor = 0 }) section)

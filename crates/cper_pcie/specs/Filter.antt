@@ -1,5 +1,4 @@
--- What the filter of PCI Express sections makes of a script: each line judged by all lines before
--- it.
+-- What the filter of PCI Express sections prints for a script: each line depends on all lines before it.
 use Rattle.std.specs.Prelude.{ℕ, List, [], ◌∷◌, map, Result, Ok, Err}
 use Rattle.std.specs.List.{flat_map}
 use Rattle.line_filters.specs.Filter.{Filter}
@@ -11,15 +10,16 @@ use Rattle.cper_pcie.specs.Reports.{LinePlace, taken_at, taken_of}
 use Rattle.cper_pcie.specs.Texts.{read_sections, section_line, totals_text}
 use Rattle.cper_pcie.specs.Totals.{totals_of}
 
--- the text of a line: a line of each section that is taken of it
+-- the text of a line: a line for each of its sections that is taken
 abbrev pub pcie_text : LinePlace → List ℕ
 pcie_text place = flat_map section_line (taken_at place)
 
--- a line's text, if it reads, and else why it is refused
+-- a line's text if it can be read, else why it is refused
 abbrev pub text_or_refusal : LinePlace → Result Line LineRefused → Result (List ℕ) LineRefused
 text_or_refusal place (Ok line) = Ok (pcie_text place)
 text_or_refusal place (Err why) = Err why
 
+-- the text or the refusal of a line after all lines before it
 abbrev pub place_answer : LinePlace → Result (List ℕ) LineRefused
 place_answer place = text_or_refusal place (line_of place.1)
 
@@ -29,15 +29,16 @@ to_first_refusal [] = []
 to_first_refusal (Ok text ∷ answers) = Ok text ∷ to_first_refusal answers
 to_first_refusal (Err why ∷ answers) = Err why ∷ []
 
+-- the texts of lines, up to the first refusal
 abbrev pub pcie_answers : List (List ℕ) → List (Result (List ℕ) LineRefused)
 pcie_answers lines = to_first_refusal (map place_answer (places lines))
 
--- no text is held back until the end
+-- no text waits for the end
 abbrev pub pcie_rest : List (List ℕ) → List ℕ
 pcie_rest lines = []
 
--- at the end, what all sections that read add up to: a line of each function in first-seen order,
--- and one of the numbers of sections and of functions; no function counts as one
+-- the totals of all sections that were read, at the end: a line for each function in first-seen order, and a line with
+-- the numbers of sections and of functions; sections that name no function count as one function
 abbrev pub pcie_last : List (List ℕ) → List ℕ
 pcie_last lines = totals_text (totals_of (read_sections (taken_of lines)))
 

@@ -60,8 +60,8 @@ abbrev pub report_in_record : ℕ → Result (List ℕ) Unreadable → Option Fi
 report_in_record id (Ok own) = Some (record { name = names.Record id; sections = record_sections own })
 report_in_record id (Err why) = None
 
--- A record to be stored is a report if it fits the store and reads there under its identifier: as
--- the store would give it, with zeros after it.
+-- A record to be stored is a report if it fits the store and can be read there under its identifier: as the store would
+-- return it, with zeros after it.
 abbrev pub report_in_store : ℕ → List ℕ → Option FirmwareReport
 report_in_store id bytes =
     if nat_le (length bytes) STORED_LENGTH then report_in_record id (read_under id (filled bytes))
@@ -72,8 +72,8 @@ abbrev pub report_in_block : Name → Result BlockParts BlockRefused → Option 
 report_in_block name (Ok block) = Some (record { name = name; sections = block_sections block })
 report_in_block name (Err why) = None
 
--- A line is a report if it is of such a record, or of a block that reads, whichever error sources
--- the firmware has. No other line is one.
+-- A line is a report if it has such a record, or a block that can be read, whichever error sources the firmware has. No
+-- other line is a report.
 abbrev pub line_report : Line → Option FirmwareReport
 line_report (Put id bytes) = report_in_store id bytes
 line_report (Reported (Block boot seconds source number bytes)) =
@@ -107,10 +107,11 @@ pcie_section name found =
 abbrev pub pcie_sections : FirmwareReport → List Taken
 pcie_sections report = filter_map (pcie_section report.name) report.sections
 
--- the name of a report that has such a section
+-- the name of a report that has a PCI Express section
 abbrev pub pcie_name : FirmwareReport → Option Name
 pcie_name report = if list_any is_pcie report.sections then Some report.name else None
 
+-- the name of a line's report, if that has a PCI Express section
 abbrev pub line_name : List ℕ → Option Name
 line_name line = option_and_then pcie_name (line_report_in line)
 
@@ -118,18 +119,19 @@ line_name line = option_and_then pcie_name (line_report_in line)
 abbrev pub LinePlace : Type 0
 LinePlace = List (List ℕ) × List ℕ
 
--- whether a line among these is of a report of this name that has such a section
+-- whether one of these lines is a report of this name that has a PCI Express section
 abbrev pub is_known : List (List ℕ) → Name → Bool
 is_known lines name = list_any (same_name name) (filter_map line_name lines)
 
--- All such sections of a line's report are taken if it is the first report of its name that has
--- some, and else none.
+-- All PCI Express sections of a line's report are taken if it is the first report of its name that has some; otherwise
+-- none is.
 abbrev pub first_sections : List (List ℕ) → FirmwareReport → List Taken
 first_sections before report = if is_known before report.name then [] else pcie_sections report
 
+-- the sections that are taken of a line after all lines before it
 abbrev pub taken_at : LinePlace → List Taken
 taken_at place = option_map_or (first_sections place.0) (line_report_in place.1) []
 
--- all that are taken of a script's lines
+-- all sections that are taken of a script's lines
 abbrev pub taken_of : List (List ℕ) → List Taken
 taken_of lines = flat_map taken_at (places lines)

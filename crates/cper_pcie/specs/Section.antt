@@ -17,8 +17,8 @@ pcie_guid =
 abbrev pub pcie_validation : List ℕ → ℕ
 pcie_validation bytes = number_at 0 8 bytes
 
--- The device identification, which stands at 24: the vendor and the device's kind, then the class
--- code (3), which isn't read, then the numbers of function, device, segment and primary bus.
+-- The device identification, at byte 24: the vendor and the device's id, then the class code (3), which isn't read,
+-- then the numbers of function, device, segment and primary bus.
 unfoldable pub pcie_device_of : List ℕ → PcieDevice
 pcie_device_of bytes = record {
   segment = number_at 33 2 bytes;
@@ -29,16 +29,15 @@ pcie_device_of bytes = record {
   id = number_at 26 2 bytes;
 }
 
--- The two status words of the extended capability for advanced error reporting, which stands at
--- 112: that of uncorrectable errors at 4 of it, that of correctable errors at 16.
+-- The two status words of the extended capability for advanced error reporting, which is at byte 112: uncorrectable
+-- errors at byte 4 of it, correctable errors at byte 16.
 abbrev pub uncorrectable_of : List ℕ → ℕ
 uncorrectable_of bytes = number_at 116 4 bytes
 
 abbrev pub correctable_of : List ℕ → ℕ
 correctable_of bytes = number_at 128 4 bytes
 
--- a section by its table: bit 3 says that the device identification is valid, bit 7 that the
--- capability is
+-- a section by its table: bit 3 says that the device identification is valid, bit 7 that the capability is valid
 unfoldable pub pcie_of : List ℕ → Result PcieSection PcieRefused
 pcie_of bytes =
     if nat_lt (length bytes) PCIE_LENGTH then Err Short

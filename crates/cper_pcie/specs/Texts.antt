@@ -1,4 +1,4 @@
--- The lines that are printed of sections, and of what they add up to.
+-- The lines that are printed of sections, and of their totals.
 use Rattle.std.specs.Prelude.{ℕ, ◌==◌, nat_eq, nat_lt, List, [], ◌∷◌, ◌++◌, codes, decimal, drop, length, map, unwrap_or, Option, None, Some, Result, Ok, Err, if◌then◌else◌}
 use Rattle.std.specs.Int.{to_be_bytes, w16}
 use Rattle.std.specs.List.{filter_map, flat_map, join_with_byte}
@@ -29,7 +29,7 @@ two_digits number = encode_lower (number ∷ [])
 abbrev pub few_digits : ℕ → List ℕ
 few_digits number = if nat_lt number 16 then drop 1 (two_digits number) else two_digits number
 
--- where a function stands, and what it says that it is, as lspci prints them
+-- where a function is, and what it says that it is, as lspci prints them
 unfoldable pub place_text : PcieDevice → List ℕ
 place_text device =
     four_digits device.segment ++ codes ":" ++ two_digits device.bus
@@ -44,7 +44,7 @@ told_device text (Some device) = text device
 
 -- ---- a status
 
--- a bit by its name; one that has none, by its number
+-- the name of a bit, or its number if it has no name
 abbrev pub bit_name : List (ℕ × List ℕ) → ℕ → List ℕ
 bit_name names bit = unwrap_or (lookup (nat_eq bit) names) (codes "bit-" ++ decimal bit)
 
@@ -76,9 +76,9 @@ abbrev pub section_line : Taken → List ℕ
 section_line taken = line_with (
     codes "pcie " ++ name_text taken.name ++ section_text taken.severity (pcie_of taken.bytes))
 
--- ---- what all sections add up to
+-- ---- the totals of all sections
 
--- the sections that read
+-- the sections that can be read
 abbrev pub read_sections : List Taken → List PcieSection
 read_sections taken = filter_map (λ (section : Taken). result_ok (pcie_of section.bytes)) taken
 

@@ -1,4 +1,4 @@
--- What sections add up to: for each function the sums of their errors, and how many sections.
+-- The totals of sections: for each function the sums of their errors, and how many sections there are.
 use Rattle.std.specs.Prelude.{ℕ, length, List, Option}
 use Rattle.std.specs.List.{sum_by}
 use Rattle.row_tables.specs.Tables.{table}

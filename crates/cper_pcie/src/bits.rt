@@ -1,11 +1,11 @@
-//! The bits of a status, each a kind of error.
+//! The bits of a status, each of which is a kind of error.
 
 ghost use Rattle.std.specs.Prelude.{◌≡◌, ◌≤◌, nat_eq};
 ghost use Rattle.std.specs.Map.{lookup};
 ghost use Rattle.std.specs.Option.{option_map};
 ghost use Rattle.cper_pcie.specs.Bits.{uncorrectable_names, correctable_names, error_count};
 
-/// The name of an uncorrectable error by its bit, if the bit has one.
+/// Returns the name of an uncorrectable error by its bit, or `None` if the bit has no name.
 pub fn uncorrectable_name(bit: u32) -> Option<&'static [u8]>
     ensures { option_map (λ name. name.now) result ≡ lookup (nat_eq bit) uncorrectable_names }
 {
@@ -30,7 +30,7 @@ pub fn uncorrectable_name(bit: u32) -> Option<&'static [u8]>
     }
 }
 
-/// The name of a correctable error by its bit, if the bit has one.
+/// Returns the name of a correctable error by its bit, or `None` if the bit has no name.
 pub fn correctable_name(bit: u32) -> Option<&'static [u8]>
     ensures { option_map (λ name. name.now) result ≡ lookup (nat_eq bit) correctable_names }
 {
@@ -47,7 +47,7 @@ pub fn correctable_name(bit: u32) -> Option<&'static [u8]>
     }
 }
 
-// How many bits of a status are set; one that isn't there has none.
+// How many bits of a status are set; 0 if there is no status.
 #[tactic(auto, using(crate::proofs::BitLemmas::ones_are_bits))]
 pub(crate) fn error_count(status: Option<u32>) -> u64
     ensures count { result ≡ error_count status }

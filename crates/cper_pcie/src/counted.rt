@@ -17,7 +17,7 @@ use row_tables::{RowRefused, RowTable};
 use std::alloc::Global;
 use std::marker::Model;
 
-// The names of the reports that count, and what their sections add up to.
+// The names of the reports that count, and the totals of their sections.
 #[derive(Drop)]
 pub(crate) struct Counted {
     names: RowTable<Name, ()>,
@@ -37,7 +37,7 @@ impl Model for Counted {
 }
 
 impl Counted {
-    // None.
+    // Returns no reports.
     pub(crate) fn new(alloc: Global) -> Counted
         ensures { result ≡ none_counted }
     {
@@ -47,8 +47,8 @@ impl Counted {
         }
     }
 
-    // Takes a report: if it has PCI Express sections and none of its name counts yet, it counts,
-    // and the lines of these sections are added.
+    // Takes a report. If it has PCI Express sections and no report of its name counts yet, it
+    // counts, and the lines of these sections are added.
     pub(crate) fn take(
         &mut self,
         name: &Name,
@@ -74,7 +74,7 @@ impl Counted {
         }
     }
 
-    // Adds what the sections of all reports that count add up to.
+    // Adds the totals of the sections of all reports that count.
     pub(crate) fn push_totals(&self, text: &mut Vec<u8>) -> Result<(), NoMemory>
         ensures { OnOk result (text.new.items ≡ text.old.items ++ totals_text self.now.totals) }
     {

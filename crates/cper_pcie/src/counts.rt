@@ -17,7 +17,7 @@ use std::alloc::Global;
 use std::hash::{Hash, Hasher};
 use std::marker::Model;
 
-/// How many errors were reported: the bits that are set in the statuses.
+/// How many errors were reported: how many bits are set in the statuses.
 #[derive(Clone, Copy, Debug, PartialEq, Eq)]
 pub struct ErrorCounts {
     /// Uncorrectable errors.
@@ -42,7 +42,7 @@ impl ErrorCounts {
     }
 }
 
-// What a row is kept under: the function that sections name, or that they name none.
+// The key of a row: the function that sections name, or that they name none.
 #[derive(Clone, Copy, Debug)]
 struct Key {
     device: Option<PcieDevice>,
@@ -87,10 +87,10 @@ impl Hash for Key {
     }
 }
 
-/// How many errors each function had by the sections that were added, in the order in which the
-/// functions were first seen. Sections that name no function are counted together, as one.
+/// How many errors each function had, by the sections that were added, in the order in which the
+/// functions were first seen. Sections that name no function are counted together.
 ///
-/// A count stays at 2^64 - 1 once it is there.
+/// A count stops at 2^64 - 1.
 #[derive(Drop)]
 pub struct PcieCounts {
     table: RowTable<Key, ErrorCounts>,
@@ -109,7 +109,7 @@ impl Model for PcieCounts {
 }
 
 impl PcieCounts {
-    /// The counts of no sections.
+    /// Returns counts without any section.
     pub fn new(alloc: Global) -> PcieCounts
         ensures { result ≡ counts_of [] }
     {
@@ -118,12 +118,14 @@ impl PcieCounts {
         }
     }
 
-    /// Counts a section. After `NoMemory` the counts stay.
+    /// Counts a section.
+    ///
+    /// `NoMemory`: only if memory runs out; the counts are then unchanged.
     pub fn add(&mut self, section: &PcieSection) -> Result<(), NoMemory>
         ensures ok { OnOk result (self.new ≡ pcie_counts_with self.old section.now) }
         ensures err { OnErr result (self.new ≡ self.old) }
 
-        // The counts of a list of sections become those of the list with this section.
+        // The counts of a list of sections become the counts of the list with this section.
         ensures counts { (sections : List PcieSection) → self.old ≡ counts_of sections
             → OnOk result (self.new ≡ counts_of (sections ++ section.now ∷ [])) }
     {
@@ -137,15 +139,15 @@ impl PcieCounts {
         Ok(())
     }
 
-    /// How many functions have a row.
+    /// Returns how many functions have a row.
     pub fn len(&self) -> usize
         ensures { result ≡ length self.now }
     {
         self.table.len()
     }
 
-    /// The function at a place, from 0 in first-seen order, and how many uncorrectable and
-    /// correctable errors it had.
+    /// Returns a function by its index, from 0 in first-seen order, and how many uncorrectable and
+    /// correctable errors it had. The index has to be below `len`.
     pub fn row(&self, i: usize) -> (Option<PcieDevice>, u64, u64)
         requires { i < length self.now }
         ensures { slice_get self.now i

@@ -20,11 +20,11 @@ use ras_script::{ErrorReport, Line, LineRefused, read_line};
 use std::alloc::Global;
 use std::marker::Model;
 
-/// Tells the PCI Express sections of the records and blocks of a script, and at its end the errors
-/// of each function. Of reports of one name, the first with such sections counts, and no other.
+/// Prints the PCI Express sections of the records and blocks of a script, and at its end the errors
+/// of each function. Of the reports with one name, only the first with such sections counts.
 ///
-/// It keeps the names of the reports that count, a row of each function, and one buffer of 16,384
-/// bytes. Once memory ran out, none of the lines before counts any more.
+/// The filter stores the names of the reports that count, a row for each function, and one buffer
+/// of 16,384 bytes. Once memory ran out, no earlier line counts any more.
 #[derive(Drop)]
 pub struct PcieFilter {
     counted: Counted,
@@ -43,7 +43,7 @@ impl Model for PcieFilter {
 }
 
 impl PcieFilter {
-    /// A filter of a script's lines.
+    /// Returns a filter at the start of a script.
     pub fn new(alloc: Global) -> PcieFilter
         ensures makes { filter_from result.counted ≡ pcie_filter }
         ensures taken { result.taken ≡ 0 }
@@ -73,7 +73,7 @@ impl LineFilter for PcieFilter {
                 Ok(())
             }
             Err(NoMemory) => {
-                // What was taken of the line is given up, and all before it.
+                // What was taken of the line is dropped, and everything before it.
                 self.counted = Counted::new(alloc);
                 Err(LineRefused::NoMemory)
             }
@@ -148,7 +148,7 @@ fn take_record(
     fill(buffer, bytes)?;
     match read_stored(id, buffer) {
         Ok(rec) => {
-            // The count has 16 bits, so that one record can't have too many sections.
+            // The count has 16 bits, so one record can't have too many sections.
             let _count = rec.count();
             counted.take(&Name::Record { id }, &Sections::Record(rec), text)
         }

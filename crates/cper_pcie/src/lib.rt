@@ -1,6 +1,8 @@
 //! PCI Express sections of CPER records, the errors that they count for each device, and a filter
-//! that tells them of a script. It follows the UEFI specification, appendix N, "PCI Express Error
+//! that prints them for a script. It follows the UEFI specification, appendix N, "PCI Express Error
 //! Section".
+//!
+//! A public function with an empty body is a law: its clauses are the point.
 #![tactic(auto)]
 
 mod bits;

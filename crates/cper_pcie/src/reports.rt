@@ -12,13 +12,13 @@ use cper_records::Record;
 use cper_sections::Descriptor;
 use ras_base::NoMemory;
 
-/// The bytes that the record store gives of a record, and the most that it takes.
+/// The bytes that the record store returns for a record, and the most bytes of a record.
 pub const STORED_LENGTH: usize = 16_384;
 
 // The sections of a report.
 #[derive(Drop)]
 pub(crate) enum Sections<'a> {
-    // Those of a record.
+    // The sections of a record.
     Record(Record<'a>),
     // The entries of a generic error status block.
     Block(Block<'a>),
@@ -67,8 +67,8 @@ impl<'a> Sections<'a> {
     }
 }
 
-// Fills a buffer with a record as the store gives it: with zeros after its bytes. Memory is taken
-// for the first record alone.
+// Fills a buffer with a record as the store returns it, with zeros after its bytes. Memory is
+// allocated only for the first record.
 pub(crate) fn fill(buffer: &mut Vec<u8>, bytes: &[u8]) -> Result<(), NoMemory>
     requires { length bytes.now ≤ STORED_LENGTH }
     ensures { OnOk result (buffer.new.items ≡ filled bytes.now) }

@@ -18,31 +18,31 @@ const PCIE: [u8; 16] = [
     0xd9, 0x95, 0xe9, 0x54, 0xbb, 0xc1, 0x43, 0x0f, 0xad, 0x91, 0xb4, 0x4d, 0xcb, 0x3c, 0x6f, 0x35,
 ];
 
-/// Which PCI Express function an error is of: where it stands, and what it says that it is.
+/// A PCI Express function: where it is, and what it says that it is.
 #[derive(Clone, Copy, Debug, PartialEq, Eq, Hash)]
 pub struct PcieDevice {
     /// The segment.
     pub segment: u16,
     /// The bus.
     pub bus: u8,
-    /// The device's number on the bus.
+    /// The number of the device on the bus.
     pub device: u8,
-    /// The function's number in the device.
+    /// The number of the function in the device.
     pub function: u8,
-    /// Who made the device.
+    /// The vendor's number.
     pub vendor: u16,
-    /// Which of the vendor's devices it is.
+    /// The vendor's number for the device.
     pub id: u16,
 }
 
-/// What a PCI Express section says. Each field is there exactly if its validation bit is set.
+/// What a PCI Express section says. Each field is there if and only if its validation bit is set.
 #[derive(Clone, Copy, Debug, PartialEq, Eq)]
 pub struct PcieSection {
     /// The function that had the errors.
     pub device: Option<PcieDevice>,
-    /// Its uncorrectable error status, a bit for each kind of error.
+    /// The function's uncorrectable error status, a bit for each kind of error.
     pub uncor: Option<u32>,
-    /// Its correctable error status, a bit for each kind of error.
+    /// The function's correctable error status, a bit for each kind of error.
     pub cor: Option<u32>,
 }
 
@@ -54,7 +54,8 @@ pub enum PcieRefused {
     Short,
 }
 
-/// Whether a GUID is that of PCI Express sections. (UEFI, appendix N, "Section Descriptor".)
+/// Returns whether this GUID is the type of PCI Express sections. (UEFI, appendix N, "Section
+/// Descriptor".)
 #[tactic(auto, unfolding(crate::specs::Section::pcie_guid))]
 pub fn is_pcie(guid: Uuid) -> bool
     ensures { result ≡ bytes_eq guid pcie_guid }
@@ -62,11 +63,11 @@ pub fn is_pcie(guid: Uuid) -> bool
     *guid.as_bytes() == PCIE
 }
 
-/// Reads a PCI Express section. (UEFI, appendix N, "PCI Express Error Section".) Of its fields
-/// those are read that tell whose errors it reports, and which; bytes after the 208th are passed
-/// over. It takes no memory.
+/// Returns what a PCI Express section says of whose errors it reports, and which. Its other fields
+/// and bytes after the 208th are ignored. Allocates nothing. (UEFI, appendix N, "PCI Express Error
+/// Section".)
 ///
-/// `Short` comes exactly if there are fewer than 208 bytes.
+/// `Short`: if and only if there are fewer than 208 bytes.
 #[tactic(auto, unfolding(crate::specs::Section::pcie_of))]
 pub fn read_pcie(bytes: &[u8]) -> Result<PcieSection, PcieRefused>
     ensures section { result ≡ pcie_of bytes.now }

@@ -1,4 +1,4 @@
-//! The lines that are printed of sections, and of what they add up to.
+//! The lines that are printed of sections, and of their totals.
 
 ghost use Rattle.std.specs.Prelude.{◌≡◌, ◌<◌, ◌++◌, OnOk};
 ghost use Rattle.cper_pcie.specs.Texts.{bit_name, bits_text, device_line, pcie_end_line, few_digits};
@@ -88,7 +88,7 @@ pub(crate) fn push_end(text: &mut Vec<u8>, sections: u64, devices: u64) -> Resul
     Ok(())
 }
 
-// Adds where a function stands, if it is told.
+// Adds where a function is, if the section says so.
 #[tactic(auto, unfolding(crate::specs::Texts::place_text))]
 fn push_place(text: &mut Vec<u8>, device: Option<PcieDevice>) -> Result<(), NoMemory>
     ensures { OnOk result (text.new.items ≡ text.old.items ++ told_device place_text device) }
@@ -106,7 +106,7 @@ fn push_place(text: &mut Vec<u8>, device: Option<PcieDevice>) -> Result<(), NoMe
     push_few_digits(text, device.function)
 }
 
-// Adds what a function says that it is, if it is told.
+// Adds what a function says that it is, if the section says so.
 #[tactic(auto, unfolding(crate::specs::Texts::id_text))]
 fn push_id(text: &mut Vec<u8>, device: Option<PcieDevice>) -> Result<(), NoMemory>
     ensures { OnOk result (text.new.items ≡ text.old.items ++ told_device id_text device) }
@@ -152,7 +152,7 @@ fn push_few_digits(text: &mut Vec<u8>, number: u8) -> Result<(), NoMemory>
     Ok(())
 }
 
-// Adds the bits of a status, if it is told.
+// Adds the bits of a status, if it is there.
 fn push_status(text: &mut Vec<u8>, kind: Kind, status: Option<u32>) -> Result<(), NoMemory>
     ensures { OnOk result
         (text.new.items ≡ text.old.items ++ status_text (bit_names_of kind) status) }

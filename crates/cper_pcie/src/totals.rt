@@ -1,4 +1,4 @@
-//! What sections add up to.
+//! The totals of sections.
 
 ghost use Rattle.std.specs.Prelude.{◌≡◌, ◌<◌, ◌^◌, ◌++◌, OnOk};
 ghost use Rattle.cper_pcie.specs.Along.{totals_with};
@@ -27,12 +27,12 @@ impl Model for Totals {
 
     ghost view = { λ t. record { rows = t.counts; sections = t.sections } };
 
-    // Each section has 32 errors of each kind at most, so that no count comes to its end.
+    // Each section has at most 32 errors of each kind, so no count reaches its end.
     ghost invariant = { λ t. AreFew (record { rows = t.counts; sections = t.sections }) };
 }
 
 impl Totals {
-    // Of no sections.
+    // Returns the totals of no sections.
     pub(crate) fn new(alloc: Global) -> Totals
         ensures { result ≡ no_totals }
     {

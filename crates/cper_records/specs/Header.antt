@@ -20,7 +20,7 @@ record_length bytes = number_at 20 4 bytes
 abbrev pub record_id : List ℕ → ℕ
 record_id bytes = number_at 96 8 bytes
 
--- whether the two signatures stand at their places
+-- whether the two signatures are where they have to be
 abbrev pub has_signatures : List ℕ → Bool
 has_signatures bytes =
     starts_with nat_eq bytes (codes "CPER") && starts_with nat_eq (drop 6 bytes) (0xff ∷ 0xff ∷ 0xff ∷ 0xff ∷ [])

@@ -1,4 +1,4 @@
--- What a record is, and why bytes begin with none.
+-- What a record is, and why bytes don't begin with one.
 use Rattle.std.specs.Prelude.{◌≡◌, ◌≤◌, ◌<◌, ◌⊎◌, ℕ, List, length, IsTrue, IsOk, IsErr}
 use Rattle.std.specs.Bool.{IsFalse}
 use Rattle.ras_base.specs.Prefix.{IsPrefixOf}
@@ -14,30 +14,30 @@ pub record HasHeader (own : List ℕ) : Type 0 where
   pub signed : IsTrue (has_signatures own)
   pub whole : record_length own ≡ length own
 
--- their descriptors lie inside them
+-- the section descriptors, as many as the header counts, lie inside the bytes
 abbrev pub HasDescriptors : List ℕ → Type 0
 HasDescriptors own = descriptor_at (section_count own) ≤ length own
 
--- and so do their sections
+-- the sections that the descriptors name lie inside the bytes
 abbrev pub HasSections : List ℕ → Type 0
 HasSections own = (i : ℕ) → i < section_count own → section_end own i ≤ length own
 
--- bytes are one record, no more
+-- the bytes are one record and nothing else
 pub record IsRecord (own : List ℕ) : Type 0 where
   pub front : HasHeader own
   pub descriptors : HasDescriptors own
   pub inside : HasSections own
   pub readable : (i : ℕ) → i < section_count own → IsOk (section_at own i)
 
--- the bytes begin with a record's own, which have a header, and this holds of them
+-- the bytes begin with bytes that have a header, and of these bytes the given property holds
 abbrev pub BeginsWithHeader : List ℕ → (List ℕ → Type 0) → Type 0
 BeginsWithHeader bytes Holds = (own : List ℕ) × (IsPrefixOf own bytes × HasHeader own × Holds own)
 
--- one of the sections is such a one
+-- some section has the given property
 abbrev pub HasSection : List ℕ → (ℕ → Type 0) → Type 0
 HasSection own Holds = (i : ℕ) × ((i < section_count own) × Holds i)
 
--- why bytes begin with no record, each reason if none before it applies
+-- why bytes don't begin with a record; each reason applies only if none before it does
 abbrev pub IsNoRecord : List ℕ → RecordRefused → Type 0
 IsNoRecord bytes Short = length bytes < HEADER_LENGTH
 IsNoRecord bytes Signature = (HEADER_LENGTH ≤ length bytes) × IsFalse (has_signatures bytes)

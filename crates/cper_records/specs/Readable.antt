@@ -10,11 +10,11 @@ use Rattle.cper_records.specs.declared.refusals.Unreadable.TheVariants.{NoRecord
 abbrev pub filled : List ℕ → List ℕ
 filled bytes = bytes ++ replicate (16384 - length bytes) 0
 
--- a record under an identifier: it is to be its own
+-- the record that was read, if its identifier is the given one
 abbrev pub own_under : ℕ → Result (List ℕ) RecordRefused → Result (List ℕ) Unreadable
 own_under id (Ok own) = if record_id own == id then Ok own else Err OtherId
 own_under id (Err why) = Err (NoRecord why)
 
--- the record that stands in the bytes that a store gave under an identifier, or why there is none
+-- the record at the front of the bytes that a store returned under an identifier, or why there is none
 abbrev pub read_under : ℕ → List ℕ → Result (List ℕ) Unreadable
 read_under id buffer = own_under id (record_of buffer)

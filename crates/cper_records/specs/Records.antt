@@ -1,5 +1,5 @@
--- A record by its bytes, or the first reason that it can't be read. specs/Laid.antt says what it
--- comes to.
+-- A record by its bytes, or the first reason that it can't be read. specs/Laid.antt says the same without the order of
+-- reading.
 use Rattle.std.specs.Prelude.{ℕ, not, nat_lt, List, length, take, Result, Ok, Err, if◌then◌else◌}
 use Rattle.cper_records.specs.Header.{section_count, record_length, has_signatures, has_record_length}
 use Rattle.cper_records.specs.Descriptors.{descriptor_at, is_out, is_section_refused, some_below}

@@ -1,4 +1,4 @@
-//! What is said of records for every list of bytes.
+//! What holds of records for every list of bytes.
 
 ghost use Rattle.std.specs.Prelude.{◌≡◌, ◌≤◌, ◌↔◌, ℕ, List, length, take, Ok, Err};
 ghost use Rattle.ras_base.specs.Prefix.{IsPrefixOf};
@@ -10,9 +10,9 @@ ghost use Rattle.cper_records.specs.Laid.{IsRecord, IsNoRecord};
 ghost use Rattle.cper_records.specs.Readable.{filled, read_under};
 ghost use Rattle.cper_records.specs.Records.{record_of};
 
-/// A record reads exactly if it is signed, its length, its descriptors and its sections lie
-/// inside the bytes, and each section reads; it is those of the first bytes that its length says.
-/// Each refusal comes exactly if it is the first that applies.
+/// A record can be read if and only if it is signed, its length, its descriptors and its sections
+/// lie inside the bytes, and each section can be read. The record is then the first bytes, as many
+/// as its length says. Each refusal is returned if and only if it is the first that applies.
 pub fn records_are_laid_out()
     ensures read { (bytes own : List ℕ)
         → (record_of bytes ≡ Ok own) ↔ (IsPrefixOf own bytes × IsRecord own) }
@@ -20,16 +20,16 @@ pub fn records_are_laid_out()
         → (record_of bytes ≡ Err why) ↔ IsNoRecord bytes why }
 {}
 
-/// The answer on a record whose length lies inside the bytes depends on as many bytes as that
-/// length says: bytes after them change nothing.
+/// For a record whose length lies inside the bytes, what is returned depends only on the bytes
+/// within that length. Bytes after them change nothing.
 pub fn only_own_bytes()
     ensures { (bytes : List ℕ) → HEADER_LENGTH ≤ record_length bytes
         → record_length bytes ≤ length bytes
         → record_of (take (record_length bytes) bytes) ≡ record_of bytes }
 {}
 
-/// The bytes under an identifier read exactly if they begin with a record of that identifier. A
-/// record that is read from its own bytes is read from them with zeros after them too.
+/// The bytes under an identifier can be read if and only if they begin with a record of that
+/// identifier. A record that is read from its own bytes is read as well if zeros follow them.
 pub fn stored_records_are_read()
     ensures read { (id : ℕ) (buffer own : List ℕ)
         → (read_under id buffer ≡ Ok own)
@@ -38,8 +38,7 @@ pub fn stored_records_are_read()
         → record_of (filled bytes) ≡ Ok own }
 {}
 
-/// The numbers that the definitions cite by name. The function does nothing: its clauses are what
-/// it is for.
+/// The numbers that the definitions cite by name have these digits.
 pub fn numbers_in_digits()
     ensures header { HEADER_LENGTH ≡ 128 }
     ensures descriptor { DESCRIPTOR_LENGTH ≡ 72 }

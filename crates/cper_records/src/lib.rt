@@ -1,5 +1,7 @@
-//! CPER records: the header, the section descriptors and their sections, over the bytes that hold
-//! them. It follows the UEFI specification, appendix N, "Common Platform Error Record".
+//! CPER records: the header, the section descriptors and their sections, as views of the bytes that
+//! contain them. It follows the UEFI specification, appendix N, "Common Platform Error Record".
+//!
+//! A public function with an empty body is a law: its clauses are the point.
 #![tactic(auto)]
 
 mod laws;

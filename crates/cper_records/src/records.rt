@@ -1,4 +1,4 @@
-//! Records, as views of the bytes that hold them.
+//! Records, as views of the bytes that contain them.
 
 ghost use Rattle.std.specs.Prelude.{◌≡◌, ◌≤◌, ◌<◌, length, IfOk, Ok};
 ghost use Rattle.cper_sections.specs.Sections.{section_of};
@@ -13,8 +13,8 @@ use cper_sections::Descriptor;
 use ras_base::little_endian::{u16_at, u32_at, u64_at};
 use std::marker::Model;
 
-/// A record that reads, over the bytes that hold it: it copies nothing. A contract sees the
-/// record's own bytes, as many as its length says.
+/// A record that was read, as a view of the bytes that contain it: nothing is copied. A contract
+/// sees the record's own bytes, as many as its length says.
 #[derive(Drop)]
 pub struct Record<'a> {
     bytes: &'a [u8],
@@ -34,12 +34,12 @@ impl<'a> Model for Record<'a> {
 /// The bytes of a record's header.
 pub const HEADER_LENGTH: usize = 128;
 
-/// Reads the record at the front of bytes. (UEFI, appendix N, "Record Header".)
+/// Returns the record at the front of the bytes. (UEFI, appendix N, "Record Header".)
 ///
-/// It is refused with the first that applies of: `Short` below 128 bytes, `Signature` without the
-/// two signatures, `Length` if the record's length is below 128 or above the number of bytes,
-/// `DescriptorOut` if the descriptors pass that length, `SectionOut` if some section does,
-/// and `Section` if `read_section` refuses some section.
+/// The error is the first that applies. `Short`: there are fewer than 128 bytes. `Signature`: one
+/// of the two signatures is missing. `Length`: the record's length is below 128 or above the number
+/// of bytes. `DescriptorOut`: the descriptors pass that length. `SectionOut`: some section passes
+/// it. `Section`: `read_section` refuses some section.
 #[tactic(auto, unfolding(crate::specs::Records::record_of))]
 pub fn read_record(bytes: &[u8]) -> Result<Record<'_>, RecordRefused>
     ensures answer { result ≡ record_of bytes.now }
@@ -92,21 +92,21 @@ fn sections_of(bytes: &[u8]) -> Result<Record<'_>, RecordRefused>
 }
 
 impl<'a> Record<'a> {
-    /// The record's identifier.
+    /// Returns the record's identifier.
     pub fn id(&self) -> u64
         ensures { result ≡ record_id self.now }
     {
         u64_at(self.bytes, 96)
     }
 
-    /// The severity of the record: 0 recoverable, 1 fatal, 2 corrected, 3 informational.
+    /// Returns the severity of the record: 0 recoverable, 1 fatal, 2 corrected, 3 informational.
     pub fn severity(&self) -> u32
         ensures { result ≡ record_severity self.now }
     {
         u32_at(self.bytes, 12)
     }
 
-    /// The record's length in bytes, header and sections.
+    /// Returns the record's length in bytes, header and sections.
     pub fn length(&self) -> u32
         ensures field { result ≡ record_length self.now }
         ensures whole { result ≡ length self.now }
@@ -114,14 +114,15 @@ impl<'a> Record<'a> {
         u32_at(self.bytes, 20)
     }
 
-    /// The count of sections.
+    /// Returns the number of sections.
     pub fn count(&self) -> u16
         ensures { result ≡ section_count self.now }
     {
         u16_at(self.bytes, 10)
     }
 
-    /// A section by its number, from 0. (UEFI, appendix N, "Section Descriptor".)
+    /// Returns a section by its number, from 0, which has to be below the count. (UEFI, appendix N,
+    /// "Section Descriptor".)
     pub fn section(&self, i: u16) -> Descriptor<'a>
         requires { i < section_count self.now }
         ensures severity { result.severity ≡ section_severity self.now i }

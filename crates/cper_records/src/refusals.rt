@@ -28,10 +28,10 @@ pub enum RecordRefused {
 /// Why the bytes that a record store gave under an identifier can't be read.
 #[derive(Clone, Copy, Debug, PartialEq, Eq, Error)]
 pub enum Unreadable {
-    /// They are no record.
+    /// They don't begin with a record that can be read, for this reason.
     #[error("{0}")]
     NoRecord(RecordRefused),
-    /// They are a record of another identifier.
+    /// They begin with a record of another identifier.
     #[error("the record has another identifier")]
     OtherId,
 }

@@ -5,11 +5,11 @@ ghost use Rattle.cper_records.specs.Readable.{read_under};
 
 use crate::{Record, Unreadable, read_record};
 
-/// The record at the front of the bytes that a store gave under an identifier. Bytes after the
-/// record's own count for nothing.
+/// Returns the record at the front of the bytes that a store returned under an identifier. Bytes
+/// after the record are ignored.
 ///
-/// It is refused as `NoRecord` with the refusal of `read_record`, and else as `OtherId` exactly if
-/// the record has another identifier.
+/// `NoRecord`: if and only if `read_record` refuses the bytes, with its refusal. `OtherId`: if and
+/// only if it doesn't and the record has another identifier.
 pub fn read_stored(id: u64, buffer: &[u8]) -> Result<Record<'_>, Unreadable>
     ensures { result ≡ read_under id buffer.now }
 {

@@ -5,7 +5,7 @@ use Rattle.uuid.specs.Parts.{swap_fields}
 use Rattle.cper_sections.specs.declared.guids.SectionType.{SectionType}
 use Rattle.cper_sections.specs.declared.guids.SectionType.TheVariants.{Memory, Processor, X64, Unknown}
 
--- the GUID at the front of bytes, whose first three fields stand there with the lowest byte first
+-- the GUID at the front of bytes, whose first three fields have the lowest byte first
 abbrev pub guid_of : List ℕ → List ℕ
 guid_of bytes = swap_fields (take 16 bytes)
 

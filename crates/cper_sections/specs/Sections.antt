@@ -20,7 +20,7 @@ x64_section_of bytes =
     if nat_lt (length bytes) FIXED_LENGTH then Err Short
     else (if nat_lt (length bytes) (contexts_at bytes) then Err TooManyStructures else Ok (X64 (x64_of bytes)))
 
--- a section of a kind, that of its GUID
+-- a section of a kind, with its GUID
 abbrev pub section_of_type : SectionType → List ℕ → List ℕ → Result Section SectionRefused
 section_of_type Types.TheVariants.Memory guid bytes =
     if nat_lt (length bytes) OLD_LENGTH then Err Short else Ok (Memory (memory_of bytes))

@@ -9,7 +9,7 @@ use Rattle.cper_sections.specs.declared.x64.TheConstants.{FIXED_LENGTH, STRUCTUR
 use Rattle.cper_sections.specs.declared.x64.X64Section.{X64Section}
 use Rattle.cper_sections.specs.declared.x64.Context.{Context}
 
--- the validation bits, which hold the two counts
+-- the validation bits, which contain the two counts
 abbrev pub x64_validation : List ℕ → ℕ
 x64_validation bytes = number_at 0 8 bytes
 
@@ -40,7 +40,7 @@ parts_of context = record { kind = context.kind; msr = context.msr; mapped = con
 abbrev pub bytes_taken : ContextParts → ℕ
 bytes_taken context = CONTEXT_HEADER_LENGTH + length context.array
 
--- the bytes of the context at the front: a header and an array, whose size stands at 2
+-- the bytes of the context at the front: a header, with the size of the array at byte 2, and the array
 abbrev pub context_length : List ℕ → ℕ
 context_length bytes = CONTEXT_HEADER_LENGTH + number_at 2 2 bytes
 

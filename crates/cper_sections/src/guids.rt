@@ -9,8 +9,8 @@ ghost use Rattle.cper_sections.specs.Guids.{guid_of, section_type_of, memory_gui
 
 use uuid::Uuid;
 
-/// The GUID whose bytes these are. Its first three fields, of four, two and two bytes, are written
-/// with the lowest byte first, and the rest as it stands. (UEFI, appendix A, "GUID and Time
+/// Returns the GUID that these bytes encode. Its first three fields, of four, two and two bytes,
+/// are encoded with the lowest byte first, and the rest in order. (UEFI, appendix A, "GUID and Time
 /// Formats".)
 #[tactic(auto, unfolding(ras_base::specs::LittleEndian::number_at))]
 pub fn guid_at(bytes: &[u8; 16]) -> Uuid
@@ -44,11 +44,11 @@ pub enum SectionType {
     Processor,
     /// IA32/X64 processor.
     X64,
-    /// Any other.
+    /// Any other type.
     Unknown,
 }
 
-/// The kind of section that a GUID stands for. (UEFI, appendix N, "Section Descriptor".)
+/// Returns the kind of section whose type is this GUID. (UEFI, appendix N, "Section Descriptor".)
 #[tactic(auto, unfolding(crate::specs::Guids::section_type_of))]
 pub fn section_type_of(guid: Uuid) -> SectionType
     ensures { result ≡ section_type_of guid }

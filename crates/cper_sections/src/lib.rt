@@ -1,5 +1,8 @@
-//! The sections of CPER records: memory, processor and IA32/X64 sections, and the contexts of the
-//! last. It follows the UEFI specification, appendix N, "Common Platform Error Record".
+//! The sections of CPER records: memory, processor and IA32/X64 sections, and the contexts of
+//! IA32/X64 sections. It follows the UEFI specification, appendix N, "Common Platform Error
+//! Record".
+//!
+//! A public function with an empty body is a law: its clauses are the point.
 #![tactic(auto)]
 
 mod guids;

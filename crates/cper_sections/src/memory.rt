@@ -6,31 +6,31 @@ ghost use Rattle.cper_sections.specs.Memory.{memory_of, rank_of};
 use ras_base::is_set;
 use ras_base::little_endian::{u16_at, u64_at};
 
-/// What a platform memory section says. Each field is there exactly if its validation bit is
+/// What a platform memory section says. Each field is there if and only if its validation bit is
 /// set.
 #[derive(Clone, Copy, Debug, PartialEq, Eq)]
 pub struct MemSection {
     /// The physical address of the error.
     pub physical: Option<u64>,
-    /// The mask of that address's bits that count.
+    /// The mask of the address bits that are valid.
     pub mask: Option<u64>,
-    /// The node.
+    /// The number of the node.
     pub node: Option<u16>,
-    /// The card.
+    /// The number of the card.
     pub card: Option<u16>,
-    /// The module.
+    /// The number of the module.
     pub module: Option<u16>,
-    /// The bank.
+    /// The number of the bank.
     pub bank: Option<u16>,
-    /// The row.
+    /// The number of the row.
     pub row: Option<u16>,
-    /// The rank, which the old form of 73 bytes doesn't have.
+    /// The number of the rank, which the old form of 73 bytes doesn't have.
     pub rank: Option<u16>,
     /// The type of memory error.
     pub kind: Option<u8>,
 }
 
-/// The bytes of a memory section of the old form.
+/// The bytes of a memory section of the old form, without the rank.
 pub const OLD_LENGTH: usize = 73;
 
 /// The bytes of a memory section that has the rank.

@@ -5,7 +5,7 @@ ghost use Rattle.cper_sections.specs.Processor.{processor_of};
 
 use ras_base::little_endian::u64_at;
 
-/// What a processor generic section holds, whatever its validation bits say.
+/// What a processor generic section contains, whatever its validation bits say.
 #[derive(Clone, Copy, Debug, PartialEq, Eq)]
 pub struct ProcSection {
     /// The type of processor.

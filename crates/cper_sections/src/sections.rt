@@ -49,12 +49,12 @@ pub struct Descriptor<'a> {
     pub section: Section,
 }
 
-/// Reads a section of a type. (UEFI, appendix N, "Section Descriptor" and
-/// the bodies of the sections.) A memory section may be longer
-/// than its 80 bytes, and the old form with 73 to 79 bytes is read without the rank.
+/// Returns the section of this type in the bytes. A memory section may be longer than its 80 bytes,
+/// and the old form with 73 to 79 bytes is read without the rank. (UEFI, appendix N, "Section
+/// Descriptor" and the bodies of the sections.)
 ///
-/// `Short` comes if the section has fewer bytes than its type's fixed fields,
-/// `TooManyStructures` if the structures of an IA32/X64 section pass its end.
+/// `Short`: the section has fewer bytes than its type's fixed fields. `TooManyStructures`: the
+/// structures of an IA32/X64 section pass its end.
 #[tactic(auto, unfolding(crate::specs::Sections::section_of))]
 pub fn read_section(guid: Uuid, bytes: &[u8]) -> Result<Section, SectionRefused>
     ensures { result ≡ section_of guid bytes.now }
@@ -85,10 +85,10 @@ pub fn read_section(guid: Uuid, bytes: &[u8]) -> Result<Section, SectionRefused>
     }
 }
 
-/// A section that its descriptor says where to find, whether it can be read or not.
+/// A section where its descriptor says it is, whether it can be read or not.
 #[derive(Clone, Copy, Debug, PartialEq, Eq)]
 pub struct RawSection<'a> {
-    /// The section's severity, as in its descriptor.
+    /// The section's severity, as its descriptor gives it.
     pub severity: u32,
     /// The section's type.
     pub guid: Uuid,
@@ -97,8 +97,8 @@ pub struct RawSection<'a> {
 }
 
 impl<'a> RawSection<'a> {
-    /// The section of these bytes, whose type is the GUID at the front of `guid`. (UEFI, appendix
-    /// N, "Section Descriptor".)
+    /// Returns the section with these bytes, whose type is the GUID in the first 16 bytes of
+    /// `guid`, which have to be there. (UEFI, appendix N, "Section Descriptor".)
     pub fn new(guid: &[u8], severity: u32, bytes: &'a [u8]) -> RawSection<'a>
         requires { 16 ≤ length guid.now }
         ensures guid { result.guid ≡ guid_of guid.now }
@@ -112,14 +112,14 @@ impl<'a> RawSection<'a> {
         }
     }
 
-    /// Whether the section can be read.
+    /// Returns whether the section can be read.
     pub fn is_readable(&self) -> bool
         ensures { result ≡ is_ok (section_of self.now.guid self.now.bytes.now) }
     {
         read_section(self.guid, self.bytes).is_ok()
     }
 
-    /// Reads a section that can be read.
+    /// Returns what the section says. Requires a section that can be read.
     pub fn read(&self) -> Descriptor<'a>
         requires { IsOk (section_of self.now.guid self.now.bytes.now) }
         ensures severity { result.severity ≡ self.now.severity }

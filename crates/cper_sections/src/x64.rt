@@ -12,22 +12,22 @@ use ras_base::{bits, is_set};
 pub struct X64Section {
     /// The local APIC's identifier, if its validation bit is set.
     pub apic: Option<u64>,
-    /// The count of error structures, at most 63.
+    /// The number of error structures, at most 63.
     pub structures: u8,
-    /// The count of contexts that fit, at most 63.
+    /// The number of contexts that fit, at most 63.
     pub contexts: u8,
 }
 
 /// A context of an IA32/X64 section: a saved piece of the processor's state.
 #[derive(Clone, Copy, Debug, PartialEq, Eq)]
 pub struct Context<'a> {
-    /// Its type, as 1 for MSR registers.
+    /// The type of the context, for example 1 for MSR registers.
     pub kind: u16,
     /// The address of the first MSR.
     pub msr: u32,
     /// The memory-mapped address.
     pub mapped: u64,
-    /// The registers, as they stand in the section.
+    /// The bytes of the registers, as the section has them.
     pub array: &'a [u8],
 }
 
@@ -118,9 +118,9 @@ fn first_context(bytes: &[u8]) -> Option<(Context<'_>, &[u8])>
     Some((context, &bytes[length..]))
 }
 
-/// The context at a place, from 0, of the bytes of an IA32/X64 section, or None past the contexts
-/// that fit: those are the first ones up to the stated count, and the first that doesn't fit ends
-/// them. (UEFI, appendix N, "IA32/X64 Processor Context Information
+/// Returns a context by its number, from 0, from the bytes of an IA32/X64 section. It is `None` for
+/// a number past the contexts that fit: these are the first ones, up to the stated count, and the
+/// first that doesn't fit ends them. (UEFI, appendix N, "IA32/X64 Processor Context Information
 /// Structure".)
 #[tactic(auto, using(crate::proofs::ContextLemmas::first_get, crate::proofs::ContextLemmas::most_contexts, crate::proofs::ContextLemmas::contexts_in_end, crate::proofs::ContextLemmas::contexts_of_short))]
 pub fn context_at(bytes: &[u8], i: u8) -> Option<Context<'_>>

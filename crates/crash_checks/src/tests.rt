@@ -1,7 +1,7 @@
-//! What the tests go through, and the lines that many of them give.
+//! The calls that all tests make, and the lines that many of them give.
 //!
-//! Nothing here states anything, so that the clauses of the daemon's top call come into the proof
-//! of one short function, `exit_over`. A test sees plain bytes and an exit.
+//! Nothing here has a contract, so the clauses of `rasd` come only into the proof of one short
+//! function, `exit_over`. A test sees plain bytes and an exit.
 
 mod board;
 mod calls;
@@ -22,7 +22,7 @@ use std::test::Fail;
 // A processor and a module of its socket.
 const MODULE: &[u8] = b"cpu 0 0\nmodule DIMM_A1 0 7 0\n";
 
-// The everyday bank line, and another one.
+// A `bank` line of a corrected error, and another one.
 const EVERYDAY: &[u8] = b"bank 1 100 0 7 1000 1000c14 0 8c00004000010090 12345040 86\n";
 
 const ANOTHER: &[u8] = b"bank 1 100 0 7 1001 1000c14 0 8c00004000010090 12345040 86\n";
@@ -31,7 +31,7 @@ const ANOTHER: &[u8] = b"bank 1 100 0 7 1001 1000c14 0 8c00004000010090 12345040
 const LOGGED: &[u8] = b"log bank=1/0/7/1000 t=100 class=CE weight=1 label=- \
 page=0000000012345000 code=memory:RD:0 threshold=none over=0 mark=- ripv=0 eipv=0 mcip=0\n";
 
-// The only call of the daemon.
+// Calls `rasd`, as the only function that does.
 fn exit_over(
     alloc: Global,
     words: &[RasWord],
@@ -41,18 +41,18 @@ fn exit_over(
     rasd(alloc, words, source, board)
 }
 
-// Pieces one after the other.
+// Returns the pieces, one after the other.
 fn joined(alloc: Global, pieces: &[&[u8]]) -> Result<Vec<u8>, Fail> {
     Ok(pieces.concat(alloc)?)
 }
 
-// The words of a run.
+// Returns the arguments of a run.
 fn words(alloc: Global) -> Option<Vec<RasWord>> {
     let word = RasWord::new(alloc, b"run").ok()?;
     vec![in alloc; word].ok()
 }
 
-// A run over a script, given in parts, and a board; None if memory runs out before it.
+// Runs a script, given in parts, over a board. Returns `None` if memory runs out before the run.
 fn play(alloc: Global, script: &[&[u8]], board: &mut TestBoard) -> Option<Exit> {
     let words = words(alloc)?;
     let bytes = script.concat(alloc).ok()?;
@@ -60,13 +60,13 @@ fn play(alloc: Global, script: &[&[u8]], board: &mut TestBoard) -> Option<Exit> 
     Some(exit_over(alloc, &words, &mut source, board))
 }
 
-// The same, of which the board alone is wanted.
+// Runs a script over a board, and returns the board.
 fn play_on(alloc: Global, script: &[&[u8]], mut board: TestBoard) -> TestBoard {
     play(alloc, script, &mut board);
     board
 }
 
-// Whether a run ends so and prints this.
+// Returns whether a run over the script ends with this exit and prints this output.
 fn ends_so(
     alloc: Global,
     script: &[&[u8]],
@@ -77,7 +77,7 @@ fn ends_so(
     play(alloc, script, board) == Some(exit) && are_joined(board.out(), output)
 }
 
-// Whether bytes are these, one after the other.
+// Returns whether the bytes are these parts, one after the other.
 fn are_joined(bytes: &[u8], parts: &[&[u8]]) -> bool {
     let mut rest = bytes;
     for part in parts {

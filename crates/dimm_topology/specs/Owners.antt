@@ -1,5 +1,5 @@
--- Which module an error belongs to, by the rows of a topology: one rule for errors in banks and for
--- those that firmware reports.
+-- Which module an error belongs to, by the rows of a topology: one rule for the errors of banks and for the errors that
+-- firmware reports.
 use Rattle.std.specs.Prelude.{ℕ, nat_eq, Option, Some, None, List, [], ◌∷◌, if◌then◌else◌, filter}
 use Rattle.std.specs.List.{list_all, filter_map, last_or}
 use Rattle.std.specs.Option.{option_and_then, option_map, option_or}
@@ -12,33 +12,33 @@ use Rattle.dimm_topology.specs.declared.row.Location.{Location}
 use Rattle.dimm_topology.specs.declared.row.Location.TheVariants.{Channel, Numbers}
 use Rattle.dimm_topology.specs.declared.row.Row.{Row}
 
--- the one label that a list names, maybe several times; none if it names none or different ones
+-- the only label that a list names, maybe several times; None if it names no label or different ones
 abbrev pub the_one : List Bytes → Option Bytes
 the_one [] = None
 the_one (label ∷ labels) = if list_all (same_label label) labels then Some label else None
 
--- the ranges that hold an address: one at most, since no two ranges overlap
+-- the ranges that contain an address: at most one, since no two ranges overlap
 abbrev pub ranges_over : List Row → ℕ → List Row
 ranges_over rows address = filter (is_range_over address) rows
 
--- the label of the range that holds an address
+-- the label of the range that contains an address
 abbrev pub owner_of_address : List Row → ℕ → Option Bytes
 owner_of_address rows address = the_one (labels_of_rows (ranges_over rows address))
 
--- the one label that the rows of a location name
+-- the only label that the rows of a location name
 abbrev pub owner_at : List Row → Location → Option Bytes
 owner_at rows location = the_one (labels_of_rows (filter (is_at location) rows))
 
--- the owner of an error: that of its address, else that of its location
+-- the owner of an error: the owner of its address, else the owner of its location
 abbrev pub owner_by_rows : List Row → Option ℕ → Option Location → Option Bytes
 owner_by_rows rows address location =
     option_or (option_and_then (owner_of_address rows) address) (option_and_then (owner_at rows) location)
 
--- the socket of a CPU: that of its last row
+-- the socket of a CPU, by the last row that gives one
 abbrev pub socket_by_rows : List Row → ℕ → Option ℕ
 socket_by_rows rows cpu = last_or None (filter_map (socket_of cpu) rows)
 
--- the memory channel that a code names: that of a memory controller error, if it isn't 15
+-- the memory channel that a code names: a memory controller error's, unless it is 15
 abbrev pub channel_of : Code → Option ℕ
 channel_of (Memory mmm channel filter) = if nat_eq channel 15 then None else Some channel
 channel_of _ = None

@@ -1,4 +1,4 @@
--- The rows of a topology, and what each tells.
+-- The rows of a topology, and what each says.
 use Rattle.std.specs.Prelude.{ℕ, Bool, true, false, nat_eq, nat_le, ◌&&◌, Option, Some, None, List, if◌then◌else◌}
 use Rattle.std.specs.List.{list_any, filter_map}
 use Rattle.std.specs.Option.{option_map_or}
@@ -40,7 +40,7 @@ is_at (Numbers node card module') (Module label socket bank channel) = false
 is_at (Numbers node card module') (Place label node' card' module'') =
     nat_eq node node' && nat_eq card card' && nat_eq module' module''
 
--- whether a row is a range that holds an address; both ends belong to a range
+-- whether a row is a range that contains an address; both ends belong to a range
 abbrev pub is_range_over : ℕ → Row → Bool
 is_range_over address (Range label first last) = nat_le first address && nat_le address last
 is_range_over address _ = false
@@ -50,7 +50,7 @@ abbrev pub is_module_of : Bytes → Row → Bool
 is_module_of label (Module label' socket bank channel) = same_label label label'
 is_module_of label _ = false
 
--- whether a label is that of some module row
+-- whether some module row has this label
 abbrev pub is_module_label : List Row → Bytes → Bool
 is_module_label rows label = list_any (is_module_of label) rows
 

@@ -1,4 +1,4 @@
-//! What names a memory module.
+//! The name of a memory module.
 ghost use Rattle.std.specs.Prelude.{◌≡◌, ◌↔◌, [], IfOk, Err, IsTrue, nat_eq};
 ghost use Rattle.std.specs.Bool.{IsFalse};
 ghost use Rattle.std.specs.List.{list_all};
@@ -18,10 +18,10 @@ use std::marker::Model;
 /// The most bytes that a label has.
 pub const MOST_LABEL_BYTES: usize = 32;
 
-/// The name of a memory module, as it stands on the board, or none.
+/// The name of a memory module, as printed on the mainboard, or no name.
 ///
-/// A label is 1 to 32 printable bytes without a space, and not the one byte `-`, which stands for
-/// none where labels are printed. Contracts see its list of bytes, the empty one for none.
+/// A label is 1 to 32 printable bytes without a space, and not the one byte `-`, which is printed
+/// where there is no label. Contracts see the list of its bytes, empty for no label.
 #[derive(Clone, Copy, Debug)]
 pub struct Label {
     // The bytes, and zeros after them.
@@ -44,19 +44,19 @@ impl Model for Label {
     ghost inverse_ok = { λ a is i. record { room = room-back a.room a.len is i; len = length-back a.room a.len is i } };
 }
 
-/// Why bytes are not taken as a label.
+/// Why bytes aren't a label.
 #[derive(Clone, Copy, Debug, PartialEq, Eq)]
 pub enum LabelRefused {
-    /// They are no label.
+    /// The bytes aren't a label.
     Bad,
     /// Memory ran out.
     NoMemory,
 }
 
 impl Label {
-    /// The label of these bytes.
+    /// Returns the label of these bytes.
     ///
-    /// `Bad` comes exactly if they aren't 1 to 32 bytes of 21h to 7Eh, or are the one byte `-`.
+    /// `Bad`: if and only if they aren't 1 to 32 bytes of 21h to 7Eh, or are the one byte `-`.
     pub fn new(_alloc: Global, bytes: &[u8]) -> Result<Label, LabelRefused>
         ensures ok { IfOk result (λ label. label ≡ bytes.now) }
         ensures bad { (result ≡ Err LabelRefused.Bad) ↔ IsFalse (is_label bytes.now) }
@@ -67,7 +67,7 @@ impl Label {
         Ok(Label::from_bytes(bytes))
     }
 
-    /// No label, printed as `-`. It takes no memory.
+    /// Returns no label, which is printed as `-`. Allocates nothing.
     pub fn none() -> Label
         ensures { result ≡ [] }
     {
@@ -77,7 +77,7 @@ impl Label {
         }
     }
 
-    /// The bytes of the label, none for `Label::none()`.
+    /// Returns the bytes of the label. `Label::none()` has none.
     pub fn bytes(&self) -> &[u8]
         ensures bytes { result.now ≡ self.now }
         ensures label { IsTrue (is_label_or_none self.now) }
@@ -85,7 +85,9 @@ impl Label {
         &self.room[..self.len]
     }
 
-    /// An equal label.
+    /// Returns an equal label.
+    ///
+    /// `NoMemory`: only if memory runs out.
     pub fn copy(&self, _alloc: Global) -> Result<Label, NoMemory>
         ensures { IfOk result (λ copy. copy ≡ self.now) }
     {

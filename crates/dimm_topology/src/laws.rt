@@ -1,4 +1,4 @@
-//! What is said of every topology.
+//! What holds of every topology.
 
 ghost use Rattle.std.specs.Prelude.{◌≡◌, ◌≤◌, ℕ, List, Option, IsTrue, IfSome};
 ghost use Rattle.mca_codes.specs.Codes.{HasFieldsInRange};
@@ -11,14 +11,14 @@ ghost use Rattle.dimm_topology.specs.declared.row.Location.{Location};
 ghost use Rattle.dimm_topology.specs.declared.row.Row.{Row};
 ghost use Rattle.dimm_topology.specs.declared.topology.TheConstants.{MOST_ROWS};
 
-/// The owner of an error has a label that is one or none.
+/// The owner of an error is a label, or `Label::none()`.
 pub fn owners_have_labels()
     ensures { (rows : List Row) (address : Option ℕ) (location : Option Location)
         → IsTopology rows
         → IfSome (owner_by_rows rows address location) (λ label. IsTrue (is_label_or_none label)) }
 {}
 
-/// The numbers that the definitions name.
+/// The numbers that the definitions cite by name have these digits.
 pub fn numbers()
     ensures rows { MOST_ROWS ≡ 4096 }
     ensures label { MOST_LABEL_BYTES ≡ 32 }

@@ -11,7 +11,7 @@ use ras_base::NoMemory;
 use std::alloc::Global;
 use std::marker::Model;
 
-/// A range of physical addresses, and the label of the module whose own it is.
+/// A range of physical addresses, and the label of the module that it belongs to.
 #[derive(Clone, Copy, Debug)]
 pub(crate) struct HeldRange {
     pub(crate) label: Label,
@@ -38,7 +38,7 @@ impl Model for Ranges {
 }
 
 impl Ranges {
-    /// No ranges.
+    /// Returns an empty list of ranges.
     pub(crate) fn new(alloc: Global) -> Ranges
         ensures { result ≡ [] }
     {
@@ -47,7 +47,8 @@ impl Ranges {
         }
     }
 
-    /// The first range that has an address in common with those from `first` to `last`.
+    /// Returns the first range that has an address in common with the addresses from `first` to
+    /// `last`.
     pub(crate) fn meeting(&self, first: u64, last: u64) -> Option<&HeldRange>
         requires { first ≤ last }
         ensures { option_copied result ≡ find (meets first last) self.now }
@@ -56,7 +57,8 @@ impl Ranges {
         (range.first <= last).then_some(range)
     }
 
-    /// Puts a range that has no address in common with another in its place.
+    /// Inserts a range by its address. Requires that no other range has an address in common with
+    /// it.
     pub(crate) fn put(&mut self, range: HeldRange) -> Result<(), NoMemory>
         requires upright { range.first ≤ range.last }
         requires free { IsFalse (list_any (meets range.first range.last) self.old) }

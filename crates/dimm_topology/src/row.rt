@@ -15,7 +15,7 @@ pub enum Location {
     Numbers { node: u16, card: u16, module: u16 },
 }
 
-/// What a topology holds, as contracts see it.
+/// A row of a topology, as contracts see it.
 #[derive(Debug, Drop)]
 pub enum Row {
     /// A CPU, and the socket in which it is.
@@ -31,7 +31,7 @@ pub enum Row {
         bank: u8,
         channel: u8,
     },
-    /// A module, and the first and the last physical address of a range that is its own.
+    /// A module, and the first and the last physical address of a range that belongs to it.
     Range {
         label: Label,
         first: u64,
@@ -55,7 +55,8 @@ impl Row {
         match self {
             Row::Cpu { .. } => None,
             Row::Module { label, .. } | Row::Range { label, .. } | Row::Place { label, .. } => {
-                // So that the clause above can tell what holds of every label.
+                // The contract of `bytes` says that a label's bytes are a label or none, which the
+                // clause needs.
                 let _ = label.bytes();
                 Some(label)
             }

@@ -1,4 +1,4 @@
-//! What the rows of a topology tell, by what it is asked for.
+//! What the rows of a topology say, indexed by what is looked up.
 
 ghost use Rattle.std.specs.Prelude.{◌≡◌, Some, List, [], ◌∷◌, ◌++◌, cond, IsTrue, OnOk, OnErr};
 ghost use Rattle.std.specs.Bool.{IsFalse};
@@ -14,7 +14,7 @@ use ras_base::NoMemory;
 use std::alloc::Global;
 use std::collections::{HashMap, HashSet};
 
-/// What rows tell, found with no walk through them.
+/// What the rows say, found without a walk through them.
 #[derive(Debug, Drop)]
 pub(crate) struct Tables {
     /// The socket of each CPU.
@@ -28,7 +28,7 @@ pub(crate) struct Tables {
 }
 
 impl Tables {
-    /// The tables of no rows.
+    /// Returns the tables of no rows.
     pub(crate) fn new(alloc: Global) -> Tables
         ensures { Tells [] result }
     {
@@ -40,7 +40,7 @@ impl Tables {
         }
     }
 
-    /// Whether a row is a range that has an address in common with one that is held.
+    /// Returns whether a row is a range that has an address in common with a range in the tables.
     pub(crate) fn meets_one(&self, row: &Row) -> bool
         requires { IsTrue (is_upright row.now) }
         ensures { result ≡ meets_one self.now.ranges row.now }
@@ -51,7 +51,7 @@ impl Tables {
         }
     }
 
-    /// Takes a row after the others. After a refusal the tables tell what they told.
+    /// Adds a row to the tables. After `NoMemory` each lookup returns what it returned before.
     pub(crate) fn take(&mut self, row: &Row) -> Result<(), NoMemory>
         requires upright { IsTrue (is_upright row.now) }
         requires apart { IsFalse (meets_one self.old.ranges row.now) }

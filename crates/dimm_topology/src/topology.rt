@@ -21,7 +21,7 @@ use std::alloc::Global;
 use std::marker::Model;
 use thiserror::Error;
 
-/// The most rows of all kinds that a topology holds.
+/// The most rows, of all kinds together, that a topology contains.
 pub const MOST_ROWS: usize = 4_096;
 
 /// How a machine is built, by rows in the order in which they were added.
@@ -32,7 +32,7 @@ pub const MOST_ROWS: usize = 4_096;
 pub struct Topology {
     rows: Vec<Row>,
 
-    // What the rows tell.
+    // What the rows say.
     tables: Tables,
 }
 
@@ -49,16 +49,16 @@ impl Model for Topology {
     ghost invariant = { λ a. IsTopology a.rows.items × Tells a.rows.items a.tables };
 }
 
-/// Why a topology doesn't take a row. If several apply, the first of them is answered.
+/// Why a topology doesn't take a row. If several reasons apply, the first is returned.
 #[derive(Clone, Copy, Debug, PartialEq, Eq, Error)]
 pub enum TopologyRefused {
     /// 1: a range or a place names a label that no module row has.
     #[error("no memory module has the label")]
     Label,
-    /// 2: a range has an address in common with one that is held.
+    /// 2: a range has an address in common with a range that is there.
     #[error("the range has an address in common with another")]
     Overlap,
-    /// 3: `MOST_ROWS` rows are held.
+    /// 3: there are `MOST_ROWS` rows already.
     #[error("the topology has as many rows as it may hold")]
     Full,
     /// Memory ran out. It has no number, since it is no fault of the row.
@@ -67,7 +67,7 @@ pub enum TopologyRefused {
 }
 
 impl TopologyRefused {
-    /// The number by which the refusal is printed, or None if memory ran out.
+    /// Returns the number by which the refusal is printed, or `None` if memory ran out.
     pub fn number(self) -> Option<u8>
         ensures { result ≡ topology_number self }
     {
@@ -81,7 +81,7 @@ impl TopologyRefused {
 }
 
 impl Topology {
-    /// A topology with no rows.
+    /// Returns a topology with no rows.
     pub fn new(alloc: Global) -> Topology
         ensures { result ≡ [] }
     {
@@ -91,23 +91,23 @@ impl Topology {
         }
     }
 
-    /// What holds of the rows of every topology. The function does nothing: its clause is what it
-    /// is for.
+    /// What holds of the rows of every topology. A law: the body is empty, the clause is the point.
     pub fn invariant(&self)
         ensures { IsTopology self.now }
     {
         let _ = &self.rows;
     }
 
-    /// Says in which socket a CPU is. The last row of a CPU counts.
+    /// Adds a row that says in which socket a CPU is. The last row of a CPU applies.
     ///
-    /// `Full` comes if there are `MOST_ROWS` rows already. On error nothing changes.
+    /// `Full`: if and only if there are `MOST_ROWS` rows already. After an error the rows are
+    /// unchanged.
     pub fn add_cpu(&mut self, cpu: u16, socket: u8) -> Result<(), TopologyRefused>
         ensures answer { AnswersRow result (row_refusal self.old (Row.Cpu cpu socket)) }
         ensures ok { OnOk result (self.new ≡ self.old ++ Row.Cpu cpu socket ∷ []) }
         ensures err { OnErr result (self.new ≡ self.old) }
 
-        // Who owns an address in a range stays.
+        // The owners of addresses that are in a range stay.
         ensures addresses { (address : ℕ)
             → owner_of_address self.new address ≡ owner_of_address self.old address }
 
@@ -117,11 +117,13 @@ impl Topology {
         self.add(Row::Cpu { cpu, socket })
     }
 
-    /// Says that the machine-check bank of this number, in this socket, reports errors of this
-    /// module with this memory channel. Several modules may share one channel.
+    /// Adds a row that says: the machine-check bank of this number, in this socket, reports errors
+    /// of this module with this memory channel. Several modules may share one channel.
     ///
-    /// A module may be named by `Label::none()`, which is then a label like any other. `Full` comes
-    /// exactly if `MOST_ROWS` rows are held. The rows stay after a refusal.
+    /// A module may be named by `Label::none()`, which is then a label like any other.
+    ///
+    /// `Full`: if and only if there are `MOST_ROWS` rows already. After an error the rows are
+    /// unchanged.
     pub fn add_module(
         &mut self,
         label: Label,
@@ -135,7 +137,7 @@ impl Topology {
             ≡ self.old ++ Row.Module label socket bank channel ∷ []) }
         ensures err { OnErr result (self.new ≡ self.old) }
 
-        // Who owns an address in a range stays.
+        // The owners of addresses that are in a range stay.
         ensures addresses { (address : ℕ)
             → owner_of_address self.new address ≡ owner_of_address self.old address }
     {
@@ -147,12 +149,12 @@ impl Topology {
         })
     }
 
-    /// Says that the physical addresses from `first` to `last`, both among them, are a module's
-    /// own.
+    /// Adds a row that gives a module the physical addresses from `first` to `last`, both included.
+    /// Requires that `first` isn't above `last`.
     ///
-    /// The first of these is answered: `Label` exactly if no module row has the label, `Overlap`
-    /// exactly if a held range has an address in common, `Full` exactly if `MOST_ROWS` rows
-    /// are held. The rows stay after a refusal.
+    /// The error is the first that applies. `Label`: if and only if no module row has the label.
+    /// `Overlap`: if and only if another range has an address in common. `Full`: if and only if
+    /// there are `MOST_ROWS` rows already. After an error the rows are unchanged.
     pub fn add_range(&mut self, label: Label, first: u64, last: u64) -> Result<(), TopologyRefused>
         requires { first ≤ last }
         ensures answer { AnswersRow result (row_refusal self.old (Row.Range label first last)) }
@@ -163,17 +165,19 @@ impl Topology {
         ensures addresses { (address : ℕ) → IsSome (owner_of_address self.old address)
             → owner_of_address self.new address ≡ owner_of_address self.old address }
 
-        // A range overlaps a held one exactly if some address is in both.
+        // A range overlaps another if and only if some address is in both.
         ensures shared { IsTrue (list_any (overlap (Row.Range label first last)) self.old)
             ↔ SharesAddress self.old first last }
     {
         self.add(Row::Range { label, first, last })
     }
 
-    /// Says by which node, card and module number firmware reports errors of a module.
+    /// Adds a row that says by which node, card and module number firmware reports errors of a
+    /// module.
     ///
-    /// The first of these is answered: `Label` exactly if no module row has the label, `Full`
-    /// exactly if `MOST_ROWS` rows are held. The rows stay after a refusal.
+    /// The error is the first that applies. `Label`: if and only if no module row has the label.
+    /// `Full`: if and only if there are `MOST_ROWS` rows already. After an error the rows are
+    /// unchanged.
     pub fn add_place(
         &mut self,
         label: Label,
@@ -186,7 +190,7 @@ impl Topology {
         ensures ok { OnOk result (self.new ≡ self.old ++ Row.Place label node card «module» ∷ []) }
         ensures err { OnErr result (self.new ≡ self.old) }
 
-        // Who owns an address in a range stays.
+        // The owners of addresses that are in a range stay.
         ensures addresses { (address : ℕ)
             → owner_of_address self.new address ≡ owner_of_address self.old address }
     {
@@ -198,9 +202,10 @@ impl Topology {
         })
     }
 
-    /// The module that an error in a machine-check bank belongs to: that of the range that holds
-    /// the address, else the one that the module rows name for the CPU's socket, the bank and the
-    /// memory channel of the code. No module if they name none or several different ones.
+    /// Returns the label of the module that an error in a machine-check bank belongs to. It is the
+    /// label of the range that contains the address; else the label that the module rows give for
+    /// the CPU's socket, the bank and the memory channel of the code. It is `None` if these rows
+    /// give no label, or different ones.
     pub fn owner_of_bank(
         &self,
         cpu: u16,
@@ -221,10 +226,10 @@ impl Topology {
         self.owner(address, self.bank_location(cpu, bank, code))
     }
 
-    /// The module that an error of a memory section belongs to: that of the range that holds the
-    /// physical address, else, if the section has a node, a card and a module, the one that
-    /// their place rows name. No module if they name none or several different ones. (UEFI,
-    /// appendix N, "Memory Error Section".)
+    /// Returns the label of the module that an error of a memory section belongs to. It is the
+    /// label of the range that contains the physical address; else, if the section has a node, a
+    /// card and a module, the label that the place rows give for them. It is `None` if these rows
+    /// give no label, or different ones. (UEFI, appendix N, "Memory Error Section".)
     pub fn owner_of_section(&self, section: &MemSection) -> Option<&Label>
         ensures owner { option_copied result
             ≡ owner_by_rows self.now section.now.physical (section_location section.now) }
@@ -236,12 +241,12 @@ impl Topology {
         self.owner(section.physical, location_of_section(section))
     }
 
-    // The owner of an error: that of its address, else that of its location.
+    // The owner of an error: the owner of its address, else the owner of its location.
     fn owner(&self, address: Option<u64>, location: Option<Location>) -> Option<&Label>
         ensures owner { option_copied result ≡ owner_by_rows self.now address location }
         ensures topology { IsTopology self.now }
     {
-        // So that the clause above can tell what holds of every topology.
+        // Looking at the rows brings in what holds of every topology, which the clause needs.
         let _ = &self.rows;
         match address.and_then(|address| self.owner_of_address(address)) {
             Some(label) => Some(label),
@@ -249,12 +254,12 @@ impl Topology {
         }
     }
 
-    /// Takes a row of any kind, if it can. A range needs a first address that isn't above its
-    /// last.
+    /// Adds a row of any kind. Requires that a range's first address isn't above its last.
     ///
-    /// The first of these is answered: `Label` exactly if a range or a place names a label that
-    /// no module row has, `Overlap` exactly if a range has an address in common with a held one,
-    /// `Full` exactly if `MOST_ROWS` rows are held. The rows stay after a refusal.
+    /// The error is the first that applies. `Label`: if and only if a range or a place names a
+    /// label that no module row has. `Overlap`: if and only if a range has an address in common
+    /// with another. `Full`: if and only if there are `MOST_ROWS` rows already. After an error the
+    /// rows are unchanged.
     pub fn add(&mut self, row: Row) -> Result<(), TopologyRefused>
         requires { IsTrue (is_upright row) }
         ensures answer { AnswersRow result (row_refusal self.old row) }
@@ -277,7 +282,7 @@ impl Topology {
         }
     }
 
-    // Holds a row that is fit to come after the others.
+    // Adds a row that may come after the others.
     fn hold(&mut self, row: Row) -> Result<(), NoMemory>
         requires upright { IsTrue (is_upright row) }
         requires named { IsTrue (names_module self.old row) }
@@ -286,7 +291,7 @@ impl Topology {
         ensures ok { OnOk result (self.new ≡ self.old ++ row ∷ []) }
         ensures err { OnErr result (self.new ≡ self.old) }
     {
-        // So that the rows are known to name labels alone.
+        // The contract of `label` says that the row names a label or none.
         let _ = row.label();
         self.rows.reserve(1)?;
         self.tables.take(&row)?;
@@ -304,14 +309,14 @@ impl Topology {
         }
     }
 
-    // Whether a label is that of some module row.
+    // Whether some module row has a label.
     fn is_module_label(&self, label: &Label) -> bool
         ensures { result ≡ is_module_label self.now label.now }
     {
         self.tables.modules.contains(label)
     }
 
-    // Whether a row is a range that has an address in common with one that is held.
+    // Whether a row is a range that has an address in common with a range that is there.
     fn has_overlap(&self, row: &Row) -> bool
         requires { IsTrue (is_upright row.now) }
         ensures { result ≡ list_any (overlap row.now) self.now }
@@ -319,7 +324,7 @@ impl Topology {
         self.tables.meets_one(row)
     }
 
-    // The label of the range that holds an address.
+    // The label of the range that contains an address.
     fn owner_of_address(&self, address: u64) -> Option<&Label>
         ensures { option_copied result ≡ owner_of_address self.now address }
     {
@@ -347,7 +352,7 @@ impl Topology {
         self.tables.sockets.get(&cpu).copied()
     }
 
-    // The one label that the rows of a location name.
+    // The only label that the rows of a location name.
     fn owner_at(&self, location: Location) -> Option<&Label>
         ensures { option_copied result ≡ owner_at self.now location }
     {

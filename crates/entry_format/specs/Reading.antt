@@ -1,5 +1,5 @@
--- How fields are read, each at the front of bytes, from left to right: a field is read exactly
--- if the bytes begin with its spelling.
+-- How fields are read, each at the front of bytes, from left to right: a field is read if and only if the bytes begin
+-- with its spelling.
 use Rattle.std.specs.Prelude.{◌≡◌, ℕ, zero, suc, List, [], ◌∷◌, length, take, drop, Option, Some, None, Result, Ok, Err, Bool, nat_lt, nat_le, ◌==◌, ◌&&◌, if◌then◌else◌}
 use Rattle.std.specs.List.{find}
 use Rattle.ras_base.specs.Chaining.{◌>>=◌}
@@ -21,7 +21,7 @@ use Rattle.entry_format.specs.declared.version.Version.TheVariants.{One, Two}
 use Rattle.entry_format.specs.declared.refused.EntryRefused.{EntryRefused}
 use Rattle.entry_format.specs.declared.refused.EntryRefused.TheVariants.{Bad, NoMemory}
 
--- what a field reads: its value and the bytes after it, or that none stands there
+-- what a field reads: its value and the bytes after it, or that the bytes don't begin with one
 abbrev pub Reader : Type 0 → Type 0
 Reader A = List ℕ → Result (A × List ℕ) EntryRefused
 
@@ -30,15 +30,17 @@ abbrev pub FailsUnlessMemory : {Y : Type 0} → EntryRefused → Result Y EntryR
 FailsUnlessMemory NoMemory read = Unit {0}
 FailsUnlessMemory Bad read = read ≡ Err Bad
 
+-- a function that succeeds returns what reading gives, seen by view; it may run out of memory instead
 abbrev pub ReadsUnlessMemory : {X Y : Type 0} → (X → Y) → Result X EntryRefused → Result Y EntryRefused → Type 0
 ReadsUnlessMemory view (Ok x) read = read ≡ Ok (view x)
 ReadsUnlessMemory view (Err e) read = FailsUnlessMemory e read
 
--- the same of a function that takes no memory: it refuses exactly what isn't there to be read
+-- the result of a function that allocates nothing: it refuses exactly what can't be read
 abbrev pub RefusesExactly : {Y : Type 0} → EntryRefused → Result Y EntryRefused → Type 0
 RefusesExactly NoMemory read = ⊥
 RefusesExactly Bad read = read ≡ Err Bad
 
+-- a function returns exactly what reading gives, seen by view
 abbrev pub ReadsExactly : {X Y : Type 0} → (X → Y) → Result X EntryRefused → Result Y EntryRefused → Type 0
 ReadsExactly view (Ok x) read = read ≡ Ok (view x)
 ReadsExactly view (Err e) read = RefusesExactly e read
@@ -56,7 +58,7 @@ abbrev pub some_or_bad : {A : Type 0} → Option A → Result A EntryRefused
 some_or_bad None = Err Bad
 some_or_bad (Some x) = Ok x
 
--- a field that is made of what is read, if it can be made
+-- a field that is converted from what is read, if it can be
 abbrev pub made_at : {A B : Type 0} → (A → Option B) → Reader A → Reader B
 made_at make read bytes = do
   x ← read bytes
@@ -105,7 +107,7 @@ unfoldable pub byte_at : Reader ℕ
 byte_at [] = Err Bad
 byte_at (byte ∷ rest) = Ok (byte, rest)
 
--- what stands after a kind of one byte
+-- what follows a kind of one byte, by the kind
 abbrev pub by_kind : {A : Type 0} → (ℕ → Reader A) → Reader A
 by_kind read bytes = do
   kind ← byte_at bytes

@@ -1,4 +1,4 @@
--- How entries are spelled in a file. Each number of several bytes stands from its low byte on.
+-- How entries are spelled in a file. Each number of several bytes begins with its low byte.
 use Rattle.std.specs.Prelude.{ℕ, List, [], ◌∷◌, ◌++◌, length, Option, None, Some}
 use Rattle.std.specs.List.{flat_map}
 use Rattle.ras_base.specs.LittleEndian.{u16_bytes, u64_bytes}
@@ -27,7 +27,7 @@ unfoldable pub page_bytes : Option ℕ → List ℕ
 page_bytes None = 0 ∷ []
 page_bytes (Some page) = 1 ∷ u64_bytes page
 
--- a label: the number of its bytes (1), and its bytes; none has no bytes
+-- a label: the number of its bytes (1), and its bytes; no label has no bytes
 unfoldable pub label_bytes : Bytes → List ℕ
 label_bytes label = length label ∷ label
 

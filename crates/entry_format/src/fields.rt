@@ -1,14 +1,15 @@
 //! The fields of every sort of value.
 //!
-//! Each function reads one at the front of the bytes, and gives the bytes after it too. It answers
-//! `Bad` if none stands there, and takes no memory, so that it never answers `NoMemory`.
+//! Each function reads one value at the front of the bytes, and returns it with the bytes after it.
+//! It returns `Bad` if the bytes don't begin with such a value, allocates nothing, and never
+//! returns `NoMemory`.
 ghost use Rattle.std.specs.Prelude.{◌≡◌};
 ghost use Rattle.entry_format.specs.Reading.{ReadsExactly, u16_at, u32_at, u64_at, byte_at, bytes_at};
 
 use crate::EntryRefused;
 use ras_base::little_endian;
 
-// A number of 2 bytes.
+// A number of 2 bytes, the lowest first.
 #[tactic(auto, unfolding(crate::specs::Reading::u16_at))]
 pub(crate) fn u16_at(bytes: &[u8]) -> Result<(u16, &[u8]), EntryRefused>
     ensures { ReadsExactly (λ x. (x.0, x.1.now)) result (u16_at bytes.now) }
@@ -19,8 +20,9 @@ pub(crate) fn u16_at(bytes: &[u8]) -> Result<(u16, &[u8]), EntryRefused>
     Ok((little_endian::u16_at(bytes, 0), &bytes[2..]))
 }
 
-/// A number of 4 bytes at the front, and the bytes after it. `Bad` comes exactly if fewer are
-/// there, and `NoMemory` never.
+/// Returns a number of 4 bytes at the front, the lowest byte first, and the bytes after it.
+///
+/// `Bad`: if and only if there are fewer bytes. `NoMemory`: never.
 #[tactic(auto, unfolding(crate::specs::Reading::u32_at))]
 pub fn u32_at(bytes: &[u8]) -> Result<(u32, &[u8]), EntryRefused>
     ensures { ReadsExactly (λ x. (x.0, x.1.now)) result (u32_at bytes.now) }
@@ -31,8 +33,9 @@ pub fn u32_at(bytes: &[u8]) -> Result<(u32, &[u8]), EntryRefused>
     Ok((little_endian::u32_at(bytes, 0), &bytes[4..]))
 }
 
-/// A number of 8 bytes at the front, and the bytes after it. `Bad` comes exactly if fewer are
-/// there, and `NoMemory` never.
+/// Returns a number of 8 bytes at the front, the lowest byte first, and the bytes after it.
+///
+/// `Bad`: if and only if there are fewer bytes. `NoMemory`: never.
 #[tactic(auto, unfolding(crate::specs::Reading::u64_at))]
 pub fn u64_at(bytes: &[u8]) -> Result<(u64, &[u8]), EntryRefused>
     ensures { ReadsExactly (λ x. (x.0, x.1.now)) result (u64_at bytes.now) }
@@ -43,8 +46,9 @@ pub fn u64_at(bytes: &[u8]) -> Result<(u64, &[u8]), EntryRefused>
     Ok((little_endian::u64_at(bytes, 0), &bytes[8..]))
 }
 
-/// The first byte, and the bytes after it. `Bad` comes exactly if there is none, and `NoMemory`
-/// never.
+/// Returns the first byte, and the bytes after it.
+///
+/// `Bad`: if and only if there is no byte. `NoMemory`: never.
 #[tactic(auto, unfolding(crate::specs::Reading::byte_at))]
 pub fn byte_at(bytes: &[u8]) -> Result<(u8, &[u8]), EntryRefused>
     ensures { ReadsExactly (λ x. (x.0, x.1.now)) result (byte_at bytes.now) }

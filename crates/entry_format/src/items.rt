@@ -30,7 +30,7 @@ fn class_of(number: u8) -> Option<ItemClass>
     }
 }
 
-// A class.
+// A class, by its number.
 #[tactic(auto, unfolding(crate::specs::Reading::class_at))]
 fn class_at(bytes: &[u8]) -> Result<(ItemClass, &[u8]), EntryRefused>
     ensures { ReadsExactly (λ x. (x.0, x.1.now)) result (class_at bytes.now) }
@@ -42,7 +42,7 @@ fn class_at(bytes: &[u8]) -> Result<(ItemClass, &[u8]), EntryRefused>
     }
 }
 
-// The label of these bytes; no bytes are none.
+// The label of these bytes; no bytes are no label.
 fn label_of(alloc: Global, text: &[u8]) -> Result<Label, EntryRefused>
     ensures { ReadsUnlessMemory (λ label. label) result (some_or_bad (if_passes is_label_or_none text.now)) }
 {
@@ -56,8 +56,10 @@ fn label_of(alloc: Global, text: &[u8]) -> Result<Label, EntryRefused>
     }
 }
 
-/// The label or none at the front, after the number of its bytes, and the bytes after it. `Bad`
-/// comes exactly if none stands there, and `NoMemory` if memory runs out.
+/// Returns the label at the front, or no label, and the bytes after it. The number of its bytes
+/// comes before it.
+///
+/// `Bad`: if and only if the bytes don't begin with one. `NoMemory`: only if memory runs out.
 #[tactic(auto, unfolding(crate::specs::Reading::label_at))]
 pub fn label_at(alloc: Global, bytes: &[u8]) -> Result<(Label, &[u8]), EntryRefused>
     ensures { ReadsUnlessMemory (λ x. (x.0, x.1.now)) result (label_at bytes.now) }
@@ -68,8 +70,9 @@ pub fn label_at(alloc: Global, bytes: &[u8]) -> Result<(Label, &[u8]), EntryRefu
     Ok((label, rest))
 }
 
-/// The number of a page at the front, and the bytes after it. `Bad` comes exactly if none stands
-/// there, and `NoMemory` never.
+/// Returns the number of a page at the front, and the bytes after it.
+///
+/// `Bad`: if and only if the bytes don't begin with one. `NoMemory`: never.
 #[tactic(auto, unfolding(crate::specs::Reading::page_number_at))]
 pub fn page_number_at(bytes: &[u8]) -> Result<(u64, &[u8]), EntryRefused>
     ensures { ReadsExactly (λ x. (x.0, x.1.now)) result (page_number_at bytes.now) }
@@ -98,7 +101,7 @@ fn page_at(bytes: &[u8]) -> Result<(Option<u64>, &[u8]), EntryRefused>
     }
 }
 
-// A weight.
+// A weight of 1 to 32,767.
 #[tactic(auto, unfolding(crate::specs::Reading::weight_at))]
 fn weight_at(bytes: &[u8]) -> Result<(u16, &[u8]), EntryRefused>
     ensures { ReadsExactly (λ x. (x.0, x.1.now)) result (weight_at bytes.now) }
@@ -111,7 +114,7 @@ fn weight_at(bytes: &[u8]) -> Result<(u16, &[u8]), EntryRefused>
     }
 }
 
-// An item.
+// An item: class, label, page and weight.
 #[tactic(auto, unfolding(crate::specs::Reading::item_at))]
 fn item_at(alloc: Global, bytes: &[u8]) -> Result<(Item, &[u8]), EntryRefused>
     ensures { ReadsUnlessMemory (λ x. (x.0, x.1.now)) result (item_at bytes.now) }

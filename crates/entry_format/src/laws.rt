@@ -6,8 +6,8 @@ ghost use Rattle.entry_format.specs.Spelling.{entry_bytes, entries_bytes};
 use page_policy::Limit;
 use ras_facts::{Entry, Fact};
 
-/// The laws of the format: no entry begins another, and bytes are at most one list of entries. The
-/// entry of a fact has at most 31 bytes, and 45 more for each item; that of a limit has 17.
+/// No entry is a beginning of another, and bytes are at most one list of entries. The entry of a
+/// fact has at most 31 bytes, and 45 more for each item; the entry of a limit has 17.
 pub fn format_laws()
     ensures none_begins_another { (d e : Entry) (x y : List ℕ) → IsValidEntry d → IsValidEntry e
         → entry_bytes d ++ x ≡ entry_bytes e ++ y → (d ≡ e) × (x ≡ y) }

@@ -46,22 +46,22 @@ fn whole_list(
     }
 }
 
-/// The entries whose spelling the bytes are, if they are `count` entries. Each byte is read once,
-/// and no byte after the last of that many entries.
+/// Returns the entries whose spelling the bytes are, if they are `count` entries. Each byte is read
+/// once, and no byte after the last of these entries is read.
 ///
-/// It is refused as `Bad` exactly if the bytes aren't the spelling of that many valid entries of
-/// the version, and as `NoMemory` if memory runs out.
+/// `Bad`: if and only if the bytes aren't the spelling of `count` valid entries of the version.
+/// `NoMemory`: only if memory runs out.
 pub fn read_list(
     alloc: Global,
     version: Version,
     count: u32,
     bytes: &[u8],
 ) -> Result<Vec<Entry>, EntryRefused>
-    // What is read is what the bytes are.
+    // The entries that are read are the entries that the bytes spell.
     ensures found { IfOk result (λ read. AreEntriesOf version read.items bytes.now) }
     ensures count { IfOk result (λ read. length read.items ≡ count) }
 
-    // What the bytes are is read, unless memory runs out.
+    // The entries that the bytes spell are read, unless memory runs out.
     ensures entries { (entries : List Entry) → AreEntriesOf version entries bytes.now
         → length entries ≡ count → result ≢ Err EntryRefused.NoMemory
         → IsOkAnd result (λ read. read.items ≡ entries) }

@@ -67,8 +67,9 @@ fn boot_name_at(bytes: &[u8]) -> Result<(Name, &[u8]), EntryRefused>
     Ok((Name::Boot { boot }, rest))
 }
 
-/// The name of a report at the front, and the bytes after it. `Bad` comes exactly if none stands
-/// there, and `NoMemory` never.
+/// Returns the name of a report at the front, and the bytes after it.
+///
+/// `Bad`: if and only if the bytes don't begin with one. `NoMemory`: never.
 #[tactic(auto, unfolding(crate::specs::Reading::name_at))]
 pub fn name_at(bytes: &[u8]) -> Result<(Name, &[u8]), EntryRefused>
     ensures { ReadsExactly (λ x. (x.0, x.1.now)) result (name_at bytes.now) }

@@ -19,7 +19,7 @@ pub(crate) const RETIRE: u8 = 3;
 /// The kind of an entry that is a limit of modules.
 pub(crate) const MODULE_LIMIT: u8 = 4;
 
-// A fact.
+// A fact, after its kind.
 #[tactic(auto, unfolding(crate::specs::Reading::fact_at))]
 fn fact_at(alloc: Global, bytes: &[u8]) -> Result<(Fact, &[u8]), EntryRefused>
     ensures { ReadsUnlessMemory (λ x. (x.0, x.1.now)) result (fact_at bytes.now) }
@@ -35,8 +35,9 @@ fn fact_at(alloc: Global, bytes: &[u8]) -> Result<(Fact, &[u8]), EntryRefused>
     Ok((fact, rest))
 }
 
-/// A limit at the front, and the bytes after it. `Bad` comes exactly if none in its ranges stands
-/// there, and `NoMemory` never.
+/// Returns a limit at the front, and the bytes after it.
+///
+/// `Bad`: if and only if the bytes don't begin with a limit in its ranges. `NoMemory`: never.
 #[tactic(auto, unfolding(crate::specs::Reading::limit_at))]
 pub fn limit_at(bytes: &[u8]) -> Result<(Limit, &[u8]), EntryRefused>
     ensures { ReadsExactly (λ x. (x.0, x.1.now)) result (limit_at bytes.now) }
@@ -63,7 +64,7 @@ fn module_limit_entry_at(version: Version, bytes: &[u8]) -> Result<(Entry, &[u8]
     }
 }
 
-// An entry.
+// An entry of this version, kind first.
 #[tactic(auto, unfolding(crate::specs::Reading::entry_at, crate::specs::Reading::fact_entry_at, crate::specs::Reading::limit_entry_at, crate::specs::Reading::retire_entry_at))]
 pub(crate) fn entry_at(
     alloc: Global,

@@ -10,7 +10,7 @@ use thiserror::Error;
 /// Why bytes were not read as entries.
 #[derive(Clone, Copy, Debug, PartialEq, Eq, Drop, Error)]
 pub enum EntryRefused {
-    /// They are none: they end before an entry does, or no entry begins so.
+    /// They aren't entries: they end before an entry does, or don't begin like one.
     #[error("the bytes are no entry")]
     Bad,
     /// Memory ran out.

@@ -6,7 +6,7 @@ ghost use Rattle.entry_format.specs.Spelling.{name_bytes, page_bytes, item_bytes
 
 use ras_facts::{Entry, Fact, Item, MOST_ITEMS, Name};
 
-/// How many bytes the spelling of a name has: at most 20.
+/// Returns how many bytes the spelling of a name has: at most 20.
 #[tactic(auto, using(crate::proofs::SizeLemmas::name_sizes), unfolding(crate::specs::Spelling::name_bytes))]
 pub fn name_len(name: &Name) -> usize
     ensures length { result ≡ length (name_bytes name.now) }
@@ -64,7 +64,7 @@ fn fact_len(fact: &Fact) -> usize
     name_len(&fact.name) + 10 + items_len(fact.items.as_slice())
 }
 
-/// How many bytes the spelling of an entry has. It has at most 65,535 items.
+/// Returns how many bytes the spelling of an entry has. Requires at most 65,535 items.
 #[tactic(auto, using(crate::proofs::SizeLemmas::name_sizes), unfolding(crate::specs::Spelling::entry_bytes, crate::specs::Spelling::limit_bytes))]
 pub fn entry_len(entry: &Entry) -> usize
     requires { length (items_in entry.now) ≤ MOST_ITEMS }

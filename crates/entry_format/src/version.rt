@@ -3,8 +3,8 @@
 /// The version of the format that a file has.
 #[derive(Clone, Copy, Debug, PartialEq, Eq)]
 pub enum Version {
-    /// The first one. It has no limits of modules.
+    /// The first version, without limits of modules.
     One,
-    /// The second one. It has every entry.
+    /// The second version, with every entry.
     Two,
 }

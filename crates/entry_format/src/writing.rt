@@ -12,7 +12,7 @@ use ras_base::NoMemory;
 use ras_base::little_endian::{push_u16, push_u64};
 use ras_facts::{Entry, Fact, Item, MOST_ITEMS, Name};
 
-/// Adds the spelling of the name of a report. If memory runs out, some of its bytes may have
+/// Appends the spelling of the name of a report. If memory runs out, some of its bytes may have
 /// been added.
 #[tactic(auto, unfolding(crate::specs::Spelling::name_bytes))]
 pub fn push_name(bytes: &mut Vec<u8>, name: &Name) -> Result<(), NoMemory>
@@ -55,8 +55,8 @@ pub fn push_name(bytes: &mut Vec<u8>, name: &Name) -> Result<(), NoMemory>
     }
 }
 
-/// Writes the spelling of the name of a report over the bytes from a place on, and answers the place
-/// after it. So many names can be spelled into one array, which is then added at once.
+/// Writes the spelling of the name of a report over the bytes from `place` on, and returns the
+/// index after it. So many names can be spelled into one array, which is then appended at once.
 #[inline(always)]
 #[tactic(auto, unfolding(crate::specs::Spelling::name_bytes))]
 pub fn put_name(room: &mut [u8], place: usize, name: &Name) -> usize
@@ -108,7 +108,7 @@ pub fn put_name(room: &mut [u8], place: usize, name: &Name) -> usize
     }
 }
 
-/// Adds a label after the number of its bytes. If memory runs out, some of its bytes may have
+/// Appends a label after the number of its bytes. If memory runs out, some of its bytes may have
 /// been added.
 #[tactic(auto, unfolding(crate::specs::Spelling::label_bytes))]
 pub fn push_label(bytes: &mut Vec<u8>, label: &Label) -> Result<(), NoMemory>
@@ -171,7 +171,7 @@ fn push_fact(bytes: &mut Vec<u8>, fact: &Fact) -> Result<(), NoMemory>
     push_items(bytes, items)
 }
 
-/// Adds the spelling of a limit. If memory runs out, some of its bytes may have been added.
+/// Appends the spelling of a limit. If memory runs out, some of its bytes may have been added.
 #[tactic(auto, unfolding(crate::specs::Spelling::limit_bytes))]
 pub fn push_limit(bytes: &mut Vec<u8>, limit: Limit) -> Result<(), NoMemory>
     ensures { OnOk result (bytes.new.items ≡ bytes.old.items ++ limit_bytes limit) }
@@ -180,8 +180,8 @@ pub fn push_limit(bytes: &mut Vec<u8>, limit: Limit) -> Result<(), NoMemory>
     push_u64(bytes, u64::from(limit.period))
 }
 
-/// Adds the spelling of an entry. It has at most 65,535 items, which is the most that a spelling
-/// can tell. If memory runs out, some of its bytes may have been added.
+/// Appends the spelling of an entry. Requires at most 65,535 items, the most that a spelling can
+/// count. If memory runs out, some of its bytes may have been added.
 #[tactic(auto, unfolding(crate::specs::Spelling::entry_bytes))]
 pub fn push_entry(bytes: &mut Vec<u8>, entry: &Entry) -> Result<(), NoMemory>
     requires { length (items_in entry.now) ≤ MOST_ITEMS }

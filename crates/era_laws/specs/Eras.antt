@@ -1,5 +1,5 @@
--- Runs on one journal and record store, one after another: each begins with what a stop left of the
--- one before it.
+-- Runs on one journal and record store, one after another: each begins with what a crash left of the run
+-- before it.
 use Rattle.std.specs.Prelude.{◌≡◌, ℕ, ◌+◌, ◌<◌, ◌≤◌, ◌⊎◌, nat_eq, Bool, false, if◌then◌else◌, List, [], ◌∷◌, ◌++◌, length, drop, take, All, Contains, Option, Ok, ⊤}
 use Rattle.std.specs.List.{flat_map, fold}
 use Rattle.board_core.specs.Stop.{Left}
@@ -23,53 +23,53 @@ use Rattle.ras_daemon.specs.RunOf.{run_of}
 use Rattle.ras_daemon.specs.RunStatus.{start_of}
 use Rattle.ras_daemon.specs.Runs.{BeginsWith, IsTakenWhole, PollsNothing}
 
--- A run up to a stop at some moment of it, or to its end: what stood at its start, and what was left.
+-- A run up to a crash at any point of it, or to its end: what was there at its start, and what was left.
 pub record Era : Type 0 where
   pub run : Run
   pub here : Left
   pub left : Left
 
--- It begins with the account that the files give there, and with the record store. What was left is
--- what a stop at a moment of the run may leave.
+-- The run begins with the account that the files give and with the record store. What was left is what a
+-- crash at some point of the run may leave.
 pub record IsEra (era : Era) : Type 0 where
   pub opens : Recovers era.run.account era.here
   pub store : era.run.store ≡ era.here.store
   pub leaves : Headline era.run era.here era.left
 
--- A run begins with these files and this record store. What it prints is printed anew.
+-- A run begins with these files and this record store. Its printed text starts from scratch.
 pub record BeginsOver (here : Left) (era : Era) : Type 0 where
   pub zero : era.here.file0 ≡ here.file0
   pub one : era.here.file1 ≡ here.file1
   pub store : era.here.store ≡ here.store
 
--- Eras follow one another, the first over what is here and each other one over what was left of the
--- one before it.
+-- Eras follow one another: the first over what is here, and each other over what was left of the era before
+-- it.
 abbrev pub AreEras : Left → List Era → Type 0
 AreEras here [] = ⊤
 AreEras here (era ∷ eras) = BeginsOver here era × IsEra era × AreEras era.left eras
 
--- what the last of them left
+-- what the last era left
 abbrev pub left_after : Left → List Era → Left
 left_after here [] = here
 left_after here (era ∷ eras) = left_after era.left eras
 
 -- ---- what was counted
 
--- what an era printed, and how many of its events are done by that
+-- what an era printed, and how many of its events are done by it
 abbrev pub printed_in : Era → List ℕ
 printed_in era = drop (length era.here.out) era.left.out
 
 abbrev pub done_in : Era → ℕ
 done_in era = done_count (printed_in era)
 
--- The files that an era left count so many of its events: those that are done by what it printed, or
--- one more. It is one more once a byte of the next event's output is printed.
+-- The files that an era left count n of its events: those that are done by what it printed, or one more. It
+-- is one more once a byte of the next event's text is printed.
 pub record Counts (era : Era) (n : ℕ) : Type 0 where
   pub recovers : Recovers (account_upto era.run n) era.left
   pub whole : (n ≡ done_in era) ⊎ (n ≡ done_in era + 1)
   pub acknowledged : length (text_upto era.run (done_in era)) < length (printed_in era) → n ≡ done_in era + 1
 
--- a number for each of them
+-- a number of events for each era
 abbrev pub CountsEach : List Era → List ℕ → Type 0
 CountsEach [] [] = ⊤
 CountsEach (era ∷ eras) (n ∷ counts) = Counts era n × CountsEach eras counts
@@ -79,24 +79,25 @@ CountsEach eras counts = ⊥
 abbrev pub reports_upto : Run → ℕ → List Entry
 reports_upto run n = flat_map (λ (event : RunEvent). event.reports) (take n run.does)
 
--- what they log, of that what is news at its place, and the orders that it gives there
+-- what these events log, which is the entries that are new at their places, and the orders that they give
+-- there
 abbrev pub logs_upto : Run → ℕ → List Entry
 logs_upto run n = fresh_entries_in run.account (reports_upto run n)
 
 abbrev pub orders_upto : Run → ℕ → List Order
 orders_upto run n = orders_along_entries run.account (reports_upto run n)
 
--- what the events that are counted report, era for era
+-- what the counted events report, era by era
 abbrev pub reported_in : List Era → List ℕ → List Entry
 reported_in (era ∷ eras) (n ∷ counts) = reports_upto era.run n ++ reported_in eras counts
 reported_in eras counts = []
 
--- what they log
+-- what the counted events log, era by era
 abbrev pub logged_in : List Era → List ℕ → List Entry
 logged_in (era ∷ eras) (n ∷ counts) = logs_upto era.run n ++ logged_in eras counts
 logged_in eras counts = []
 
--- and what they order
+-- what the counted events order, era by era
 abbrev pub ordered_in : List Era → List ℕ → List Order
 ordered_in (era ∷ eras) (n ∷ counts) = orders_upto era.run n ++ ordered_in eras counts
 ordered_in eras counts = []
@@ -108,47 +109,46 @@ abbrev pub is_put_by : StoreChange → ℕ → Bool
 is_put_by (puts r) id = nat_eq r.id id
 is_put_by change id = false
 
--- The bytes that are last laid under an identifier when an era is over, if these were before it: by
--- its events that are done. If the event after them puts a record there too, a stop may have come
--- before or after it, and what was left there counts.
+-- The bytes last stored under an identifier when an era is over, if `before` was stored at its start: by its
+-- events that are done. If the next event puts a record there too, the crash may have come before or after it
+-- was stored, so what was left there counts.
 abbrev pub laid_in : ℕ → Option (List ℕ) → Era → Option (List ℕ)
 laid_in id before era =
     if is_put_by (change_next era.run (done_in era)) id then bytes_under id era.left.store
     else fold (last_changed id) before (changes_upto era.run (done_in era))
 
--- by all of them, one after another, over the records that are here
+-- the bytes last stored under an identifier after all eras, over the records that are here
 abbrev pub last_laid_in : Left → List Era → ℕ → Option (List ℕ)
 last_laid_in here eras id = fold (laid_in id) (bytes_under id here.store) eras
 
 -- ---- the eras of scripts
 
--- the era of a script, over an account and what the board tells
+-- the era of a script, over an account and what the board's model says
 abbrev pub era_of : State → Told → List ℕ → Left → Era
 era_of account t script left = record { run = run_of (start_of account t) script; here = t.here; left = left }
 
--- the run of an era is that of a script, from where it started
+-- the run of an era is the run of a script, from where the run started
 pub record TakesScript (script : List ℕ) (era : Era) : Type 0 where
   pub start : Start
   pub is : era.run ≡ run_of start script
 
--- A script that polls nothing is taken from its first line again after each stop, until a last run
--- has all of its events done.
+-- A script without polls is run again from its first line after each crash, until a last run has all of its
+-- events done.
 pub record IsReplayed (history : History) (undisturbed : Start) (script : List ℕ) (here : Left) (eras : List Era) (last : Era) : Type 0 where
-  -- The files give the account of a history, with which a run that isn't stopped begins too.
+  -- The files give the account of a history, with which the uninterrupted run begins too.
   pub opens : Recovers (account_of history) here
   pub begins : BeginsWith history undisturbed
-  -- All eras take the script.
+  -- All eras run the script.
   pub follow : AreEras here (eras ++ last ∷ [])
   pub takes : All (TakesScript script) eras
   pub ends : TakesScript script last
   pub polls : PollsNothing script
-  -- Neither the run that isn't stopped nor the last one refuses a line, and the last one printed all
-  -- done lines.
+  -- Neither the uninterrupted run nor the last one refuses a line, and the last one printed all done lines.
   pub whole : IsTakenWhole undisturbed script
   pub taken : IsTakenWhole ends.start script
   pub done : length last.run.does ≤ done_in last
 
--- a record of a store that can be read has this name
+-- a readable record of a store has this name
 pub record IsReadableIn (store : List Stored) (name : Name) : Type 0 where
   pub stored : Stored
   pub there : Contains store stored

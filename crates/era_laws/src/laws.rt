@@ -1,4 +1,4 @@
-//! What holds over all runs on one journal and record store, whenever they were stopped.
+//! What holds over all runs on one journal and record store, whenever the machine crashed.
 
 ghost use Rattle.std.specs.Prelude.{◌≡◌, ◌≤◌, ◌⊎◌, ◌++◌, ℕ, List, [], ◌∷◌, length, Some, All};
 ghost use Rattle.std.specs.Prelude.{if◌then◌else◌};
@@ -38,26 +38,26 @@ ghost use Rattle.era_laws.specs.Eras.{reported_in, reports_upto};
 
 use board_core::{Board, Source};
 
-/// The laws of a machine's whole life. An era is a run up to a stop of the machine at any moment of
-/// it, or up to its end. Eras follow one another on one journal and record store: each begins with
-/// what was left of the one before it. The laws look at runs from outside: whatever their scripts
-/// say, they are events that report, change the record store, and print. What `rasd` promises of a
-/// script makes eras, as `run_eras` says.
+/// What holds over any number of runs on one machine. An era is a run up to its end, or up to a
+/// crash of the machine at any point. Eras follow one another on one journal and record store: each
+/// begins with what was left of the era before it. The laws look at runs from outside: whatever
+/// their scripts say, runs are events that report, change the record store, and print. `run_eras`
+/// shows that the promises of `rasd` make eras.
 ///
 /// - `counts`, `accounts` and `histories` say what the files give after all eras: the first account
-///   with what was done by what each era printed, and with at most one event more of each.
+///   with the events that are done by what each era printed, and with at most one more event of
+///   each.
 /// - `logged` and `once` say that over all eras no name is logged twice.
-/// - `ordered`, `page` and `module` say that nothing is ordered twice, and `page_stands` and
-///   `module_stands` that the account that is left has all that was ordered.
-/// - `records` and `cut` say of the records that were last put or saved, if they can be read, that
-///   each is in the store or counted.
-/// - `replayed`, `same` and `together` say that a script that is given again after each stop comes
-///   to what it comes to in one run, and `polled` and `polled_whole` what holds of one that polls.
-///
-/// The function does nothing: its clauses are what it is for.
+/// - `ordered`, `page` and `module` say that nothing is ordered twice. `page_stands` and
+///   `module_stands` say that the account that is left has all that was ordered.
+/// - `records` and `cut` say that each readable record that was last put or saved is in the store,
+///   or the account knows its name.
+/// - `replayed`, `same` and `together` say that a script without polls that is run again after each
+///   crash gives what it gives in one run. `polled` and `polled_whole` say what holds of a script
+///   that polls.
 pub fn era_laws()
-    // The files count of each era the events that are done by what it printed, or one more, and
-    // give the first account with what these report, in order.
+    // Of each era the files count the events that are done by what it printed, or one more. They
+    // give the first account with what these events report, in order.
     ensures counts { (here : Left) (eras : List Era) → AreEras here eras
         → (counts : List ℕ) × CountsEach eras counts }
     ensures accounts { (account : State) (here : Left) (eras : List Era) (counts : List ℕ)
@@ -68,7 +68,7 @@ pub fn era_laws()
         → Recovers (account_of (with_entries history (reported_in eras counts)))
         (left_after here eras) }
 
-    // What is logged comes era for era, and over all eras no name is logged twice.
+    // What is logged follows era by era, and over all eras no name is logged twice.
     ensures logged { (history : History) (here : Left) (eras : List Era) (counts : List ℕ)
         → Recovers (account_of history) here → AreEras here eras → CountsEach eras counts
         → fresh_entries (with_entries history (reported_in eras counts))
@@ -77,10 +77,10 @@ pub fn era_laws()
         → Recovers (account_of history) here → AreEras here eras → CountsEach eras counts
         → IsDistinct same_name (names_of (fresh_entries history ++ logged_in eras counts)) }
 
-    // What is ordered comes era for era too. Over all eras a page is ordered out of use at most
-    // once softly and at most once hard, and never softly after that; and since the last mark a
-    // module is ordered to be replaced once if its own corrected errors have made its bucket trip,
-    // and else not at all.
+    // What is ordered follows era by era too. Over all eras a page is taken offline at most once
+    // softly and at most once hard, and never softly after that. Since the last upgrade marker a
+    // module is ordered to be replaced once if its own corrected errors have tripped its bucket,
+    // and otherwise never.
     ensures ordered { (history : History) (here : Left) (eras : List Era) (counts : List ℕ)
         → Recovers (account_of history) here → AreEras here eras → CountsEach eras counts
         → orders (with_entries history (reported_in eras counts))
@@ -99,9 +99,9 @@ pub fn era_laws()
         ≡ (if has_tripped (module_errors after label)
         then replace_order after label ∷ [] else []) }
 
-    // What stands in the account that is left, and is printed when the next run starts: a page in
-    // the highest state that its orders asked for, and a module that is to be replaced if its own
-    // errors made its bucket trip.
+    // What is outstanding in the account that is left, and is printed when the next run starts: a
+    // page in the highest state that its orders asked for, and a module to be replaced if its own
+    // errors tripped its bucket.
     ensures page_stands { (history : History) (now : State) (here : Left) (eras : List Era)
         (counts : List ℕ) (page : ℕ)
         → Recovers (account_of history) here → AreEras here eras → CountsEach eras counts
@@ -116,21 +116,22 @@ pub fn era_laws()
         → row.replace
         ≡ has_tripped (module_errors (with_entries history (reported_in eras counts)) label) }
 
-    // Each record that was last put or saved in any era and can be read is in the store that was
-    // left, or the account that the files give knows its name.
+    // Each readable record that was last put or saved in any era is in the store that was left, or
+    // the account that the files give knows its name.
     ensures records { (account now : State) (here : Left) (eras : List Era)
         → Recovers account here → AreEras here eras → Recovers now (left_after here eras)
         → KeepsRecords (last_laid_in here eras) (KnownBy now) (left_after here eras).store }
 
-    // What a stop left of a put that it cut is what the put was to lay, or what was laid before it.
+    // If a crash interrupted a put, it left what the put was to store, or what was stored before
+    // it.
     ensures cut { (era : Era) (r : Stored) → IsEra era
         → change_next era.run (done_in era) ≡ puts r
         → let laid = store_upto era.run (done_in era) in
         Becomes (store_changed laid (puts r)) laid era.left.store }
 
-    // A script that is taken from its first line again after each stop leaves at last the account
-    // of one run that isn't stopped, but for the number of entries, since limits are set again.
-    // Where it reports facts alone that number is the same too.
+    // If a script without polls is run again from its first line after each crash, the account in
+    // the end is that of one uninterrupted run, except for the number of entries, because limits
+    // are set again. If the script reports only facts, that number is the same too.
     ensures replayed { (history : History) (undisturbed : Start) (script : List ℕ) (here : Left)
         (eras : List Era) (last : Era) (now : State)
         → IsReplayed history undisturbed script here eras last → Recovers now last.left
@@ -143,7 +144,7 @@ pub fn era_laws()
         → let whole = run_of undisturbed script in
         now ≡ account_upto whole (length whole.does) }
 
-    // Together these eras log each report of the run that isn't stopped once, in the same order.
+    // Together these eras log each report of the uninterrupted run once, in the same order.
     ensures together { (history : History) (undisturbed : Start) (script : List ℕ) (here : Left)
         (eras : List Era) (last : Era) (counts : List ℕ)
         → IsReplayed history undisturbed script here eras last
@@ -152,10 +153,10 @@ pub fn era_laws()
         facts_of (logged_in (eras ++ last ∷ []) counts)
         ≡ facts_of (logs_upto whole (length whole.does)) }
 
-    // That can't be said of a script that polls, since a poll reports what the store holds then.
-    // But if a later era takes the same script, those first events that the files counted before
-    // log there only reports of records that can be read in the store that was left. So do all of
-    // its events, if the script was taken whole and all of it counted.
+    // This doesn't hold for a script that polls, because a poll reports what is in the store at
+    // that time. But if a later era runs the same script, the first events, which the files counted
+    // before, log there only records that are readable in the store that was left. The same holds
+    // of all its events, if no line of the script was refused and all of its events were counted.
     ensures polled { (script : List ℕ) (here : Left) (era next : Era) (between : List Era)
         (n m : ℕ)
         → AreEras here (era ∷ (between ++ next ∷ []))
@@ -172,18 +173,17 @@ pub fn era_laws()
         (names_of (logs_upto next.run m)) }
 {}
 
-/// What `rasd` promises of a script makes an era of its run: up to any stop, up to the run's end, and
-/// of a run that was begun while the machine went on. The function does nothing: its clauses are
-/// what it is for.
+/// What follows from the promises of `rasd` for the run of a script: it is an era, up to any crash
+/// and up to its end, even if it began after a process was killed while the machine went on.
 pub fn run_eras<S: Source, B: Board>()
-    // The board tells all that a stop at a run's start may leave, if it rests there, as after a
-    // start of the machine.
+    // If a crash now leaves exactly what the board's model says, as after the machine starts, then
+    // a crash at a run's start leaves the account and the record store that the run starts with.
     ensures begins { (board : B) (account : State) (t : Told) → Recovers account t.here
         → Rests t (B.told board) (B.clock board)
         → StopsRecover (start_of account t) (B.clock board) }
 
-    // Then what a stop at any moment of the run leaves makes an era of it, by `rasd/stops`; and so
-    // does what the board tells where the run ends.
+    // Whatever a crash at any point of the run leaves is then the end of an era, by `rasd/stops`.
+    // So is what the board's model says when the run ends.
     ensures stopped { (exit : Exit) (first last : S) (old new : B)
         (account : State) (t : Told) (script : List ℕ) (left : Left)
         → Recovers account t.here → StopsRecover (start_of account t) (B.clock old)
@@ -196,9 +196,10 @@ pub fn run_eras<S: Source, B: Board>()
         → RunStops B.told B.clock exit (last ≡ first) (start_of account t) script t old new
         → B.told new ≡ Some now → IsEra (era_of account t script now.here) }
 
-    // A process may die and the machine go on, with writes under way. What a stop of the next run
-    // leaves makes an era of it from the moment on at which its journal is open. A stop before that
-    // does so too, or leaves what one at the very start of this run might have left.
+    // After a process is killed the machine goes on, and writes may not be durable yet. A crash
+    // during the next run leaves the end of an era of that run from the point at which its journal
+    // is open. A crash before that does so too, or leaves what a crash at the very start of this
+    // run might have left.
     ensures settled { (old new : B) (account : State) (t : Told) (script : List ℕ) (left : Left)
         → Recovers account t.here
         → (settles : Settles B.told B.clock (start_of account t) script t old new)
@@ -212,8 +213,8 @@ pub fn run_eras<S: Source, B: Board>()
         → LeftNow (B.clock old) left ⊎ IsEra (era_of account t script left) }
 {}
 
-/// What the run of a script reports, logs and orders, as it looks from outside, is what `run_laws`
-/// says of the lines of the script. The function does nothing: its clauses are what it is for.
+/// What the events of a script's run report, log and order is what `run_laws` says of the script's
+/// lines.
 pub fn script_eras()
     ensures reports { (start : Start) (script : List ℕ) (n : ℕ)
         → reports_upto (run_of start script) n ≡ reported start script n }

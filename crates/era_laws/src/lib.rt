@@ -1,5 +1,7 @@
-//! The life of a machine's account: runs on one journal and record store, one after another, each
-//! stopped at any moment or ended, and each begun with what was left of the one before it.
+//! Laws over any number of runs on one journal and record store, one after another. Each run ended,
+//! or a crash cut it short at any point, and each began with what was left of the run before it.
+//!
+//! A public function with an empty body is a law: its clauses are the point.
 #![tactic(auto)]
 
 mod laws;

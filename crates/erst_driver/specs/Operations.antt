@@ -1,5 +1,5 @@
--- The operations on the device, each as the actions that it runs one after another: ACPI 6.5,
--- section 18.5.2, "Operations". How often a busy device is asked is this project's own.
+-- The operations on the device, each as the actions that it runs one after another: ACPI 6.5, section 18.5.2,
+-- "Operations". How often a busy device is asked is this project's own rule.
 use Rattle.std.specs.Prelude.{ℕ, ◌+◌, ◌<◌, ◌≤◌, min, length, Bool, nat_lt, List, [], ◌∷◌, ◌++◌, replicate, Result, Ok, Err, if◌then◌else◌}
 use Rattle.std.specs.List.{AllByRecursion}
 use Rattle.erst_store.specs.Actions.{begin_write_operation, begin_read_operation, begin_clear_operation, end_operation, set_record_offset, execute_operation, check_busy_status, get_command_status, get_record_identifier, set_record_identifier, get_record_count, range_length}
@@ -32,7 +32,7 @@ step action input = record { action = action; input = input }
 abbrev pub without_input : ℕ → Step
 without_input action = step action 0
 
--- how each operation goes until it is carried out
+-- the actions of each operation up to its execution
 abbrev pub clear_steps : ℕ → List Step
 clear_steps id =
     without_input begin_clear_operation ∷ step set_record_identifier id ∷ without_input execute_operation ∷ []
@@ -46,30 +46,33 @@ abbrev pub write_steps : List Step
 write_steps =
     without_input begin_write_operation ∷ step set_record_offset 0 ∷ without_input execute_operation ∷ []
 
--- A device that gives this many busy answers is asked once more than that, until it answers 0. After
--- 1,000 checks it isn't asked on.
+-- A device that gives this many busy answers is asked once more, until it answers 0. After 1,000 checks it isn't asked
+-- again.
 abbrev pub checks : ℕ → List Step
 checks count = replicate count (without_input check_busy_status)
 
 abbrev pub most_checks : ℕ
 most_checks = 1000
 
+-- whether a device that gives this many busy answers is free within the most checks
 abbrev pub is_free_in_time : ℕ → Bool
 is_free_in_time busy = nat_lt busy most_checks
 
+-- the checks of a device that gives this many busy answers
 abbrev pub asks : ℕ → List Step
 asks busy = if is_free_in_time busy then checks (busy + 1) else checks most_checks
 
--- One that is free is asked for its status, and the operation is ended.
+-- A device that isn't busy any more is asked for its status, and the operation is ended.
 abbrev pub ends : ℕ → List Step
 ends busy =
     if is_free_in_time busy then without_input get_command_status ∷ without_input end_operation ∷ [] else []
 
+-- the steps after the execution: the checks, then the status and the end
 abbrev pub finishes : ℕ → List Step
 finishes busy = asks busy ++ ends busy
 
--- Identifiers are listed to the end of the list, and then again from the first one on, until the
--- end is told or there are as many as a store can hold.
+-- Identifiers are listed to the end of the list, and then again from the first one on, until the end is returned or
+-- there are as many as a store can contain.
 abbrev pub listings : ℕ → List Step
 listings count = replicate count (without_input get_record_identifier)
 
@@ -95,14 +98,15 @@ unfoldable pub device_calls : List (List InstructionEntry) → List Step → Dev
 device_calls lists [] d = []
 device_calls lists (s ∷ steps) d = (end_by lists s d).state.calls ++ device_calls lists steps (end_by lists s d).state.device
 
--- what a board tells after them
+-- the model of a board after these runs
 abbrev pub told_by_step : List (List InstructionEntry) → Step → Told → Told
 told_by_step lists s t = told_after (end_by lists s (device_of t)).state t
 
+-- the model of a board after these steps, by the lists of a table
 abbrev pub told_by : List (List InstructionEntry) → List Step → Told → Told
 told_by lists steps t = after_acts (acts_of (device_calls lists steps (device_of t))) t
 
--- all actions of an operation that goes so, over a device
+-- all actions of an operation with these steps, over a device
 abbrev pub actions_of : List Step → Device → List Step
 actions_of steps d = steps ++ finishes (after_steps steps d).busy
 
@@ -111,12 +115,12 @@ actions_of steps d = steps ++ finishes (after_steps steps d).busy
 abbrev pub clear_calls : List (List InstructionEntry) → ℕ → Device → List DeviceCall
 clear_calls lists id d = device_calls lists (actions_of (clear_steps id) d) d
 
--- what is read of the range after an operation that comes to this answer
+-- the calls that read the range after an operation with this result
 abbrev pub fetch_calls : Result (Unit {0}) DriverRefused → List DeviceCall
 fetch_calls (Ok done) = range_read 0 range_length ∷ []
 fetch_calls (Err why) = []
 
--- A write puts the bytes into the range first.
+-- the model once a write has put the bytes into the range
 abbrev pub put_in_range : List ℕ → Told → Told
 put_in_range bytes t = after_acts (acts_of (range_write 0 bytes ∷ [])) t
 

@@ -25,14 +25,14 @@ use std::marker::Model;
 /// How often a busy device is asked in one operation.
 pub const MOST_CHECKS: u32 = 1000;
 
-// How often identifiers are listed until the end of a list is told: once more than a store has
+// How many identifiers are listed until the end of a list is returned: one more than a store has
 // records.
 const MOST_LISTINGS: usize = MOST_RECORDS + 1;
 
-// What is listed at the end.
+// The identifier that is returned at the end of a list.
 const NO_RECORD: u64 = u64::MAX;
 
-/// A driver of the device of a board, by an admitted table.
+/// A driver of the device of a board, which uses an admitted table.
 #[derive(Drop)]
 pub struct Driver {
     table: Table,
@@ -51,7 +51,7 @@ impl Model for Driver {
 }
 
 impl Driver {
-    /// The driver of an admitted table.
+    /// Returns the driver that uses this table, which has to be admitted.
     pub fn new(table: Table) -> Driver
         requires { IsAdmittedTable table }
         ensures { result ≡ table }
@@ -62,14 +62,14 @@ impl Driver {
     /// Removes the record under an identifier from the store, and no other. (ACPI 6.5, section
     /// 18.5.2.3, "Clearing".)
     ///
-    /// `Register` comes only if a call of the board failed, which is then the last one. `Busy`
-    /// comes if the device was busy at `MOST_CHECKS` checks, the last of which is then the last
-    /// action; the record is removed even so. `Status` comes after the operation was ended: 4
-    /// if the store is empty, and 5 if it has no such record.
+    /// `Register`: only if a call of the board failed; that call was the last. `Busy`: the device
+    /// was busy at `MOST_CHECKS` checks, the last of which is the last action; the record is
+    /// removed anyway. `Status`: after the operation was ended, 4 if the store is empty, and 5 if
+    /// it has no such record.
     ///
-    /// At each moment a stop leaves what one before the call might have left, or this without the
-    /// record, if one before leaves the store that is told. What the calls themselves leave stands
-    /// at [`crate::operations_on_the_store`].
+    /// If a crash before the call would leave the store in the model, a crash during it leaves what
+    /// a crash before might have left, with the record or without it.
+    /// [`crate::operations_on_the_store`] says what the calls themselves leave.
     pub fn clear<B: Board>(&self, id: u64, board: &mut B) -> Result<(), DriverRefused>
         ensures clears { RunsOperation (looks B.told B.clock B.faults)
             (clear_calls self.now id) (answer_on_found id) (Clears id) result board.old board.new }
@@ -78,15 +78,15 @@ impl Driver {
         self.operate(&steps, board)
     }
 
-    /// Reads the record under an identifier into a buffer of `RANGE_LENGTH` bytes, which then
-    /// holds the record and zeros after it. (ACPI 6.5, section 18.5.2.2, "Reading".) The range is
-    /// read by one call after the operation was ended.
+    /// Reads the record under an identifier into a buffer of `RANGE_LENGTH` bytes, which then has
+    /// the record and zeros after it. The range is read by one call after the operation was ended.
+    /// (ACPI 6.5, section 18.5.2.2, "Reading".)
     ///
-    /// `Register` comes only if a call of the board failed, which is then the last one. `Busy`
-    /// comes if the device was busy at `MOST_CHECKS` checks, the last of which is then the last
-    /// action. `Status` comes after the operation was ended: 4 if the store is empty, and 5
-    /// if it has no such record. At each moment a stop leaves what one before the call might
-    /// have left, if one before leaves the store that is told.
+    /// `Register`: only if a call of the board failed; that call was the last. `Busy`: the device
+    /// was busy at `MOST_CHECKS` checks, the last of which is the last action. `Status`: after the
+    /// operation was ended, 4 if the store is empty, and 5 if it has no such record. If a crash
+    /// before the call would leave the store in the model, a crash during it leaves what a crash
+    /// before might have left.
     pub fn read<B: Board>(
         &self,
         id: u64,
@@ -106,17 +106,17 @@ impl Driver {
     }
 
     /// Puts a record into the store, under the identifier in its header, and leaves all others.
-    /// (ACPI 6.5, section 18.5.2.1, "Writing".) It has 128 to `RANGE_LENGTH` bytes, and its header
-    /// says how many.
+    /// Requires that it has 128 to `RANGE_LENGTH` bytes, as many as its header says. (ACPI 6.5,
+    /// section 18.5.2.1, "Writing".)
     ///
-    /// `Register` comes only if a call of the board failed, which is then the last one. `Busy`
-    /// comes if the device was busy at `MOST_CHECKS` checks, the last of which is then the last
-    /// action; the record is put even so. `Status` comes after the operation was ended: 1 if
-    /// the identifier is 0 or all ones, or the store is full and has no record under it.
+    /// `Register`: only if a call of the board failed; that call was the last. `Busy`: the device
+    /// was busy at `MOST_CHECKS` checks, the last of which is the last action; the record is put
+    /// anyway. `Status`: after the operation was ended, 1 if the identifier is 0 or all ones, or
+    /// the store is full and has no record under it.
     ///
-    /// At each moment a stop leaves what one before the call might have left, or this with the
-    /// record put, if one before leaves the store that is told. What the calls themselves leave
-    /// stands at [`crate::operations_on_the_store`].
+    /// If a crash before the call would leave the store in the model, a crash during it leaves what
+    /// a crash before might have left, with the record put or not.
+    /// [`crate::operations_on_the_store`] says what the calls themselves leave.
     pub fn write<B: Board>(&self, bytes: &[u8], board: &mut B) -> Result<(), DriverRefused>
         requires fits { (header_length ≤ length bytes.now)
             × (length bytes.now ≤ range_length) }
@@ -130,14 +130,14 @@ impl Driver {
         self.operate(&steps, board)
     }
 
-    /// The identifiers of the records, in the store's order. (ACPI 6.5, section 18.5.2.2,
-    /// "Reading".) They are listed to the end of the list first, wherever a listing stood, and then
-    /// from the first one on.
+    /// Returns the identifiers of the records, in the store's order. They are first listed to the
+    /// end of the list, wherever a listing was, and then from the first one on. (ACPI 6.5, section
+    /// 18.5.2.2, "Reading".)
     ///
-    /// `Register` comes only if a call of the board failed, which is then the last one, and
-    /// `NoMemory` only if memory runs out, after some of the actions. No other refusal comes. At
-    /// each moment a stop leaves what one before the call might have left, if one before leaves the
-    /// store that is told.
+    /// `Register`: only if a call of the board failed; that call was the last. `NoMemory`: only if
+    /// memory runs out, after some of the actions. No other error is returned. If a crash before
+    /// the call would leave the store in the model, a crash during it leaves what a crash before
+    /// might have left.
     pub fn ids<B: Board>(&self, alloc: Global, board: &mut B) -> Result<Vec<u64>, DriverRefused>
         ensures lists { ListsRecords (looks B.told B.clock B.faults) (list_calls self.now) result
             board.old board.new }
@@ -149,7 +149,7 @@ impl Driver {
         self.collect(alloc, board)
     }
 
-    // Lists identifiers until the end of the list is told.
+    // Lists identifiers until the end of the list is returned.
     fn list_to_end<B: Board>(&self, board: &mut B) -> Result<(), DriverRefused>
         ensures lists { ListsOut self.now result
             (looks B.told B.clock B.faults board.old)
@@ -164,8 +164,8 @@ impl Driver {
         Ok(())
     }
 
-    // Collects identifiers from the cursor on, until the end of the list is told or there are as
-    // many as a store can hold.
+    // Collects identifiers from the cursor on, until the end of the list is returned or there are
+    // as many as a store can contain.
     fn collect<B: Board>(&self, alloc: Global, board: &mut B) -> Result<Vec<u64>, DriverRefused>
         ensures collects { Collects (λ v. v.items) self.now result
             (looks B.told B.clock B.faults board.old)
@@ -185,7 +185,7 @@ impl Driver {
         Ok(found)
     }
 
-    // Runs the actions of an operation until it is carried out, asks the device until it isn't busy,
+    // Runs the actions of an operation up to its execution, asks the device until it isn't busy,
     // and then for its status, and ends the operation.
     fn operate<B: Board>(&self, steps: &[Step], board: &mut B) -> Result<(), DriverRefused>
         requires { AreInside steps.now }

@@ -1,4 +1,4 @@
-//! What is told after operations and meanwhile, and the limits in digits.
+//! The model after operations and during them, and the limits in digits.
 
 ghost use Rattle.std.specs.Prelude.{◌≡◌, ◌<◌, ◌≤◌, ◌^◌, ℕ, List, ◌++◌, length};
 ghost use Rattle.ras_base.specs.LittleEndian.{AreBytes, number_at};
@@ -20,9 +20,8 @@ ghost use Rattle.erst_driver.specs.declared.driver.TheConstants.{MOST_CHECKS, MO
 ghost use Rattle.erst_driver.specs.declared.step.Step.{Step};
 ghost use Rattle.erst_driver.specs.Operations.{AreInside, after_steps, clear_calls, list_calls, told_by, write_calls};
 
-/// What is told after actions by an admitted table: the device after the actions themselves,
-/// whatever the table. What else is told decides nothing, and accesses are only added. The function
-/// does nothing.
+/// The model after actions by an admitted table has the device after the actions themselves,
+/// whatever the table. Nothing else in the model matters, and accesses are only added.
 pub fn told_by_is_of_the_device()
     ensures device { (lists : List (List InstructionEntry)) (steps : List Step) (t : Told)
         → IsAdmittedTable lists → AreInside steps → IsDevice (device_of t)
@@ -34,9 +33,9 @@ pub fn told_by_is_of_the_device()
         → (more : List Access) × ((told_by lists steps t).accesses ≡ t.accesses ++ more) }
 {}
 
-/// What the operations do to the record store, by their calls of the device: what is told once they
-/// are done, and what a stop of the machine leaves meanwhile. A clear and a write change the store
-/// at one moment, a read and a listing never. The function does nothing.
+/// What the operations do to the record store, by their calls of the device: the model once they
+/// are done, and what a crash leaves meanwhile. A clear and a write change the store at one point,
+/// a read and a listing never.
 pub fn operations_on_the_store()
     ensures clear { (lists : List (List InstructionEntry)) (t : Told) → IsAdmittedTable lists
         → IsDevice (device_of t) → (id : ℕ) → id < 2 ^ 64
@@ -75,7 +74,7 @@ pub fn operations_on_the_store()
         → InStore (Becomes (store_after_write bytes t.here.store)) t.here left }
 {}
 
-/// The limits in digits. The function does nothing.
+/// The limits have these digits.
 pub fn driver_limits()
     ensures checks { MOST_CHECKS ≡ 1000 }
     ensures records { MOST_RECORDS ≡ 1024 }

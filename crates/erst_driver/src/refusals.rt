@@ -1,4 +1,4 @@
-//! Why an operation ends without its answer.
+//! Why an operation fails.
 
 ghost use Rattle.std.specs.Prelude.{◌≡◌};
 
@@ -7,7 +7,7 @@ use erst_interp::RunRefused;
 use ras_base::NoMemory;
 use thiserror::Error;
 
-/// Why an operation ends without its answer.
+/// Why an operation fails.
 #[derive(Clone, Copy, Debug, PartialEq, Eq, Error)]
 pub enum DriverRefused {
     /// A call of the board failed.
@@ -44,7 +44,7 @@ impl From<NoMemory> for DriverRefused {
     }
 }
 
-// The list of an admitted table is refused only if a call of the board failed.
+// The list of an admitted table fails only if a call of the board failed.
 impl From<RunRefused> for DriverRefused {
     ghost use Rattle.erst_driver.specs.declared.refusals.DriverRefused.TheVariants.{Register};
 

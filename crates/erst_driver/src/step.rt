@@ -31,7 +31,7 @@ impl Step {
     }
 }
 
-// The actions of a clearing, until it is carried out.
+// The actions of a clear, up to its execution.
 pub(crate) fn clear_steps(id: u64) -> [Step; 3]
     ensures { result ≡ clear_steps id }
 {
@@ -40,7 +40,7 @@ pub(crate) fn clear_steps(id: u64) -> [Step; 3]
     [begin, cleared, Step::without_input(EXECUTE_OPERATION)]
 }
 
-// The actions of a reading, until it is carried out.
+// The actions of a read, up to its execution.
 pub(crate) fn read_steps(id: u64) -> [Step; 4]
     ensures { result ≡ read_steps id }
 {
@@ -50,7 +50,7 @@ pub(crate) fn read_steps(id: u64) -> [Step; 4]
     [begin, offset, read, Step::without_input(EXECUTE_OPERATION)]
 }
 
-// The actions of a writing, until it is carried out.
+// The actions of a write, up to its execution.
 pub(crate) fn write_steps() -> [Step; 3]
     ensures { result ≡ write_steps }
 {

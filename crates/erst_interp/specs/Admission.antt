@@ -19,7 +19,7 @@ use Rattle.erst_interp.specs.Table.{list_of}
 
 -- ---- the actions
 
--- the actions that take the input, and those that answer
+-- the actions that take the input, and the actions that return something
 abbrev pub takes_input : ℕ → Bool
 takes_input action = nat_eq action set_record_offset || nat_eq action set_record_identifier
 
@@ -28,13 +28,12 @@ gives_answer action =
     nat_eq action check_busy_status || nat_eq action get_command_status
     || nat_eq action get_record_identifier || nat_eq action get_record_count
 
--- the bits that the mask of an input's write has to hold: the low 32 of an offset, all of an
--- identifier
+-- the bits that the mask of an input's write has to have: the low 32 of an offset, all of an identifier
 abbrev pub input_bits : ℕ → ℕ
 input_bits action = if nat_eq action set_record_offset then 2 ^ 32 - 1 else 2 ^ 64 - 1
 
--- the bits that the mask of an answer's read has to hold: bit 0 of whether the device is busy, the
--- low 8 of a status, all of an identifier, the low 32 of a count
+-- the bits that the mask of an answer's read has to have: bit 0 of whether the device is busy, the low 8 of a status,
+-- all of an identifier, the low 32 of a count
 abbrev pub answer_bits : ℕ → ℕ
 answer_bits action =
     if nat_eq action check_busy_status then 1
@@ -52,11 +51,11 @@ abbrev pub is_value : Option Reg → Bool
 is_value (Some Value) = true
 is_value register = false
 
--- whether a mask holds these bits
+-- whether a mask has these bits
 abbrev pub holds_bits : ℕ → ℕ → Bool
 holds_bits bits mask = nat_eq (bit_and mask bits) bits
 
--- an entry that leaves the device and the value alone
+-- an entry that changes neither the device nor the value
 abbrev pub is_idle_by : Instruction → Option Reg → Bool
 is_idle_by Noop register = true
 is_idle_by Stall register = true
@@ -69,7 +68,7 @@ is_idle_by _ register = false
 abbrev pub is_idle : InstructionEntry → Bool
 is_idle e = is_idle_by e.instruction e.register
 
--- an entry that has a whole register, of which it keeps nothing
+-- an entry that uses a whole register, of which it keeps nothing
 abbrev pub is_whole : InstructionEntry → Bool
 is_whole e = nat_eq e.offset 0 && not e.preserves
 
@@ -92,7 +91,7 @@ abbrev pub is_input : ℕ → InstructionEntry → Bool
 is_input action e =
     is_write e.instruction && is_value e.register && is_whole e && holds_bits (input_bits action) e.mask
 
--- an entry that writes a number of its own to Value: EXECUTE forgets what Value holds
+-- an entry that writes a number of its own to Value: EXECUTE ignores what Value has
 abbrev pub is_free : ℕ → InstructionEntry → Bool
 is_free action e =
     nat_eq action execute_operation && is_constant e.instruction && is_value e.register && not e.preserves
@@ -123,12 +122,13 @@ pub record HoldsOne (Is : InstructionEntry → Bool) (entries : List Instruction
   pub is : IsTrue (Is one)
   pub idle_after : AreIdle after
 
--- what stands before the action's write: the input's write among idle entries, or idle entries and
--- before EXECUTE also writes to Value
+-- what comes before the action's write: the input's write among idle entries, or idle entries and before EXECUTE also
+-- writes to Value
 abbrev pub BeginsBy : Bool → ℕ → List InstructionEntry → Type 0
 BeginsBy true action entries = HoldsOne (is_input action) entries
 BeginsBy false action entries = IsTrue (list_all (λ e. is_idle e || is_free action e) entries)
 
+-- what comes before the write to Action in a list of this action
 abbrev pub IsBeginning : ℕ → List InstructionEntry → Type 0
 IsBeginning action entries = BeginsBy (takes_input action) action entries
 
@@ -140,15 +140,16 @@ pub record EndsWithAnswer (action : ℕ) (entries : List InstructionEntry) : Typ
   pub are_idle : AreIdle idle
   pub is : IsTrue (is_answer action last)
 
--- what stands after it: idle entries, and if the action answers last the answer's read
+-- what comes after the action's write: idle entries and, if the action returns something, last the answer's read
 abbrev pub EndsBy : Bool → ℕ → List InstructionEntry → Type 0
 EndsBy true action entries = EndsWithAnswer action entries
 EndsBy false action entries = AreIdle entries
 
+-- what comes after the write to Action in a list of this action
 abbrev pub IsEnding : ℕ → List InstructionEntry → Type 0
 IsEnding action entries = EndsBy (gives_answer action) action entries
 
--- An admitted list of an action: its one write to Action, what stands before it and what after it.
+-- An admitted list of an action: its one write to Action, with what comes before and after it.
 pub record IsAdmitted (action : ℕ) (list : List InstructionEntry) : Type 0 where
   pub short : length list ≤ most_turns
   pub before : List InstructionEntry

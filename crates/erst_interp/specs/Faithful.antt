@@ -22,11 +22,11 @@ input_limit action = if nat_eq action set_record_offset then 2 ^ 32 else 2 ^ 64
 abbrev pub with_input : ℕ → ℕ → Device → Device
 with_input action input d = if takes_input action then record d { value = input } else d
 
--- the device after the action, and the answer: the device's value, or the input if the action
--- answers nothing
+-- the device after the action, and what it returns: the device's value, or the input if the action returns nothing
 abbrev pub device_after : ℕ → ℕ → Device → Device
 device_after action input d = act action (with_input action input d)
 
+-- the value that the action returns, or the input if it returns nothing
 abbrev pub answer_after : ℕ → ℕ → Device → ℕ
 answer_after action input d = if gives_answer action then (device_after action input d).value else input
 
@@ -39,27 +39,28 @@ pub record DoesAction (action input : ℕ) (d : Device) (end : End) : Type 0 whe
 abbrev pub IsFaithful : ℕ → List InstructionEntry → Type 0
 IsFaithful action list = (input : ℕ) (d : Device) → IsDevice d → input < input_limit action → DoesAction action input d (machine_end list input d)
 
--- What a run of an admitted list does to a board: it answers as the action does, and the board
--- tells the device after the action. It is refused only if a call of the board failed.
+-- What a run of an admitted list does to a board: it returns what the action returns, and the board's model has the
+-- device after the action. It fails only if a call of the board failed.
 pub record ActsOn (action input value : ℕ) (t : Told) (new : Option Told) : Type 0 where
   pub after : Told
   pub told : new ≡ Some after
   pub device : device_of after ≡ device_after action input (device_of t)
   pub answer : value ≡ answer_after action input (device_of t)
 
+-- a run that does the action, or fails because a call of the board failed
 abbrev pub DoesRun : ℕ → ℕ → Result ℕ RunRefused → Told → Option Told → Type 0
 DoesRun action input (Ok answer) t new = ActsOn action input answer t new
 DoesRun action input (Err Register) t new = Unit {0}
 DoesRun action input (Err why) t new = ⊥
 
--- a run that isn't refused, or only since a call of the board failed
+-- a run that returns a value, or fails only because a call of the board failed
 abbrev pub IsRegisterAlone : Result ℕ RunRefused → Type 0
 IsRegisterAlone (Ok answer) = Unit {0}
 IsRegisterAlone (Err Register) = Unit {0}
 IsRegisterAlone (Err why) = ⊥
 
--- The record store stays, or becomes the one that is told, or the one after the action. Of a board
--- that tells nothing this says nothing.
+-- The record store is unchanged, or becomes the one that the model has, or the one after the action. Says nothing of a
+-- board that isn't modelled.
 abbrev pub StoreInAction : ℕ → ℕ → Option Told → List Stored → List Stored → Type 0
 StoreInAction action input None old new = Unit {0}
 StoreInAction action input (Some t) old new =
@@ -67,12 +68,12 @@ StoreInAction action input (Some t) old new =
 
 -- A run of an admitted list over a board does its action.
 pub record RunsAction (action input : ℕ) (result : Result ℕ RunRefused) (old new : Seen) : Type 0 where
-  -- It answers as the action does, and the device is as after it.
+  -- The run returns what the action returns, and the device is as after the action.
   pub does : input < input_limit action → IfSome old.told (λ t. DoesRun action input result t new.told)
-  -- It is refused only if a call of the board failed.
+  -- The run fails only if a call of the board failed.
   pub only_register : IsRegisterAlone result
-  -- What the board told was a device.
+  -- The device in the model was a device.
   pub device : IfSome old.told (λ t. IsDevice (device_of t))
-  -- A stop during it leaves of the record store what one before might have left, or the store that
-  -- was told, or the one after the action.
+  -- A crash during the run leaves of the record store what a crash before might have left, or the store in the model,
+  -- or the store after the action.
   pub stores : input < input_limit action → Passes (InStore (StoreInAction action input old.told)) old.clock new.clock

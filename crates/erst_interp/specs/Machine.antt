@@ -1,6 +1,6 @@
--- The serialization machine: ACPI 6.5, section 18.5.1.2, "Serialization Instructions". It runs the
--- list of an action over the device, one instruction a turn. That it ends after 4,096 turns, that
--- GOTO counts within the action's list and that STALL doesn't wait are this project's own.
+-- The serialization machine: ACPI 6.5, section 18.5.1.2, "Serialization Instructions". It runs the list of an action
+-- over the device, one instruction a turn. That it ends after 4,096 turns, that GOTO counts within the action's list
+-- and that STALL doesn't wait are this project's own rules.
 use Rattle.std.specs.Prelude.{ℕ, zero, suc, ◌+◌, ◌-◌, ◌*◌, ◌/◌, ◌%◌, ◌^◌, Bool, true, false, ◌&&◌, nat_eq, nat_le, List, [], ◌∷◌, ◌++◌, take, drop, slice_get, bit_and, bit_or, Option, Some, None, Result, Ok, Err, if◌then◌else◌}
 use Rattle.erst_store.specs.Actions.{range_address, range_length}
 use Rattle.erst_store.specs.Device.{Device}
@@ -26,14 +26,14 @@ pub record MachineState : Type 0 where
 abbrev pub new_variables : ℕ → Variables
 new_variables input = record { index = 0; value = input; var1 = 0; var2 = 0; src = 0; dst = 0 }
 
--- what a turn comes to: the run goes on in a state, or is refused in one
+-- how a turn ends: the run goes on in a state, or fails in one
 pub data Outcome : Type 0 where
   goes : MachineState → Outcome
   stops : RunRefused → MachineState → Outcome
 
 -- ---- numbers of 64 bits
 
--- what is left of a number in 64 bits; a sum, a difference
+-- a number, a sum and a difference in 64 bits
 abbrev pub wrapped : ℕ → ℕ
 wrapped number = number % 2 ^ 64
 
@@ -63,9 +63,11 @@ in_place e number = wrapped (number * 2 ^ e.offset)
 abbrev pub cleared : InstructionEntry → ℕ → ℕ
 cleared e number = bit_and number (2 ^ 64 - 1 - in_place e e.mask)
 
+-- what is written with preserve: the number in the field, and the register's other bits
 abbrev pub with_field : InstructionEntry → ℕ → ℕ → ℕ
 with_field e x number = bit_or (in_place e (bit_and x e.mask)) (cleared e number)
 
+-- what is written without preserve: the number in the field, and 0 in all other bits
 abbrev pub alone : InstructionEntry → ℕ → ℕ
 alone e x = in_place e (bit_and x e.mask)
 
@@ -110,6 +112,7 @@ is_inside address count = nat_le range_address address && nat_le (address + coun
 
 -- ---- instructions
 
+-- the variables with the index of the entry after this one
 abbrev pub next : Variables → Variables
 next v = record v { index = v.index + 1 }
 
@@ -126,17 +129,18 @@ abbrev pub with_register : Option Reg → MachineState → (Reg → Outcome) →
 with_register None s go_on = stops BadRegister s
 with_register (Some reg) s go_on = go_on reg
 
+-- an instruction that uses the register of its entry
 abbrev pub uses : InstructionEntry → MachineState → (Reg → Outcome) → Outcome
 uses e s go_on = with_register e.register s go_on
 
--- one that reads the entry's field, and one that writes it
+-- an instruction that reads the entry's field, and an instruction that writes it
 abbrev pub reads : InstructionEntry → MachineState → (ℕ → Variables) → Outcome
 reads e s after = uses e s (λ reg. goes (with_variables (after (field_in e reg s)) (after_register_read reg s)))
 
 abbrev pub writes : InstructionEntry → ℕ → MachineState → Outcome
 writes e x s = uses e s (λ reg. goes (with_variables (next s.variables) (after_field e reg x s)))
 
--- one that reads the field and writes another number into it
+-- an instruction that reads the field and writes another number into it
 abbrev pub changes : InstructionEntry → MachineState → (ℕ → ℕ) → Outcome
 changes e s change = uses e s (λ reg. goes (with_variables (next s.variables)
     (after_field e reg (change (field_in e reg s)) (after_register_read reg s))))
@@ -150,11 +154,12 @@ moved offset s =
     (s.variables.dst + offset - range_address) s.variables.var2 s))
     else stops BadRange s
 
+-- the instruction that moves bytes, whose offset is in its entry's field
 abbrev pub moves : InstructionEntry → MachineState → Outcome
 moves e s = uses e s (λ reg. moved (field_in e reg s) (after_register_read reg s))
 
--- What an instruction does. If the test of SKIP_NEXT_INSTRUCTION_IF_TRUE holds the index rises
--- by 2, and if that of STALL_WHILE_TRUE holds it stays.
+-- What an instruction does. If the test of SKIP_NEXT_INSTRUCTION_IF_TRUE is true, the index rises by 2; if the test of
+-- STALL_WHILE_TRUE is true, it stays.
 abbrev pub turn_of : Instruction → InstructionEntry → Variables → MachineState → Outcome
 turn_of ReadRegister e v s = reads e s (λ x. next (record v { value = x }))
 turn_of ReadRegisterValue e v s = reads e s (λ x. next (record v { value = truth (nat_eq x e.value) }))
@@ -183,22 +188,23 @@ turn e s = turn_of e.instruction e s.variables s
 
 -- ---- runs
 
--- how a run ends: with its value or a refusal, in a state
+-- how a run ends: with its value or an error, in a state
 pub record End : Type 0 where
   pub answer : Result ℕ RunRefused
   pub state : MachineState
 
--- what comes of the entry that is next: if there is none, the run ends with its value
+-- how the run ends from the next entry on: if there is no entry, with its value
 abbrev pub at_entry : (InstructionEntry → End) → MachineState → Option InstructionEntry → End
 at_entry go_on s None = record { answer = Ok s.variables.value; state = s }
 at_entry go_on s (Some e) = go_on e
 
+-- the end of a run after a turn: of the rest of the run, or the turn's error
 abbrev pub after_turn : (MachineState → End) → Outcome → End
 after_turn go_on (goes s) = go_on s
 after_turn go_on (stops why s) = record { answer = Err why; state = s }
 
--- The end of a run that has n turns left. If none is left and there is a next entry, it is
--- refused before that entry is looked at.
+-- The end of a run that has n turns left. If no turn is left and there is a next entry, the run fails before that entry
+-- is looked at.
 unfoldable pub end_from : ℕ → List InstructionEntry → MachineState → End
 end_from zero list s =
     at_entry (λ e. record { answer = Err Fuel; state = s }) s (slice_get list s.variables.index)

@@ -21,6 +21,7 @@ has_header_size table = nat_eq (number_at 36 4 table) 12 || nat_eq (number_at 36
 abbrev pub entry_count : List ℕ → ℕ
 entry_count table = number_at 44 4 table
 
+-- whether the entries that a table counts lie inside it
 abbrev pub has_entries : List ℕ → Bool
 has_entries table = nat_le (ERST_FIXED_LENGTH + ENTRY_LENGTH * entry_count table) (length table)
 
@@ -51,6 +52,7 @@ list_of action lists = get_or lists action []
 abbrev pub entries_for : ℕ → List InstructionEntry → List InstructionEntry
 entries_for action entries = filter (λ e. nat_eq action e.action) entries
 
+-- the list of entries of each action from 0 to 255
 unfoldable pub lists_of : List InstructionEntry → List (List InstructionEntry)
 lists_of entries = map (λ action. entries_for action entries) (range_with_len 0 256)
 

@@ -8,9 +8,11 @@ use Rattle.erst_interp.specs.Admission.{takes_input, gives_answer, is_idle, is_a
 use Rattle.erst_interp.specs.Machine.{most_turns}
 use Rattle.erst_interp.specs.Table.{list_of}
 
+-- what a list of an action has to contain first
 abbrev pub first_awaited : ℕ → Awaited
 first_awaited action = if takes_input action then Input else Action
 
+-- what a list of an action has to contain after the write to Action
 abbrev pub awaited_after : ℕ → Awaited
 awaited_after action = if gives_answer action then Answer else Rest
 
@@ -19,6 +21,7 @@ abbrev pub after_idle : Awaited → Option Awaited
 after_idle End = None
 after_idle awaited = Some awaited
 
+-- what is awaited after an entry that isn't idle; None if the entry isn't allowed here
 abbrev pub after_role : ℕ → Awaited → InstructionEntry → Option Awaited
 after_role action Input e = if is_input action e then Some Action else None
 after_role action Action e = if is_act action e then Some (awaited_after action) else (if is_free action e then Some Action else None)
@@ -26,6 +29,7 @@ after_role action Answer e = if is_answer action e then Some End else None
 after_role action Rest e = None
 after_role action End e = None
 
+-- what is awaited after an entry; None if the entry isn't allowed here
 abbrev pub next_awaited : ℕ → Awaited → InstructionEntry → Option Awaited
 next_awaited action awaited e = if is_idle e then after_idle awaited else after_role action awaited e
 
@@ -39,6 +43,7 @@ abbrev pub goes_by : (Awaited → Bool) → Option Awaited → Bool
 goes_by go_on None = false
 goes_by go_on (Some awaited) = go_on awaited
 
+-- whether these entries are all that is awaited
 abbrev pub walks : ℕ → Awaited → List InstructionEntry → Bool
 walks action awaited [] = is_last awaited
 walks action awaited (e ∷ entries) = goes_by (λ next. walks action next entries) (next_awaited action awaited e)

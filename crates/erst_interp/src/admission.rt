@@ -1,4 +1,4 @@
-//! Which tables are admitted: those of which each list does its action, whatever the device.
+//! Which tables are admitted: those in which each list does its action, whatever the device.
 
 ghost use Rattle.std.specs.Prelude.{◌≡◌, ◌↔◌, ◌≤◌, length, IsTrue};
 ghost use Rattle.erst_interp.specs.Admission.{takes_input, gives_answer, input_bits, answer_bits, is_action, is_value, is_constant, holds_bits, is_idle, is_whole, is_act, is_input, is_free, is_read, is_answer, IsAdmitted, IsAdmittedTable};
@@ -16,7 +16,7 @@ use erst_store::actions::{
 // How many actions an admitted table has to do: those from 0 on.
 const ACTIONS: u8 = 11;
 
-// What a list still has to hold besides idle entries.
+// What a list still has to contain besides idle entries.
 #[derive(Clone, Copy)]
 pub(crate) enum Awaited {
     /// The input's write, and then the action's.
@@ -31,17 +31,17 @@ pub(crate) enum Awaited {
     End,
 }
 
-/// Whether a table is admitted. The lists of the actions 0 to 10 each have at most `MOST_TURNS`
+/// Returns whether a table is admitted: each list of the actions 0 to 10 has at most `MOST_TURNS`
 /// entries, and these:
 ///
 /// - one entry that writes the action's number to Action, by a WRITE_REGISTER_VALUE of the whole
 ///   register;
 /// - for SET_RECORD_OFFSET and SET_RECORD_IDENTIFIER before it one that writes the value to Value,
-///   by a WRITE_REGISTER of the whole register, whose mask holds the low 32 bits or all;
+///   by a WRITE_REGISTER of the whole register, whose mask has the low 32 bits or all;
 /// - for EXECUTE_OPERATION before it any that write a number of their own to Value, by a
 ///   WRITE_REGISTER_VALUE without preserve;
-/// - for the actions that answer a last one that reads Value from bit 0, whose mask holds the bits
-///   that the answer has; if that is one bit it may be compared with 1;
+/// - for the actions that return something a last one that reads Value from bit 0, whose mask has
+///   the bits of the result; if that is one bit it may be compared with 1;
 /// - besides these only NOOP, STALL, ADD and SUBTRACT, and LOAD_VAR1 and LOAD_VAR2 of a good
 ///   register.
 pub fn admits(table: &Table) -> bool
@@ -63,7 +63,7 @@ fn admits_list(action: u64, list: &[InstructionEntry]) -> bool
     list.len() <= MOST_TURNS as usize && walks(action, list)
 }
 
-// Whether a list of an action is laid out as an admitted one.
+// Whether a list of an action has the layout of an admitted list.
 fn walks(action: u64, list: &[InstructionEntry]) -> bool
     ensures { result ≡ walks action (first_awaited action) list.now }
 {
@@ -77,7 +77,7 @@ fn walks(action: u64, list: &[InstructionEntry]) -> bool
     matches!(awaited, Awaited::Rest | Awaited::End)
 }
 
-// What a list of an action has to hold.
+// What a list of an action has to contain.
 fn first_awaited(action: u64) -> Awaited
     ensures { result ≡ first_awaited action }
 {
@@ -88,7 +88,7 @@ fn first_awaited(action: u64) -> Awaited
     }
 }
 
-// What is awaited after an entry, or None if it may not stand here.
+// What is awaited after an entry, or `None` if the entry isn't allowed here.
 fn next_awaited(action: u64, awaited: Awaited, entry: &InstructionEntry) -> Option<Awaited>
     ensures { result ≡ next_awaited action awaited entry.now }
 {
@@ -126,7 +126,7 @@ fn takes_input(action: u64) -> bool
     action == SET_RECORD_OFFSET || action == SET_RECORD_IDENTIFIER
 }
 
-// Whether an action answers.
+// Whether an action returns something.
 fn gives_answer(action: u64) -> bool
     ensures { result ≡ gives_answer action }
 {
@@ -136,7 +136,7 @@ fn gives_answer(action: u64) -> bool
         || action == GET_RECORD_COUNT
 }
 
-// The bits that the mask of an input's write has to hold.
+// The bits that the mask of an input's write has to have.
 fn input_bits(action: u64) -> u64
     ensures { result ≡ input_bits action }
 {
@@ -147,7 +147,7 @@ fn input_bits(action: u64) -> u64
     }
 }
 
-// The bits that the mask of an answer's read has to hold.
+// The bits that the mask of an answer's read has to have.
 fn answer_bits(action: u64) -> u64
     ensures { result ≡ answer_bits action }
 {
@@ -160,7 +160,7 @@ fn answer_bits(action: u64) -> u64
 }
 
 impl InstructionEntry {
-    // Whether it leaves the device and the value alone.
+    // Whether the entry changes neither the device nor the value.
     fn is_idle(&self) -> bool
         ensures { result ≡ is_idle self.now }
     {
@@ -173,35 +173,35 @@ impl InstructionEntry {
         }
     }
 
-    // Whether its field is the whole register, of which a write keeps nothing.
+    // Whether the entry's field is the whole register, of which a write keeps nothing.
     fn is_whole(&self) -> bool
         ensures { result ≡ is_whole self.now }
     {
         self.offset == 0 && !self.preserves
     }
 
-    // Whether its mask holds these bits.
+    // Whether the entry's mask has these bits.
     fn holds(&self, bits: u64) -> bool
         ensures { result ≡ holds_bits bits self.now.mask }
     {
         self.mask & bits == bits
     }
 
-    // Whether it uses the register Value.
+    // Whether the entry uses the register Value.
     fn is_of_value(&self) -> bool
         ensures { result ≡ is_value self.now.register }
     {
         matches!(self.register, Some(Reg::Value))
     }
 
-    // Whether it writes a number of its own to a register.
+    // Whether the entry writes a number of its own to a register.
     fn writes_constant(&self) -> bool
         ensures { result ≡ is_constant self.now.instruction }
     {
         matches!(self.instruction, Instruction::WriteRegisterValue)
     }
 
-    // Whether it writes the number of an action to Action.
+    // Whether the entry writes the number of an action to Action.
     fn is_act(&self, action: u64) -> bool
         ensures { result ≡ is_act action self.now }
     {
@@ -211,7 +211,7 @@ impl InstructionEntry {
             && self.value & self.mask == action
     }
 
-    // Whether it writes the input of an action to Value.
+    // Whether the entry writes the input of an action to Value.
     fn is_input(&self, action: u64) -> bool
         ensures { result ≡ is_input action self.now }
     {
@@ -221,7 +221,7 @@ impl InstructionEntry {
             && self.holds(input_bits(action))
     }
 
-    // Whether it writes what EXECUTE_OPERATION forgets.
+    // Whether the entry writes something that EXECUTE_OPERATION ignores.
     fn is_free(&self, action: u64) -> bool
         ensures { result ≡ is_free action self.now }
     {
@@ -231,7 +231,7 @@ impl InstructionEntry {
             && !self.preserves
     }
 
-    // Whether it reads the answer of an action, as it is.
+    // Whether the entry reads the answer of an action unchanged.
     fn reads_answer(&self, action: u64) -> bool
         ensures { result ≡ is_read action self.now.value self.now.instruction }
     {
@@ -242,7 +242,7 @@ impl InstructionEntry {
         }
     }
 
-    // Whether it reads the answer of an action from Value.
+    // Whether the entry reads the answer of an action from Value.
     fn is_answer(&self, action: u64) -> bool
         ensures { result ≡ is_answer action self.now }
     {

@@ -38,11 +38,11 @@ pub enum Instruction {
     SetSrcAddressBase,
     SetDstAddressBase,
     MoveData,
-    /// A number that is no instruction's.
+    /// A number that no instruction has.
     Unknown,
 }
 
-/// One entry of a table.
+/// One entry of a table, with its register, its flags, its value and its mask.
 #[derive(Clone, Copy, Debug, PartialEq, Eq)]
 pub struct InstructionEntry {
     /// The number of the action to whose list the entry belongs.
@@ -50,8 +50,8 @@ pub struct InstructionEntry {
     pub instruction: Instruction,
     /// Whether a write keeps the register's other bits.
     pub preserves: bool,
-    /// The register, or None if it isn't a good one: it has to be in address space 0 at the
-    /// address of Action or Value, and its bit offset below 64.
+    /// The register, or `None` if it isn't usable: it has to be in address space 0 at the address
+    /// of Action or Value, with a bit offset below 64.
     pub register: Option<Reg>,
     /// The lowest bit of the register's field.
     pub offset: u8,
@@ -89,7 +89,7 @@ impl Instruction {
     }
 }
 
-// The register of an address space, a bit offset and an address, if it is a good one.
+// The register of an address space, a bit offset and an address, if it is usable.
 fn register_at(space: u8, offset: u8, address: u64) -> Option<Reg>
     ensures { result ≡ register_at space offset address }
 {

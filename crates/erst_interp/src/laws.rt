@@ -1,4 +1,4 @@
-//! What is said of every list of entries, and the limits in digits.
+//! What holds of every list of entries, and the limits in digits.
 
 ghost use Rattle.std.specs.Prelude.{◌≡◌, ℕ, ◌<◌, ◌^◌, List};
 ghost use Rattle.erst_store.specs.Device.{Device};
@@ -12,9 +12,8 @@ ghost use Rattle.erst_interp.specs.declared.entries.TheConstants.{ENTRY_LENGTH};
 ghost use Rattle.erst_interp.specs.declared.run.TheConstants.{MOST_TURNS};
 ghost use Rattle.erst_interp.specs.declared.table.TheConstants.{ERST_FIXED_LENGTH};
 
-/// An admitted list of an action does the action, on every device and every input. So of two
-/// admitted lists of one action the answer and the device after them are the same. The function
-/// does nothing: its clauses are what it is for.
+/// An admitted list of an action does the action, on every device and every input. So two admitted
+/// lists of one action return the same and leave the same device.
 pub fn admitted_lists_are_faithful()
     ensures faithful { (action : ℕ) (list : List InstructionEntry) → action < 2 ^ 64
         → IsAdmitted action list → IsFaithful action list }
@@ -29,14 +28,14 @@ pub fn admitted_lists_are_faithful()
         → (machine_end one input d).state.device ≡ (machine_end other input d).state.device }
 {}
 
-/// Of a table that was read, the list of an action has the entries of this action, in the order of
-/// the table. The function does nothing.
+/// In a table that was read, the list of an action has the entries of this action, in the order of
+/// the table.
 pub fn lists_are_of_the_entries()
     ensures { (action : ℕ) (entries : List InstructionEntry) → action < 256
         → list_of action (lists_of entries) ≡ entries_for action entries }
 {}
 
-/// The limits in digits. The function does nothing.
+/// The limits have these digits.
 pub fn table_limits()
     ensures fixed { ERST_FIXED_LENGTH ≡ 48 }
     ensures entry { ENTRY_LENGTH ≡ 32 }

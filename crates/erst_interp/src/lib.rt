@@ -1,6 +1,8 @@
 //! The interpreter of error record serialization tables (ERST): tables, the machine that runs an
 //! action's list of instructions over the two registers and the range of a board's device, and the
 //! tables that are admitted. It follows ACPI 6.5, section 18.5, "Error Serialization".
+//!
+//! A public function with an empty body is a law: its clauses are the point.
 #![tactic(auto)]
 
 mod admission;

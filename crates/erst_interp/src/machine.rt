@@ -1,4 +1,4 @@
-//! The variables of a run, and what instructions do with these alone.
+//! The variables of a run, and what instructions do with the variables only.
 
 ghost use Rattle.std.specs.Prelude.{◌≡◌, ◌+◌, ◌*◌, ◌/◌, ◌%◌, ◌<◌, ◌^◌};
 ghost use Rattle.erst_interp.specs.Machine.{new_variables, next, field_of, alone, with_field, in_place};
@@ -21,7 +21,7 @@ pub(crate) struct Variables {
 // What kind of instruction an entry has.
 #[derive(Clone, Copy)]
 pub(crate) enum Work {
-    /// None.
+    /// No known instruction.
     Unknown,
     /// It uses no register.
     Computes,
@@ -167,7 +167,7 @@ impl InstructionEntry {
         }
     }
 
-    // The number that stands in the field of a register that holds this.
+    // The number in the field of a register whose number this is.
     pub(crate) fn field_of(&self, number: u64) -> u64
         ensures { result ≡ field_of self.now number }
     {
@@ -181,15 +181,15 @@ impl InstructionEntry {
         shifted_up(number, self.offset)
     }
 
-    // What is written into a register for a number in the field, all other bits being 0.
+    // What is written into a register for a number in its field, all other bits being 0.
     pub(crate) fn alone(&self, number: u64) -> u64
         ensures { result ≡ alone self.now number }
     {
         self.in_place(number & self.mask)
     }
 
-    // What is written for a number in the field of a register that holds this, whose other bits
-    // stay.
+    // What is written into a register for a number in its field, the other bits staying as they are
+    // in `before`.
     pub(crate) fn with_field(&self, number: u64, before: u64) -> u64
         ensures { result ≡ with_field self.now number before }
     {

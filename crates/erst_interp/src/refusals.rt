@@ -1,4 +1,4 @@
-//! Why a table can't be read, and why a run ends without an answer.
+//! Why a table can't be read, and why a run ends without a result.
 
 ghost use Rattle.std.specs.Prelude.{◌≡◌};
 ghost use Rattle.erst_interp.specs.Refusals.{erst_number};
@@ -34,7 +34,7 @@ pub enum ErstTableRefused {
 }
 
 impl ErstTableRefused {
-    /// The number by which the refusal is printed, or None for want of memory.
+    /// Returns the number by which the refusal is printed, or `None` if memory ran out.
     pub fn number(self) -> Option<u8>
         ensures { result ≡ erst_number self }
     {
@@ -60,7 +60,7 @@ impl From<NoMemory> for ErstTableRefused {
     }
 }
 
-/// Why a run of an action's list ends without an answer.
+/// Why a run of an action's list ends without a result.
 #[derive(Clone, Copy, Debug, PartialEq, Eq, Error)]
 pub enum RunRefused {
     /// A call of the board failed.
@@ -69,10 +69,10 @@ pub enum RunRefused {
     /// `MOST_TURNS` instructions were run, and the list goes on.
     #[error("the list didn't end within its turns")]
     Fuel,
-    /// The next entry has a number that is no instruction's.
+    /// The next entry has a number that no instruction has.
     #[error("an entry has an instruction that isn't known")]
     BadInstruction,
-    /// The next entry uses a register that isn't good.
+    /// The next entry uses a register that isn't usable.
     #[error("an entry uses a register that isn't there")]
     BadRegister,
     /// The next entry moves bytes that aren't all in the range.

@@ -23,17 +23,17 @@ use board_core::Board;
 pub const MOST_TURNS: u32 = 4096;
 
 impl Table {
-    /// Runs the list of an action over the device of a board, from an input on, and answers the
-    /// value at its end. (ACPI 6.5, section 18.5.1.2, "Serialization Instructions".)
+    /// Runs the list of an action over the device of a board, starting from an input, and returns
+    /// the value at its end. Allocates nothing. (ACPI 6.5, section 18.5.1.2, "Serialization
+    /// Instructions".)
     ///
-    /// The run takes no memory. It is refused with `Fuel` if `MOST_TURNS` instructions were run
-    /// and there is a next entry, with `BadInstruction` if the next entry's instruction isn't
-    /// known, with `BadRegister` if it uses a register that isn't good, and with `BadRange`
-    /// if it moves bytes that aren't all in the range. `Register` comes only if a call of the
-    /// board failed, which is then the last one: the calls before it are the first of those that the
-    /// list makes. What was done before a refusal stays done.
+    /// `Fuel`: `MOST_TURNS` instructions were run and there is a next entry. `BadInstruction`: the
+    /// next entry's instruction isn't known. `BadRegister`: it uses a register that isn't usable.
+    /// `BadRange`: it moves bytes that aren't all in the range. `Register`: only if a call of the
+    /// board failed; that call was the last, and the calls before it are the first of those that
+    /// the list makes. What was done before an error isn't undone.
     ///
-    /// The list of an admitted table does its action, and is refused with `Register` alone.
+    /// The list of an admitted table does its action, and returns no error but `Register`.
     pub fn run<B: Board>(&self, action: u8, input: u64, board: &mut B) -> Result<u64, RunRefused>
         ensures runs { RunsList (list_of action self.now) input result
             (looks B.told B.clock B.faults board.old)

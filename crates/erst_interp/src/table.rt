@@ -16,7 +16,8 @@ use std::marker::Model;
 /// The bytes of an ERST before its entries.
 pub const ERST_FIXED_LENGTH: usize = 48;
 
-// The sizes that a serialization header has: its own bytes, or those with the table's header.
+// The two sizes that firmware gives a serialization header: its own bytes, or these and the table's
+// header.
 const HEADER_SIZES: [u32; 2] = [12, 48];
 
 // How many actions an entry can name.
@@ -39,14 +40,14 @@ impl Model for Table {
     ghost invariant = { λ t. length t.lists.items ≡ 256 };
 }
 
-/// Reads the ERST at the front of bytes. (ACPI 6.5, section 18.5.1, "Serialization Action Table".)
-/// Bytes after its length are ignored.
+/// Returns the ERST at the front of the bytes. Bytes after the table's length are ignored. (ACPI
+/// 6.5, section 18.5.1, "Serialization Action Table".)
 ///
-/// It is refused with the first that applies of: `Short` below 48 bytes, `Signature` if it
-/// doesn't begin with `ERST`, `Length` if its length is below 48 or above the number of bytes,
-/// `Sum` if its bytes don't sum to 0 modulo 256, `HeaderSize` if the size of its header is
-/// neither 12 nor 48, and `Count` if the entries that it counts pass its length. `NoMemory`
-/// comes only if memory runs out, and never if the table is refused.
+/// The error is the first that applies. `Short`: there are fewer than 48 bytes. `Signature`: they
+/// don't begin with `ERST`. `Length`: the table's length is below 48 or above the number of bytes.
+/// `Sum`: the table's bytes don't sum to 0 modulo 256. `HeaderSize`: the size of its header is
+/// neither 12 nor 48. `Count`: the entries that it counts pass its length. `NoMemory`: only if
+/// memory runs out, and never if the table is refused.
 pub fn read_erst(alloc: Global, bytes: &[u8]) -> Result<Table, ErstTableRefused>
     ensures answer { IsAnswer result (erst_of bytes.now) }
     ensures front { (why : ErstTableRefused) → erst_table bytes.now ≡ Err why
@@ -95,7 +96,7 @@ fn table_at(bytes: &[u8]) -> Result<&[u8], ErstTableRefused>
     Ok(table)
 }
 
-// No list for any action yet.
+// An empty list for each action.
 fn empty_lists(alloc: Global) -> Result<Vec<Vec<InstructionEntry>>, NoMemory>
     ensures { IfOk result (λ lists. AreEmpty (map (λ v. v.items) lists.items)) }
 {

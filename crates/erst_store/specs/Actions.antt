@@ -1,6 +1,5 @@
--- The numbers of the device: its actions, which are those of ACPI 6.5, section 18.5.1.1,
--- "Serialization Actions", and where its two registers and its range stand, which is this project's
--- own.
+-- The numbers of the device. Its actions are those of ACPI 6.5, section 18.5.1.1, "Serialization Actions". Where its
+-- two registers and its range are is this project's own.
 use Rattle.std.specs.Prelude.{ℕ}
 
 abbrev pub begin_write_operation : ℕ
@@ -55,8 +54,7 @@ action_address = 0xf0000000
 abbrev pub value_address : ℕ
 value_address = 0xf0000008
 
--- where the error log address range stands, how long it is, and its attributes: neither
--- non-volatile nor slow
+-- the address of the error log address range, its length, and its attributes: neither non-volatile nor slow
 abbrev pub range_address : ℕ
 range_address = 0xf0010000
 

@@ -12,10 +12,9 @@ use Rattle.erst_store.specs.declared.device.CommandStatus.TheVariants.{Success, 
 use Rattle.erst_store.specs.Actions.{begin_write_operation, begin_read_operation, begin_clear_operation, end_operation, set_record_offset, execute_operation, check_busy_status, get_command_status, get_record_identifier, set_record_identifier, get_record_count, begin_dummy_write_operation, get_error_log_address_range, get_error_log_address_range_length, get_error_log_address_range_attributes, range_address, range_length, range_attributes}
 use Rattle.erst_store.specs.Store.{Stored, all_ones, is_reserved, ids, holds, bytes_under, with_record, without, is_full_for}
 
--- the store; the action and the value last written; the command begun, if any; the identifier and
--- the offset set; the status of the last command; how many busy answers are left; the place from
--- which identifiers are listed; the bytes of the error log address range; and how many busy answers
--- a command costs
+-- the store; the action and the value last written; the command begun, if any; the identifier and the offset set; the
+-- status of the last command; how many busy answers are left; the index from which identifiers are listed; the bytes of
+-- the error log address range; and how many busy answers a command costs
 pub record Device : Type 0 where
   pub store : List Stored
   pub action : ℕ
@@ -29,7 +28,7 @@ pub record Device : Type 0 where
   pub range : List ℕ
   pub slow : ℕ
 
--- all of a device but its store: what a stop of the machine doesn't leave
+-- all of a device except its store: what a crash loses
 pub record Volatile : Type 0 where
   pub action : ℕ
   pub value : ℕ
@@ -42,7 +41,7 @@ pub record Volatile : Type 0 where
   pub range : List ℕ
   pub slow : ℕ
 
--- a device of its two parts, and the one part
+-- a device from its two parts, and the part without the store
 abbrev pub device_with : List Stored → Volatile → Device
 device_with store v = record {
   store = store;
@@ -101,7 +100,7 @@ status_number NotFound = 5
 
 -- ---- the commands
 
--- how long the header of a record is, and where a record's length and its identifier stand
+-- how long the header of a record is, and where a record's length and its identifier are in it
 abbrev pub header_length : ℕ
 header_length = 128
 
@@ -111,17 +110,18 @@ length_place = 20
 abbrev pub id_place : ℕ
 id_place = 96
 
--- what the range holds at the offset: a record's length, its identifier, and its bytes
+-- what the range has at the offset: a record's length, its identifier, and its bytes
 abbrev pub length_at : List ℕ → ℕ → ℕ
 length_at range offset = number_at (offset + length_place) 4 range
 
 abbrev pub id_at : List ℕ → ℕ → ℕ
 id_at range offset = number_at (offset + id_place) 8 range
 
+-- the bytes of the record in the range at the offset
 abbrev pub record_at : List ℕ → ℕ → List ℕ
 record_at range offset = take (length_at range offset) (drop offset range)
 
--- whether the range holds no whole record at the offset
+-- whether no whole record is in the range at the offset
 abbrev pub is_record_out : List ℕ → ℕ → Bool
 is_record_out range offset =
     nat_lt range_length (offset + header_length)
@@ -150,13 +150,14 @@ abbrev pub range_with_record : List ℕ → ℕ → List ℕ → List ℕ
 range_with_record range offset bytes =
     take offset range ++ bytes ++ replicate (range_length - (offset + length bytes)) 0
 
+-- the device after a read, given the bytes of the record under the identifier, if there is one
 abbrev pub after_read_of : Device → Option (List ℕ) → Device
 after_read_of d None = record d { status = NotFound }
 after_read_of d (Some bytes) =
     if nat_lt range_length (d.offset + length bytes) then record d { status = NotEnoughSpace }
     else record d { range = range_with_record d.range d.offset bytes; status = Success }
 
--- a read: the record under the identifier stands in the range from the offset on
+-- a read: the record under the identifier is copied into the range at the offset
 abbrev pub after_read : Device → Device
 after_read d =
     if nat_eq (length d.store) 0 then record d { status = StoreEmpty }
@@ -169,6 +170,7 @@ after_clear d =
     else (if holds d.id d.store then record d { store = without d.id d.store; cursor = 0; status = Success }
     else record d { status = NotFound })
 
+-- the device after the command begun; without one, there is nothing to carry out
 abbrev pub after_command : Option Command → Device → Device
 after_command (Some Write) d = after_write_command d
 after_command (Some Read) d = after_read d
@@ -195,6 +197,7 @@ abbrev pub after_id : Device → Option ℕ → Device
 after_id d (Some id) = record d { value = id; cursor = d.cursor + 1 }
 after_id d None = record d { value = all_ones; cursor = 0 }
 
+-- the device after GET_RECORD_IDENTIFIER
 abbrev pub after_listing : Device → Device
 after_listing d = after_id d (slice_get (ids d.store) d.cursor)
 
@@ -218,6 +221,7 @@ effects =
     ∷ (get_error_log_address_range_attributes, λ d. record d { value = range_attributes })
     ∷ []
 
+-- the device after the action of this number, if it has a row; other actions do nothing
 abbrev pub effect_in : List (ℕ × (Device → Device)) → ℕ → Device → Device
 effect_in [] action d = d
 effect_in (row ∷ rows) action d = if nat_eq action row.0 then row.1 d else effect_in rows action d

@@ -7,8 +7,8 @@ use Rattle.erst_store.specs.Store.{IsStore, all_ones}
 use Rattle.erst_store.specs.Actions.{execute_operation, get_record_identifier, range_length}
 use Rattle.erst_store.specs.Device.{Device, id_at, act}
 
--- A device as `Dev` keeps it: its store can be one, its range has its length and holds bytes, and
--- each of its numbers has 64 bits.
+-- A device as `Dev` keeps it: its store is a store, its range has its length and consists of bytes, and each of its
+-- numbers has 64 bits.
 pub record IsDevice (d : Device) : Type 0 where
   pub store : IsStore d.store
   pub length : length d.range ≡ range_length
@@ -25,26 +25,26 @@ pub record IsDevice (d : Device) : Type 0 where
 abbrev pub MayChange : ℕ → Device → Type 0
 MayChange action d = (action ≡ execute_operation) × ((d.command ≡ Some Write) ⊎ (d.command ≡ Some Clear))
 
--- the one identifier at which a command changes the store: a write's is in the range, and a clear's
--- was set
+-- the only identifier at which a command can change the store: for a write the identifier in the range, for a clear the
+-- identifier that was set
 abbrev pub id_changed : Option Command → Device → ℕ
 id_changed (Some Write) d = id_at d.range d.offset
 id_changed _ d = d.id
 
--- the values that n GET_RECORD_IDENTIFIER give, one after the other, and the device after
--- them
+-- the values that n GET_RECORD_IDENTIFIER return, one after the other, and the device after them
 abbrev pub listing : ℕ → Device → List ℕ
 listing zero d = []
 listing (suc count) d = (act get_record_identifier d).value ∷ listing count (act get_record_identifier d)
 
+-- the device after n GET_RECORD_IDENTIFIER
 abbrev pub after_listings : ℕ → Device → Device
 after_listings zero d = d
 after_listings (suc count) d = after_listings count (act get_record_identifier d)
 
--- how many GET_RECORD_IDENTIFIER come to the end of a listing and tell it
+-- how many GET_RECORD_IDENTIFIER it takes to come to the end of a listing, the all ones included
 abbrev pub left_to_list : Device → ℕ
 left_to_list d = length d.store - d.cursor + 1
 
--- a device at whose Action register a listing ended: it begins anew with the next
+-- a device whose listing has just ended: the next one starts from the first record
 abbrev pub listed_to_end : Device → Device
 listed_to_end d = record d { action = get_record_identifier; value = all_ones; cursor = 0 }

@@ -18,17 +18,17 @@ heading count = codes "RASERST1" ++ u32_bytes count
 abbrev pub store_bytes : List Stored → List ℕ
 store_bytes records = heading (length records) ++ flat_map record_bytes records
 
--- bytes that are no store file
+-- bytes that aren't a store file
 abbrev pub IsNoStoreFile : List ℕ → Type 0
 IsNoStoreFile bytes = (records : List Stored) → IsStore records → ¬ (bytes ≡ store_bytes records)
 
--- A read gives the store whose bytes these are, or says that there is none, or runs out of memory.
+-- A read returns the store whose bytes these are, or says that there is none, or runs out of memory.
 abbrev pub ReadsStore : List ℕ → Result (List Stored) StoreRefused → Type 0
 ReadsStore bytes (Ok records) = bytes ≡ store_bytes records
 ReadsStore bytes (Err Malformed) = IsNoStoreFile bytes
 ReadsStore bytes (Err NoMemory) = Unit {0}
 
--- What a read gives if the bytes are those of a store: this store, unless memory runs out.
+-- What a read returns if the bytes are those of a store: this store, unless memory runs out.
 abbrev pub ReadsBack : List Stored → Result (List Stored) StoreRefused → Type 0
 ReadsBack records (Ok found) = found ≡ records
 ReadsBack records (Err Malformed) = ⊥

@@ -14,6 +14,7 @@ abbrev pub FailsStore : {Y : Type 0} → StoreRefused → Result Y StoreRefused 
 FailsStore Malformed read = read ≡ Err Malformed
 FailsStore NoMemory read = Unit {0}
 
+-- a function that succeeds returns what reading gives, seen by view
 abbrev pub GivesStore : {X Y : Type 0} → (X → Y) → Result X StoreRefused → Result Y StoreRefused → Type 0
 GivesStore view (Ok x) read = read ≡ Ok (view x)
 GivesStore view (Err e) read = FailsStore e read
@@ -30,7 +31,7 @@ front_record bytes = do
   n ← front_number 4 id.1
   if nat_lt (length n.1) n.0 then Err Malformed else Ok (record { id = id.0; bytes = take n.0 n.1 }, drop n.0 n.1)
 
--- whether a record may stand after these
+-- whether a record may come after these
 abbrev pub may_follow : Stored → List Stored → Bool
 may_follow r before = not (holds r.id before) && is_none (refusal_of r.id r.bytes before)
 
@@ -46,7 +47,7 @@ records_at (suc count) before bytes = do
   all ← with_next r.0 before
   records_at count all r.1
 
--- the number of records that a file tells, and the bytes after it
+-- the number of records that a file states, and the bytes after it
 unfoldable pub count_at : List ℕ → Result (ℕ × List ℕ) StoreRefused
 count_at bytes = if pointwise nat_eq (take 8 bytes) (codes "RASERST1") then front_number 4 (drop 8 bytes) else Err Malformed
 
@@ -56,6 +57,6 @@ file_at bytes = do
   n ← count_at bytes
   records_at n.0 [] n.1
 
--- the same, where bytes that are no store file stand for the store that holds nothing
+-- the store whose file these bytes are, or the empty store if they aren't a store file
 abbrev pub store_at : List ℕ → List Stored
 store_at bytes = result_unwrap_or (file_at bytes) []

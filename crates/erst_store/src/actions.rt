@@ -1,4 +1,5 @@
-//! The numbers of the device: its actions (ACPI 6.5, 18.5.1.1), its registers and its range.
+//! The numbers of the device: its actions (ACPI 6.5, 18.5.1.1), the addresses of its registers, and
+//! its range.
 
 /// The next EXECUTE_OPERATION writes a record.
 pub const BEGIN_WRITE_OPERATION: u64 = 0;
@@ -18,43 +19,43 @@ pub const SET_RECORD_OFFSET: u64 = 4;
 /// Carries out the operation that was begun.
 pub const EXECUTE_OPERATION: u64 = 5;
 
-/// Answers 1 while the operation goes on, and else 0.
+/// Returns 1 in Value while the operation is carried out, and else 0.
 pub const CHECK_BUSY_STATUS: u64 = 6;
 
-/// Answers the status of the last operation.
+/// Returns the status of the last operation in Value.
 pub const GET_COMMAND_STATUS: u64 = 7;
 
-/// Answers the identifier of the next record, or all ones after the last.
+/// Returns the identifier of the next record in Value, or all ones after the last.
 pub const GET_RECORD_IDENTIFIER: u64 = 8;
 
 /// Sets the identifier of the record to be read or cleared.
 pub const SET_RECORD_IDENTIFIER: u64 = 9;
 
-/// Answers the number of records.
+/// Returns the number of records in Value.
 pub const GET_RECORD_COUNT: u64 = 10;
 
 /// The next EXECUTE_OPERATION does nothing, with success.
 pub const BEGIN_DUMMY_WRITE_OPERATION: u64 = 11;
 
-/// Answers where the range stands.
+/// Returns the address of the range in Value.
 pub const GET_ERROR_LOG_ADDRESS_RANGE: u64 = 13;
 
-/// Answers how many bytes the range has.
+/// Returns the length of the range in bytes in Value.
 pub const GET_ERROR_LOG_ADDRESS_RANGE_LENGTH: u64 = 14;
 
-/// Answers the attributes of the range.
+/// Returns the attributes of the range in Value.
 pub const GET_ERROR_LOG_ADDRESS_RANGE_ATTRIBUTES: u64 = 15;
 
 /// The address of the register Action, to which the number of an action is written.
 pub const ACTION_ADDRESS: u64 = 0xf000_0000;
 
-/// The address of the register Value, which holds what an action takes and answers.
+/// The address of the register Value, which has what an action takes and returns.
 pub const VALUE_ADDRESS: u64 = 0xf000_0008;
 
-/// Where the error log address range stands.
+/// The address of the error log address range.
 pub const RANGE_ADDRESS: u64 = 0xf001_0000;
 
-/// How many bytes the error log address range has.
+/// The length of the error log address range in bytes.
 pub const RANGE_LENGTH: usize = 16_384;
 
 /// The attributes of the error log address range: neither non-volatile nor slow.

@@ -21,15 +21,15 @@ use ras_base::little_endian::{u32_at, u64_at};
 use std::alloc::Global;
 use std::marker::Model;
 
-// How many bytes the header of a record has, and where its length and its identifier stand in it
-// (UEFI 2.10, N.2.1).
+// The length of a record's header, and where in it the record's length and its identifier are (UEFI
+// 2.10, N.2.1).
 const HEADER_LENGTH: usize = 128;
 
 const LENGTH_PLACE: usize = 20;
 
 const ID_PLACE: usize = 96;
 
-/// The number that stands for no record.
+/// The identifier that is returned after the last record.
 const NO_RECORD: u64 = u64::MAX;
 
 /// A command that EXECUTE carries out.
@@ -50,7 +50,7 @@ pub enum Command {
 pub enum CommandStatus {
     /// 0: it was carried out.
     Success,
-    /// 1: the record doesn't fit into the range or the store, or it is no record.
+    /// 1: the record doesn't fit into the range or the store, or it isn't a record.
     NotEnoughSpace,
     /// 4: the store is empty.
     StoreEmpty,
@@ -59,7 +59,7 @@ pub enum CommandStatus {
 }
 
 impl CommandStatus {
-    // The number of a status.
+    // The number of a status (ACPI 6.5, 18.5.1.1).
     fn number(self) -> u64
         ensures { result ≡ status_number self }
     {
@@ -125,8 +125,8 @@ impl Model for Dev {
 }
 
 impl Dev {
-    /// A device over this store, with no command, all numbers 0 and a range of zeros. Each EXECUTE
-    /// is followed by `slow` busy answers.
+    /// Returns a device over this store, with no command begun, all numbers 0 and a range of zeros.
+    /// It is busy for `slow` checks after each EXECUTE_OPERATION.
     pub fn new(alloc: Global, store: Store, slow: u64) -> Result<Dev, NoMemory>
         ensures { IfOk result (λ device. device ≡ new_device store slow) }
     {
@@ -147,7 +147,7 @@ impl Dev {
         })
     }
 
-    /// The device's registers and its range, once more, over a store that holds nothing.
+    /// Returns a device with the same registers and range, over an empty store.
     pub fn without_store(&self, alloc: Global) -> Result<Dev, NoMemory>
         ensures { IfOk result (λ device. device ≡ record self.now { store = [] }) }
     {
@@ -158,11 +158,10 @@ impl Dev {
         })
     }
 
-    /// Writes a number to the Action register, which does the action of that number (ACPI 6.5,
+    /// Writes a number to the Action register, and so does the action of that number (ACPI 6.5,
     /// 18.5.1.1).
     ///
-    /// `NoMemory` comes only at EXECUTE_OPERATION under a write command, and leaves the device as
-    /// it was.
+    /// `NoMemory`: only at EXECUTE_OPERATION under a write command; the device is then unchanged.
     pub fn write_action(&mut self, action: u64) -> Result<(), NoMemory>
         ensures ok { OnOk result (self.new ≡ act action self.old) }
         ensures err { OnErr result (self.new ≡ self.old) }
@@ -183,28 +182,30 @@ impl Dev {
         self.value = value;
     }
 
-    /// Reads the Value register.
+    /// Returns the number in the Value register.
     pub fn read_value(&self) -> u64
         ensures { result ≡ self.now.value }
     {
         self.value
     }
 
-    /// Reads the Action register: the number last written to it.
+    /// Returns the number in the Action register, which is the one last written to it.
     pub fn read_action(&self) -> u64
         ensures { result ≡ self.now.action }
     {
         self.action
     }
 
-    /// Whether this action may change the store: EXECUTE_OPERATION under a write or a clear.
+    /// Returns whether this action may change the store: EXECUTE_OPERATION after a write or a clear
+    /// was begun.
     pub fn may_change(&self, action: u64) -> bool
         ensures { IsTrue result ↔ MayChange action self.now }
     {
         action == EXECUTE_OPERATION && matches!(self.command, Some(Command::Write | Command::Clear))
     }
 
-    /// Copies the bytes of the range from a place on into a buffer, all of it.
+    /// Copies the bytes of the range from `place` on into `buf`, and fills all of it. The bytes
+    /// have to be inside the range.
     pub fn range_read(&self, place: u32, buf: &mut [u8])
         requires { place + length buf.old ≤ range_length }
         ensures { buf.new ≡ take (length buf.old) (drop place self.now.range) }
@@ -213,7 +214,7 @@ impl Dev {
         buf.copy_from_slice(&self.range[start..start + buf.len()]);
     }
 
-    /// Writes bytes into the range from a place on.
+    /// Writes bytes into the range from `place` on. They have to fit inside it.
     #[tactic(auto, unfolding(crate::specs::Device::range_with))]
     pub fn range_write(&mut self, place: u32, bytes: &[u8])
         requires { place + length bytes.now ≤ range_length }
@@ -224,7 +225,7 @@ impl Dev {
         self.range[start..start + bytes.len()].copy_from_slice(bytes);
     }
 
-    /// The store behind the device.
+    /// Returns the store behind the device.
     pub fn store(&self) -> &Store
         ensures same { result.now ≡ self.now.store }
         ensures kept { IsDevice self.now }
@@ -232,17 +233,17 @@ impl Dev {
         &self.store
     }
 
-    /// The store behind the device, which is given up.
+    /// Returns the store behind the device, and gives up the device.
     pub fn into_store(self) -> Store
         ensures { result ≡ self.store }
     {
         self.store
     }
 
-    /// Puts a record into the store, as `Store::put`, and lists identifiers from the first one
-    /// again.
+    /// Puts a record into the store, as `Store::put` does, and starts the listing of identifiers
+    /// again from the first.
     ///
-    /// A refusal leaves the device as it was.
+    /// After an error the device is unchanged.
     #[tactic(auto, unfolding(crate::specs::Device::with_put))]
     pub fn put(&mut self, id: u64, bytes: &[u8]) -> Result<(), PutRefused>
         ensures ok { OnOk result (self.new ≡ with_put id bytes.now self.old) }
@@ -292,7 +293,7 @@ impl Dev {
         }
     }
 
-    // Answers the identifier at the cursor and moves on, or ends the list and begins it again.
+    // Returns the identifier at the cursor and moves on, or ends the list and starts it again.
     fn list_id(&mut self)
         ensures { self.new ≡ after_listing self.old }
     {
@@ -320,7 +321,7 @@ impl Dev {
         Ok(())
     }
 
-    // Carries out a command, and answers its status.
+    // Carries out a command, and returns its status.
     fn carry_out(&mut self, command: Option<Command>) -> Result<CommandStatus, NoMemory>
         ensures ok { IfOk result (λ status.
             record self.new { status = status } ≡ after_command command self.old) }
@@ -398,8 +399,7 @@ fn fill_range(range: &mut [u8], start: usize, bytes: &[u8])
     range[end..].fill(0);
 }
 
-// The identifier and the bytes of the record that stands in the range at an offset, if a whole one
-// stands there.
+// The identifier and the bytes of the record in the range at an offset, if a whole record is there.
 #[tactic(auto, using(crate::proofs::DeviceLemmas::out_far))]
 fn record_in(range: &[u8], offset: u64) -> Option<(u64, &[u8])>
     requires { length range.now ≡ range_length }

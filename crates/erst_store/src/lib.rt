@@ -1,8 +1,10 @@
 //! The store of error records behind an error record serialization device, and the device itself.
 //!
-//! A store holds records of bytes under identifiers, and is read and written as one file. The
+//! A store contains records of bytes under identifiers, and is read and written as one file. The
 //! device has the state that its two registers and its address range show, and does the actions of
 //! ACPI 6.5, section 18.5, "Error Serialization".
+//!
+//! A public function with an empty body is a law: its clauses are the point.
 #![tactic(auto)]
 
 pub mod actions;

@@ -10,10 +10,10 @@ use ras_base::little_endian::{push_u32, push_u64, u32_at, u64_at};
 use std::alloc::Global;
 use thiserror::Error;
 
-/// Why bytes give no store.
+/// Why bytes can't be read as a store.
 #[derive(Clone, Copy, Debug, PartialEq, Eq, Drop, Error)]
 pub enum StoreRefused {
-    /// The bytes are no store file.
+    /// The bytes aren't a store file.
     #[error("the bytes are no store file")]
     Malformed,
     /// Memory ran out.
@@ -21,17 +21,17 @@ pub enum StoreRefused {
     NoMemory,
 }
 
-// What a store file begins with.
+// The first bytes of a store file.
 const MAGIC: &[u8; 8] = b"RASERST1";
 
-// How many bytes stand before all records, and before the bytes of each.
+// How many bytes come before all records, and before the bytes of each.
 const HEADING_LENGTH: usize = 12;
 
 const RECORD_HEADING_LENGTH: usize = 12;
 
 impl Store {
-    /// The bytes of the store's file: eight letters, the number of records in 4 bytes, and for each
-    /// record its identifier in 8 bytes, its length in 4 and its bytes. All numbers are
+    /// Returns the bytes of the store's file: eight letters, the number of records in 4 bytes, and
+    /// for each record its identifier in 8 bytes, its length in 4 and its bytes. All numbers are
     /// little-endian.
     pub fn to_bytes(&self, alloc: Global) -> Result<Vec<u8>, NoMemory>
         ensures { IfOk result (λ v. v.items ≡ store_bytes self.now) }
@@ -41,7 +41,9 @@ impl Store {
         Ok(out)
     }
 
-    /// Appends the bytes of the store's file.
+    /// Appends the bytes of the store's file, as `to_bytes` returns them.
+    ///
+    /// `NoMemory`: only if memory runs out.
     pub fn push_bytes(&self, out: &mut Vec<u8>) -> Result<(), NoMemory>
         ensures { OnOk result (out.new.items ≡ out.old.items ++ store_bytes self.now) }
     {
@@ -53,7 +55,7 @@ impl Store {
         Ok(())
     }
 
-    /// An empty vector with room for the store's file and so many bytes more.
+    /// Returns an empty vector with room for the store's file and for `more` bytes after it.
     pub fn room(&self, alloc: Global, more: usize) -> Result<Vec<u8>, NoMemory>
         ensures { IfOk result (λ v. v.items ≡ []) }
     {
@@ -64,10 +66,10 @@ impl Store {
         Ok(Vec::with_capacity(alloc, length)?)
     }
 
-    /// The store whose file these bytes are.
+    /// Returns the store whose file these bytes are.
     ///
-    /// `Malformed` comes exactly if the bytes are no store file, and nothing but memory keeps a
-    /// store file from being read.
+    /// `Malformed`: if and only if the bytes aren't a store file. A store file is refused only if
+    /// memory runs out.
     pub fn from_bytes(alloc: Global, bytes: &[u8]) -> Result<Store, StoreRefused>
         ensures gives { GivesStore (λ store. store) result (file_at bytes.now) }
         ensures read { ReadsStore bytes.now result }
@@ -77,7 +79,7 @@ impl Store {
         read_all(alloc, bytes)
     }
 
-    // Puts a record after all others, if it may stand there.
+    // Appends a record, if it may come after the others.
     fn append(&mut self, id: u64, bytes: &[u8]) -> Result<(), StoreRefused>
         ensures { GivesStore (λ _. self.new) result (with_next (record { id = id; bytes = bytes.now })
             self.old) }
@@ -127,7 +129,7 @@ fn front_u64(bytes: &[u8]) -> Result<(u64, &[u8]), StoreRefused>
     Ok((u64_at(bytes, 0), rest))
 }
 
-// The number of records that a file tells, and the bytes after it.
+// The number of records that a file states, and the bytes after it.
 #[tactic(auto, unfolding(crate::specs::StoreReading::count_at))]
 fn count_of(bytes: &[u8]) -> Result<(u32, &[u8]), StoreRefused>
     ensures { GivesStore (λ x. (x.0, x.1.now)) result (count_at bytes.now) }
@@ -153,7 +155,7 @@ fn front_record(bytes: &[u8]) -> Result<(u64, &[u8], &[u8]), StoreRefused>
     Ok((id, content, rest))
 }
 
-// A store of this many records, which are all of these bytes.
+// The store of this many records, which take up all of these bytes.
 fn records_of(alloc: Global, count: u32, bytes: &[u8]) -> Result<Store, StoreRefused>
     ensures { GivesStore (λ s. s) result (records_at count [] bytes.now) }
 {

@@ -11,22 +11,22 @@ use std::alloc::Global;
 use std::marker::Model;
 use thiserror::Error;
 
-/// The most records that a store holds.
+/// The most records that a store contains.
 pub const MOST_RECORDS: usize = 1024;
 
-/// The most bytes that a record has.
+/// The most bytes of a record.
 pub const MOST_BYTES: usize = 16_384;
 
-/// Why a record can't be put. The first cause that applies, in this order, is answered.
+/// Why a record can't be put: the first reason that applies, in this order.
 #[derive(Clone, Copy, Debug, PartialEq, Eq, Drop, Error)]
 pub enum PutRefused {
-    /// The identifier is 0 or all ones, which name no record.
+    /// The identifier is 0 or all ones, which no record has.
     #[error("the identifier is 0 or all ones, which name no record")]
     ReservedId,
     /// There are more than `MOST_BYTES` bytes.
     #[error("the record has more than {MOST_BYTES} bytes")]
     TooLong,
-    /// The store holds `MOST_RECORDS` records, none of them under this identifier.
+    /// The store has `MOST_RECORDS` records, none of them under this identifier.
     #[error("the store holds {MOST_RECORDS} records, none of them under this identifier")]
     StoreFull,
     /// Memory ran out.
@@ -51,8 +51,8 @@ struct Record {
     bytes: Vec<u8>,
 }
 
-/// Error records, each under an identifier of its own, in the order in which their identifiers
-/// first came.
+/// Error records, each under its own identifier, in the order in which their identifiers first
+/// came.
 #[derive(Drop)]
 pub struct Store {
     alloc: Global,
@@ -72,7 +72,7 @@ impl Model for Store {
 }
 
 impl Store {
-    /// A store that holds nothing.
+    /// Returns an empty store.
     pub fn new(alloc: Global) -> Store
         ensures { result ≡ [] }
     {
@@ -82,11 +82,11 @@ impl Store {
         }
     }
 
-    /// Puts a record under an identifier: in the place of the record that is there under it, or
-    /// else after all others.
+    /// Puts a record under an identifier. It replaces the record under that identifier, or else
+    /// comes after all others.
     ///
-    /// Each refusal comes exactly if it is the first that applies, and leaves the store as it
-    /// was.
+    /// Each error is returned if and only if it is the first that applies. The store is then
+    /// unchanged.
     pub fn put(&mut self, id: u64, bytes: &[u8]) -> Result<(), PutRefused>
         ensures ok { OnOk result (self.new ≡ with_record id bytes.now self.old) }
         ensures err { OnErr result (self.new ≡ self.old) }
@@ -105,7 +105,8 @@ impl Store {
         Ok(())
     }
 
-    /// Why this put is refused, if it is whatever memory there is.
+    /// Returns why `put` would refuse this record however much memory there is, or `None` if it
+    /// wouldn't.
     pub fn refusal(&self, id: u64, bytes: &[u8]) -> Option<PutRefused>
         ensures { result ≡ refusal_of id bytes.now self.now }
     {
@@ -121,7 +122,7 @@ impl Store {
         None
     }
 
-    /// The same records once more.
+    /// Returns a copy of the store.
     pub fn copy(&self, alloc: Global) -> Result<Store, NoMemory>
         ensures { IfOk result (λ store. store ≡ self.now) }
     {
@@ -129,7 +130,7 @@ impl Store {
         Ok(Store { alloc, records })
     }
 
-    /// How many records the store holds.
+    /// Returns how many records the store has.
     pub fn len(&self) -> usize
         ensures count { result ≡ length self.now }
         ensures kept { IsStore self.now }
@@ -137,7 +138,8 @@ impl Store {
         self.records.len()
     }
 
-    /// The identifier of the record at a place, from 0 in the store's order.
+    /// Returns the identifier of a record by its index in the store's order, from 0. The index has
+    /// to be below `len`.
     pub fn id(&self, i: usize) -> u64
         requires { i < length self.now }
         ensures { slice_get (ids self.now) i ≡ Some result }
@@ -145,7 +147,8 @@ impl Store {
         self.records[i].id
     }
 
-    /// The bytes of the record at a place, from 0 in the store's order.
+    /// Returns the bytes of a record by its index in the store's order, from 0. The index has to be
+    /// below `len`.
     pub fn bytes(&self, i: usize) -> &[u8]
         requires { i < length self.now }
         ensures there { slice_get (contents self.now) i ≡ Some result.now }
@@ -154,7 +157,7 @@ impl Store {
         &self.records[i].bytes
     }
 
-    // Where the record of an identifier stands.
+    // The index of the record under an identifier.
     pub(crate) fn place(&self, id: u64) -> Option<usize>
         ensures place { Places id self.now result }
         ensures kept { IsStore self.now }
@@ -162,7 +165,7 @@ impl Store {
         place_of(&self.records, id)
     }
 
-    // Whether the store holds nothing.
+    // Whether the store is empty.
     pub(crate) fn is_empty(&self) -> bool
         ensures { result ≡ nat_eq (length self.now) 0 }
     {
@@ -180,7 +183,7 @@ impl Store {
         }
     }
 
-    // Removes the record under an identifier, and says whether one was there.
+    // Removes the record under an identifier, and returns whether one was there.
     pub(crate) fn remove(&mut self, id: u64) -> bool
         ensures there { result ≡ holds id self.old }
         ensures rest { self.new ≡ without id self.old }
@@ -205,7 +208,7 @@ impl Store {
         let _ = self.records.remove(place);
     }
 
-    // Puts bytes in the place of those that stand under an identifier.
+    // Replaces the bytes of the record at an index.
     fn replace(&mut self, id: u64, place: usize, bytes: &[u8]) -> Result<(), NoMemory>
         requires there { StandsAt id self.old place }
         requires short { length bytes.now ≤ 16384 }
@@ -218,7 +221,7 @@ impl Store {
         Ok(())
     }
 
-    // Puts a record under a new identifier after all others.
+    // Appends a record under a new identifier.
     fn push(&mut self, id: u64, bytes: &[u8]) -> Result<(), NoMemory>
         requires new { holds id self.old ≡ false }
         requires fits { Fits (record { id = id; bytes = bytes.now }) }
@@ -233,7 +236,7 @@ impl Store {
     }
 }
 
-// The same records once more.
+// A copy of the records.
 fn copies(alloc: Global, records: &[Record]) -> Result<Vec<Record>, NoMemory>
     ensures { IfOk result (λ copied. views copied.items ≡ views records.now) }
 {
@@ -248,7 +251,7 @@ fn copies(alloc: Global, records: &[Record]) -> Result<Vec<Record>, NoMemory>
     Ok(copied)
 }
 
-// Where the record of an identifier stands.
+// The index of the record under an identifier.
 fn place_of(records: &[Record], id: u64) -> Option<usize>
     ensures { result ≡ position (λ r. nat_eq r.id id) records.now }
 {

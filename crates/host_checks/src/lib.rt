@@ -1,5 +1,5 @@
-//! The board of the working folder over real files: what no clause says, which is what it does to
-//! them. Each test has a folder of its own.
+//! The board of the working folder over real files: what it does to these files, which no clause
+//! says. Each test has a folder of its own.
 #![tactic(auto)]
 
 #[cfg(test)]

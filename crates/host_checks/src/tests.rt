@@ -1,9 +1,9 @@
-//! What calls of the board make of files.
+//! What calls of the board do to files.
 
 mod store;
 
 use board_core::{Board, Failed, FileNo};
-use ras_host::{FileBoard, RealSystem, Use};
+use ras_host::{Alone, FileBoard, Reading, RealSystem, Use};
 use std::env::Env;
 use std::fs;
 use std::test::Fail;
@@ -21,44 +21,47 @@ fn leave(rt: &HostRuntime, name: &str) -> Result<(), Fail> {
     Ok(())
 }
 
-fn board(rt: HostRuntime, how: Use) -> FileBoard<RealSystem> {
-    FileBoard::new(rt.alloc(), how, RealSystem::new(rt))
+fn board<U: Use>(rt: HostRuntime) -> FileBoard<RealSystem, U> {
+    FileBoard::new(rt.alloc(), RealSystem::new(rt))
 }
 
 fn is_missing(rt: &HostRuntime, name: &str) -> bool {
     fs::symlink_metadata(rt, name).is_err()
 }
 
-// Whether a file has these bytes.
+// Returns whether a file has these bytes.
 fn holds(rt: &HostRuntime, name: &str, bytes: &[u8]) -> bool {
     matches!(fs::read(rt, name), Ok(found) if found.as_slice() == bytes)
 }
 
-// How many bytes of file 1 are read at a place, and a buffer that they are read into.
-fn read(board: &mut FileBoard<RealSystem>, place: u64) -> (Result<usize, Failed>, [u8; 4]) {
+// Returns how many bytes of file 1 are read at an offset, and the buffer that they are read into.
+fn read<U: Use>(
+    board: &mut FileBoard<RealSystem, U>,
+    place: u64,
+) -> (Result<usize, Failed>, [u8; 4]) {
     let mut buf = [0; 4];
     (board.read_at(FileNo::One, place, &mut buf), buf)
 }
 
-// Whether bytes are written to file 1, and whether it is synced.
-fn write(board: &mut FileBoard<RealSystem>, bytes: &[u8]) -> (bool, bool) {
+// Returns whether bytes are written to file 1, and whether the file is synced.
+fn write<U: Use>(board: &mut FileBoard<RealSystem, U>, bytes: &[u8]) -> (bool, bool) {
     let is_written = board.write_at(FileNo::One, 0, bytes).is_ok();
     (is_written, board.sync(FileNo::One).is_ok())
 }
 
-// A board that only reads finds a missing file empty, makes none, writes to none, and has what stood
-// at its first use beside one that writes.
+// A board that only reads finds a missing file empty, makes no file and writes to none. Beside a
+// board that writes it has what the files contained at its first use.
 #[test]
 fn reading_board_changes_nothing(rt: HostRuntime) -> Result<(), Fail> {
     enter(&rt, "reading")?;
-    let mut reader = board(rt, Use::Reading);
+    let mut reader = board::<Reading>(rt);
     assert!(rt; reader.size(FileNo::One) == Ok(0) && read(&mut reader, 0) == (Ok(0), [0; 4]));
     assert!(rt; write(&mut reader, b"x") == (false, true));
     assert!(rt; is_missing(&rt, "rasd.0") && is_missing(&rt, "rasd.1"));
-    let mut writer = board(rt, Use::Alone);
+    let mut writer = board::<Alone>(rt);
     assert!(rt; write(&mut writer, b"abcdef") == (true, true));
     assert!(rt; reader.size(FileNo::One) == Ok(0) && read(&mut reader, 0) == (Ok(0), [0; 4]));
-    let mut later = board(rt, Use::Reading);
+    let mut later = board::<Reading>(rt);
     assert!(rt; later.size(FileNo::One) == Ok(6) && read(&mut later, 1) == (Ok(4), *b"bcde"));
     assert!(rt; read(&mut later, 4) == (Ok(2), *b"ef\0\0"));
     assert!(rt; read(&mut later, 7) == (Ok(0), [0; 4]));

@@ -1,6 +1,7 @@
 -- What a system in memory notes, and what it then holds.
 use Rattle.std.proofs.Common.{◌≡◌, ℕ, ◌+◌, ◌-◌, ◌≤◌, ◌++◌, ◌∷◌, [], List, length, take, drop, min, refl, ap, sym, ◌∙◌, subst, arith, append-nil, length-drop, inl, inr, if◌then◌else◌}
-use Rattle.std.specs.Prelude.{true, false, Vec, Result, Ok, Err, IfOk, OnOk, OnErr}
+use Rattle.std.specs.Prelude.{true, false, Option, Vec, Result, Ok, Err, IfOk, IsErr, OnOk, OnErr}
+use Rattle.std.specs.Option.{option_map}
 use Rattle.std.specs.Result.{is_ok, is_err}
 use Rattle.std.specs.declared.alloc.Global.{Global}
 use Rattle.std.proofs.lemmas.List.{take_min, drop_min}
@@ -16,7 +17,7 @@ use Rattle.host_system.specs.FolderPast.{FolderPast, changed_by, folder_of, byte
 use Rattle.host_system.specs.Steps.FolderPastLemmas.{folder_of-more, since_kept, now_counts}
 use Rattle.host_system.specs.Steps.FolderLemmas.{uses_before}
 use Rattle.host_system.specs.Steps.Kept.{IsCopied, IsOfPast, Holds}
-use Rattle.host_system.specs.MemSystem.{as_stopped, name_numbered, change_numbered, change_noted, changes_noted, past_noted}
+use Rattle.host_system.specs.MemSystem.{MemState, with_change, as_stopped, name_numbered, change_numbered, change_noted, changes_noted, past_noted}
 use Rattle.host_system.specs.Steps.MemFiles.{number_of, entry_seen, mem_entry, held_in, IsChanged, AreHeld}
 
 named_again : (name : FileName) → name_numbered (number_of name) ≡ name
@@ -99,6 +100,17 @@ pub read_front : (most count len : ℕ) (bytes taken whole : List ℕ) → taken
 read_front most count len bytes taken whole is counted long same =
     is ∙ (ap (λ (n : ℕ). take n bytes) (counted ∙ ap (min most) long) ∙ (take_min most bytes ∙ ap (take most) same))
 
+-- what is read, once it is counted whether that failed
+pub front_counted : {E F : Type 0} (answer : Result (Option (Vec ℕ Global)) E) (result : Result (Option (Vec ℕ Global)) F) (most : ℕ) (seen whole : Option (List ℕ)) (May : Type 0) → seen ≡ whole
+    → IfOk answer (λ found. option_map (λ v. v.items) found ≡ option_map (take most) seen) → IfOk answer (λ v. result ≡ Ok v) → OnErr answer (IsErr result)
+    → IfOk result (λ found. May → option_map (λ v. v.items) found ≡ option_map (take most) whole)
+front_counted (Ok v) (Ok w) most seen whole May same is ok err =
+    let found : w ≡ v = cc in
+    λ may. ap (λ (o : Option (Vec ℕ Global)). option_map (λ x. x.items) o) found ∙ (is ∙ ap (option_map (take most)) same)
+front_counted (Ok v) (Err f) most seen whole May same is ok err = tt
+front_counted (Err e) (Ok w) most seen whole May same is ok err = cc
+front_counted (Err e) (Err f) most seen whole May same is ok err = tt
+
 pub read_part : (n place start len : ℕ) (bytes given whole : List ℕ) → given ≡ take ((start + n) - start) (drop start bytes) → start ≡ min place len → len ≡ length bytes → bytes ≡ whole → given ≡ take n (drop place whole)
 read_part n place start len bytes given whole is begun long same =
     let count : (start + n) - start ≡ n = omega arith in
@@ -137,6 +149,19 @@ of_err (Err e) x y is = refl
 pub of_ok : {T E X : Type 0} (r : Result T E) (x y : X) → is_err r ≡ false → (if is_ok r then x else y) ≡ x
 of_ok (Ok v) x y is = refl
 of_ok (Err e) x y is = cc
+
+-- of a system's past
+pub on_ok_past : {T E : Type 0} (r : Result T E) (change : FolderChange) (old new : MemState) → OnOk r (new ≡ with_change change old) → OnOk r (new.past ≡ changed_by change old.past)
+on_ok_past (Ok v) change old new is = ap (λ (s : MemState). s.past) is
+on_ok_past (Err e) change old new is = tt
+
+pub on_err_past : {T E : Type 0} (r : Result T E) (old new : MemState) → OnErr r (new ≡ old) → OnErr r (new.past ≡ old.past)
+on_err_past (Ok v) old new is = tt
+on_err_past (Err e) old new is = ap (λ (s : MemState). s.past) is
+
+pub on_err_done : {T E : Type 0} (r : Result T E) (change : FolderChange) (old new : MemState) → OnErr r (new ≡ with_change change old) → OnErr r (new.past ≡ changed_by change old.past)
+on_err_done (Ok v) change old new is = tt
+on_err_done (Err e) change old new is = ap (λ (s : MemState). s.past) is
 
 -- a write that was done or wasn't
 pub may_write : {T E : Type 0} (r : Result T E) (name : FileName) (place n count : ℕ) (came : List ℕ) (old new : FolderPast) → n ≡ count → OnOk r (new ≡ changed_by (wrote name place n came) old) → OnErr r (new ≡ old) → MayWrite name place count old new

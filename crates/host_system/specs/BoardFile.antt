@@ -1,4 +1,4 @@
--- The files of a board over a system: when one may be used, and what a board sees of a call.
+-- The files of a board over a system: when a file may be used, and what a board sees of a call.
 use Rattle.std.specs.Prelude.{◌≡◌, ℕ, List, [], ◌++◌, true, Option, IfSome, IsSome, Result, OnOk}
 use Rattle.board_core.specs.declared.board.FileNo.{FileNo}
 use Rattle.board_core.specs.declared.board.FileNo.TheVariants.{Zero, One}
@@ -10,7 +10,7 @@ use Rattle.host_system.specs.Folder.{Folder, NameEntry, FileUse, locked, lost, u
 use Rattle.host_system.specs.FolderPast.{FolderPast, IfTold, folder_of}
 use Rattle.host_system.specs.View.{HasWholeStore, HasSettledStore, is_settled_file, is_settled, clock_over, seen_now}
 
--- A file is there, its name is on the disk, and it is locked.
+-- A file exists, its name is durable, and it is locked.
 pub record IsUsableAs (entry : NameEntry) (how : FileUse) : Type 0 where
   pub there : IsSome (bytes_now entry)
   pub named : entry.others ≡ []
@@ -19,7 +19,7 @@ pub record IsUsableAs (entry : NameEntry) (how : FileUse) : Type 0 where
 abbrev pub IsUsableIn : FileNo → Folder → Type 0
 IsUsableIn file folder = IsUsableAs (entry_named (Journal file) folder) (use_in (Journal file) folder.uses)
 
--- no sync of a file failed
+-- no sync of the file failed
 abbrev pub IsOpenableIn : FileNo → Folder → Type 0
 IsOpenableIn file folder = use_in (Journal file) folder.uses ≡ lost → ⊥
 
@@ -29,7 +29,7 @@ IsUsable file past = IsUsableIn file (folder_of past)
 abbrev pub IsOpenable : FileNo → FolderPast → Type 0
 IsOpenable file past = IsOpenableIn file (folder_of past)
 
--- A file is there and locked. Its name may not be on the disk yet.
+-- A file exists and is locked. Its name may not be durable yet.
 pub record IsHeldIn (file : FileNo) (folder : Folder) : Type 0 where
   pub there : IsSome (bytes_now (entry_named (Journal file) folder))
   pub is_locked : use_in (Journal file) folder.uses ≡ locked
@@ -37,14 +37,14 @@ pub record IsHeldIn (file : FileNo) (folder : Folder) : Type 0 where
 abbrev pub IsHeld : FileNo → FolderPast → Type 0
 IsHeld file past = IsHeldIn file (folder_of past)
 
--- On the disk a file's name stands for what it stands for now.
+-- A file's name is durable: on the disk it refers to what it refers to now.
 abbrev pub IsNamedIn : FileNo → Folder → Type 0
 IsNamedIn file folder = (entry_named (Journal file) folder).others ≡ []
 
 abbrev pub IsNamed : FileNo → FolderPast → Type 0
 IsNamed file past = IsNamedIn file (folder_of past)
 
--- A file that is only read may be synced: its name is on the disk, and no sync of it failed.
+-- A file that is only read may be synced: its name is durable, and no sync of it failed.
 pub record IsReadableIn (file : FileNo) (folder : Folder) : Type 0 where
   pub named : IsNamedIn file folder
   pub openable : IsOpenableIn file folder
@@ -62,7 +62,7 @@ pub record KeepsFileIn (file : FileNo) (old new : Folder) : Type 0 where
 abbrev pub KeepsFile : FileNo → FolderPast → FolderPast → Type 0
 KeepsFile file old new = KeepsFileIn file (folder_of old) (folder_of new)
 
--- both files
+-- No sync of either file failed.
 pub record AreOpenable (past : FolderPast) : Type 0 where
   pub zero : IsOpenable Zero past
   pub one : IsOpenable One past
@@ -71,19 +71,18 @@ pub record AreUsable (past : FolderPast) : Type 0 where
   pub zero : IsUsable Zero past
   pub one : IsUsable One past
 
--- Both files are usable. If the store's file is whole, nothing of it is on its way.
+-- Both files are usable. If the store's file is durable, so is its name.
 pub record AreOpened (past : FolderPast) : Type 0 where
   pub usable : AreUsable past
   pub settled : HasWholeStore past → HasSettledStore past
 
--- The names of both files are on the disk. If the store's file is whole, nothing of it is on its
--- way.
+-- The names of both files are durable. If the store's file is durable, so is its name.
 pub record AreNamed (past : FolderPast) : Type 0 where
   pub zero : IsNamed Zero past
   pub one : IsNamed One past
   pub settled : HasWholeStore past → HasSettledStore past
 
--- A call leaves nothing of the store's file on its way that wasn't.
+-- After a call the store's file and its name are as durable as before.
 pub record KeepsStore (old new : FolderPast) : Type 0 where
   pub settled : HasSettledStore old → HasSettledStore new
   pub whole : HasWholeStore old → HasWholeStore new
@@ -92,8 +91,7 @@ abbrev pub other_than : FileNo → FileNo
 other_than Zero = One
 other_than One = Zero
 
--- A call of one file leaves the other as usable as it was, and nothing more of the store's file on
--- its way.
+-- A call of one file leaves the other file as usable as it was, and the store's file as durable.
 pub record KeepsOthersIn (file : FileNo) (old new : Folder) : Type 0 where
   pub settled : is_settled old.store ≡ true → is_settled new.store ≡ true
   pub whole : is_settled_file old.store.now ≡ true → is_settled_file new.store.now ≡ true
@@ -106,24 +104,25 @@ KeepsOthers file old new = KeepsOthersIn file (folder_of old) (folder_of new)
 abbrev pub SeesSame : FolderPast → FolderPast → Type 0
 SeesSame old new = seen_now new ≡ seen_now old
 
--- It sees these bytes written at a place of a file.
+-- A board sees these bytes written at an offset of a file.
 abbrev pub SeesWritten : FileNo → ℕ → List ℕ → FolderPast → FolderPast → Type 0
 SeesWritten file place bytes old new =
     seen_now new ≡ with_file_in file (overlay place bytes (file_in file (seen_now old))) (seen_now old)
 
--- It sees a torn write at a place of a file.
+-- A board sees a torn write at an offset of a file.
 abbrev pub SeesTorn : FileNo → ℕ → ℕ → FolderPast → FolderPast → Type 0
 SeesTorn file place count old new = InFile file (Torn place count) (seen_now old) (seen_now new)
 
--- It sees a piece appended to the output, or a beginning of it.
+-- A board sees a piece appended to the output, or a beginning of the piece.
 abbrev pub SeesPrinted : List ℕ → FolderPast → FolderPast → Type 0
 SeesPrinted piece old new = seen_now new ≡ record (seen_now old) { out = (seen_now old).out ++ piece }
 
+-- A board sees a beginning of a piece appended to the output.
 abbrev pub SeesBegun : List ℕ → FolderPast → FolderPast → Type 0
 SeesBegun piece old new = InOut (Begins piece) (seen_now old) (seen_now new)
 
--- A file was synced, or that failed. A board sees the same, and the other file and the store's are as
--- they were. On `Ok` the file is durable, and may be used as before.
+-- A file was synced, or the sync failed. A board sees the same, and the other file and the store's file are
+-- as they were. On `Ok` the file is durable, and may be used as before.
 pub record Syncs {T E : Type 0} (IsFor : FileNo → FolderPast → Type 0) (file : FileNo) (result : Result T E) (old new : Option FolderPast) : Type 0 where
   pub told : IfTold SeesSame old new
   pub keeps : IfTold (KeepsOthers file) old new

@@ -1,5 +1,5 @@
--- The folder that a run works in, and its output: what each name stands for, what a read gives, and
--- what a stop of the machine may leave.
+-- The folder that a run works in, and its output: what each name refers to, what a read returns, and what a
+-- crash of the machine may leave.
 use Rattle.std.specs.Prelude.{◌≡◌, ℕ, ◌⊎◌, List, [], ◌∷◌, ◌++◌, take, Option, None, Some}
 use Rattle.std.specs.Option.{option_map}
 use Rattle.board_core.specs.DiskModel.{settled_file, DiskFile, MayLeaveFile, with_range}
@@ -8,25 +8,26 @@ use Rattle.board_core.specs.declared.board.FileNo.TheVariants.{Zero, One}
 use Rattle.host_system.specs.declared.system.FileName.{FileName}
 use Rattle.host_system.specs.declared.system.FileName.TheVariants.{Journal, Store, New}
 
--- a file: its bytes as a read gives them, and what the disk has of it
+-- a file: its bytes as a read returns them, and what the disk has of it
 pub record FolderFile : Type 0 where
   pub bytes : List ℕ
   pub disk : DiskFile
 
--- What a name stands for now, and for what else it may stand on the disk: for what it stood since
+-- What a name refers to now, and what else it may refer to on the disk: everything it has referred to since
 -- the folder was synced.
 pub record NameEntry : Type 0 where
   pub now : Option FolderFile
   pub others : List (Option DiskFile)
 
--- How a run has the file of a name: not open; open; open and locked; lost, since a sync of it failed
--- and nothing more may be asked of its bytes.
+-- How a run has the file of a name: not open; open; open and locked; lost, because a sync of it failed and
+-- its bytes may not be relied on.
 pub data FileUse : Type 0 where
   shut : FileUse
   opened : FileUse
   locked : FileUse
   lost : FileUse
 
+-- how a run has each of the four files
 pub record Uses : Type 0 where
   pub zero : FileUse
   pub one : FileUse
@@ -45,6 +46,7 @@ with_use (Journal One) how uses = record uses { one = how }
 with_use Store how uses = record uses { store = how }
 with_use New how uses = record uses { new = how }
 
+-- the four names of the folder, what was printed, and how a run has the files
 pub record Folder : Type 0 where
   pub zero : NameEntry
   pub one : NameEntry
@@ -70,24 +72,27 @@ using name how folder = record folder { uses = with_use name how folder.uses }
 
 -- ---- changes
 
--- A file after a write of so many bytes at a place, of which these came: a write that failed may
--- have written any, also other ones.
+-- A file after a write of `count` bytes at an offset, of which `bytes` arrived. A write that failed may have
+-- written any bytes, even others.
 abbrev pub after_writing : ℕ → ℕ → List ℕ → FolderFile → FolderFile
 after_writing place count bytes file = record {
   bytes = overlay place (take count bytes) file.bytes;
   disk = with_range place count file.disk;
 }
 
+-- a file after a sync: all its bytes are durable
 abbrev pub after_syncing : FolderFile → FolderFile
 after_syncing file = record { bytes = file.bytes; disk = settled_file file.bytes }
 
+-- a name whose present file, if it has one, changed so
 abbrev pub with_now : (FolderFile → FolderFile) → NameEntry → NameEntry
 with_now step entry = record entry { now = option_map step entry.now }
 
+-- what the disk has of a file that may be missing
 abbrev pub on_disk : Option FolderFile → Option DiskFile
 on_disk file = option_map (λ f. f.disk) file
 
--- a name that now stands for something else
+-- a name that now refers to another file, or to no file
 abbrev pub renewed : Option FolderFile → NameEntry → NameEntry
 renewed file entry = record { now = file; others = on_disk entry.now ∷ entry.others }
 
@@ -98,9 +103,10 @@ settled_name entry = record { now = entry.now; others = [] }
 abbrev pub empty_file : FolderFile
 empty_file = record { bytes = []; disk = settled_file [] }
 
--- What a call did: it wrote at a place of a file, so many bytes, of which these came; it synced a
--- file; it made an empty file, which is then open; it opened a file; it locked one; it failed to sync
--- one; it removed a name; it renamed the new store; it synced the folder; it printed a piece.
+-- What a call did: it wrote at an offset of a file, with the number of bytes asked for and the bytes that
+-- arrived; it synced a file; it made an empty file, which is then open; it opened a file; it locked a file;
+-- it failed to sync a file; it removed a name; it renamed the new store; it synced the folder; it printed a
+-- piece.
 pub data FolderChange : Type 0 where
   wrote : FileName → ℕ → ℕ → List ℕ → FolderChange
   synced : FileName → FolderChange
@@ -113,9 +119,11 @@ pub data FolderChange : Type 0 where
   synced_names : FolderChange
   printed : List ℕ → FolderChange
 
+-- the folder with one name changed so
 abbrev pub change_name : FileName → (NameEntry → NameEntry) → Folder → Folder
 change_name name step folder = with_entry_named name (step (entry_named name folder)) folder
 
+-- the folder after a change
 abbrev pub folder_after : FolderChange → Folder → Folder
 folder_after (wrote name place count bytes) folder = change_name name (with_now (after_writing place count bytes)) folder
 folder_after (synced name) folder = change_name name (with_now after_syncing) folder
@@ -141,9 +149,9 @@ abbrev pub folder_after_all : List FolderChange → Folder → Folder
 folder_after_all [] folder = folder
 folder_after_all (change ∷ changes) folder = folder_after_all changes (folder_after change folder)
 
--- ---- what a stop leaves
+-- ---- what a crash leaves
 
--- the bytes of each file that is there, and the output
+-- what a crash left: the bytes of each file that exists, and the output
 pub record Stopped : Type 0 where
   pub zero : Option (List ℕ)
   pub one : Option (List ℕ)
@@ -151,21 +159,24 @@ pub record Stopped : Type 0 where
   pub new : Option (List ℕ)
   pub out : List ℕ
 
+-- A crash may leave this of a file that may be missing.
 abbrev pub MayLeaveOne : Option DiskFile → Option (List ℕ) → Type 0
 MayLeaveOne None None = Unit {0}
 MayLeaveOne None (Some bytes) = ⊥
 MayLeaveOne (Some file) None = ⊥
 MayLeaveOne (Some file) (Some bytes) = MayLeaveFile file bytes
 
+-- A crash may leave this of one of these files.
 abbrev pub MayLeaveAny : List (Option DiskFile) → Option (List ℕ) → Type 0
 MayLeaveAny [] left = ⊥
 MayLeaveAny (file ∷ files) left = MayLeaveOne file left ⊎ MayLeaveAny files left
 
--- A stop may leave under a name what it stands for, or stood for since the folder was synced: of
--- that file what the disk may leave of it.
+-- A crash may leave under a name what the name refers to, or has referred to since the folder was synced: of
+-- that file, any bytes that the disk may leave of it.
 abbrev pub MayLeaveName : NameEntry → Option (List ℕ) → Type 0
 MayLeaveName entry left = MayLeaveAny (on_disk entry.now ∷ entry.others) left
 
+-- A crash may leave these files, one choice for each name, and all of the printed text.
 pub record MayLeaveFolder (folder : Folder) (left : Stopped) : Type 0 where
   pub zero : MayLeaveName folder.zero left.zero
   pub one : MayLeaveName folder.one left.one
@@ -173,20 +184,22 @@ pub record MayLeaveFolder (folder : Folder) (left : Stopped) : Type 0 where
   pub new : MayLeaveName folder.new left.new
   pub out : left.out ≡ folder.out
 
--- A stop while a change is made leaves what one before it may leave or one after it, and of a piece
--- that is printed any beginning.
+-- A crash during a change leaves what a crash before it may leave or what a crash after it may leave; of a
+-- piece that is printed, any beginning.
 abbrev pub During : FolderChange → Folder → Stopped → Type 0
 During (printed piece) folder left =
     (part : List ℕ) × (missing : List ℕ) × (part ++ missing ≡ piece) × MayLeaveFolder (folder_after (printed part) folder) left
 During change folder left = MayLeaveFolder folder left ⊎ MayLeaveFolder (folder_after change folder) left
 
--- a folder on which all is as a read gives it
+-- a file whose bytes are all durable
 abbrev pub settled_file_of : List ℕ → FolderFile
 settled_file_of bytes = record { bytes = bytes; disk = settled_file bytes }
 
+-- a name whose file is durable, with these bytes, or is missing
 abbrev pub entry_from : Option (List ℕ) → NameEntry
 entry_from bytes = record { now = option_map settled_file_of bytes; others = [] }
 
+-- the folder after the machine starts over these files: all of them is durable, and none is open
 abbrev pub settled_folder : Stopped → Folder
 settled_folder start = record {
   zero = entry_from start.zero;
@@ -197,10 +210,11 @@ settled_folder start = record {
   uses = record { zero = shut; one = shut; store = shut; new = shut };
 }
 
--- what a read gives
+-- the bytes that a read returns, if the file exists
 abbrev pub bytes_now : NameEntry → Option (List ℕ)
 bytes_now entry = option_map (λ file. file.bytes) entry.now
 
+-- what a read returns of each file, and the output
 abbrev pub here_in : Folder → Stopped
 here_in folder = record {
   zero = bytes_now folder.zero;

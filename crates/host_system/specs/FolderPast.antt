@@ -1,10 +1,11 @@
--- What was done to a folder since all of it was on the disk, and the moments of that.
+-- What was done to a folder since all of it was durable, and what a crash may leave since then.
 use Rattle.std.specs.Prelude.{◌≡◌, ℕ, zero, suc, ◌⊎◌, List, [], ◌∷◌, ◌++◌, length, Option, None, Some, IsSome}
 use Rattle.std.specs.Option.{option_map}
 use Rattle.host_system.specs.declared.system.FileName.{FileName}
 use Rattle.host_system.specs.declared.system.FileName.TheVariants.{Journal, Store, New}
 use Rattle.host_system.specs.Folder.{Folder, FolderChange, wrote, printed, folder_after, folder_after_all, FileUse, opened, locked, lost, use_in, Stopped, MayLeaveFolder, During, settled_folder, entry_named, bytes_now}
 
+-- the files and the output when all was durable, and what was done since, in order
 pub record FolderPast : Type 0 where
   pub first : Stopped
   pub changes : List FolderChange
@@ -12,10 +13,11 @@ pub record FolderPast : Type 0 where
 abbrev pub changed_by : FolderChange → FolderPast → FolderPast
 changed_by change past = record past { changes = past.changes ++ change ∷ [] }
 
+-- the folder now
 abbrev pub folder_of : FolderPast → Folder
 folder_of past = folder_after_all past.changes (settled_folder past.first)
 
--- What a stop may leave from the moment on that comes after so many changes.
+-- What a crash may leave from the point on that comes after t changes.
 abbrev pub MayLeaveFolderSince : Folder → List FolderChange → ℕ → Stopped → Type 0
 MayLeaveFolderSince folder [] zero left = MayLeaveFolder folder left
 MayLeaveFolderSince folder [] (suc t) left = ⊥
@@ -24,26 +26,29 @@ MayLeaveFolderSince folder (change ∷ changes) (suc t) left = MayLeaveFolderSin
 
 -- ---- for the clauses of the calls
 
--- Where a system tells, this was done, or its past before and after are so related.
+-- A call made this change, if the system is modelled.
 abbrev pub Did : FolderChange → Option FolderPast → Option FolderPast → Type 0
 Did change old new = new ≡ option_map (changed_by change) old
 
+-- The pasts of a system before and after a call are related so, if the system is modelled.
 abbrev pub IfTold : (FolderPast → FolderPast → Type 0) → Option FolderPast → Option FolderPast → Type 0
 IfTold P None new = new ≡ None
 IfTold P (Some old) None = ⊥
 IfTold P (Some old) (Some new) = P old new
 
--- the bytes of a file that is there
+-- the bytes of a file, or no bytes if it is missing
 abbrev pub bytes_or : Option (List ℕ) → List ℕ
 bytes_or None = []
 bytes_or (Some bytes) = bytes
 
+-- the bytes that a read of the name returns now, if the file exists
 abbrev pub bytes_named : FileName → FolderPast → Option (List ℕ)
 bytes_named name past = bytes_now (entry_named name (folder_of past))
 
 abbrev pub file_bytes : FileName → FolderPast → List ℕ
 file_bytes name past = bytes_or (bytes_named name past)
 
+-- the length of the file with this name in bytes, if the file exists
 abbrev pub length_told : FileName → FolderPast → Option ℕ
 length_told name past = option_map length (bytes_named name past)
 
@@ -53,7 +58,7 @@ HasFile name past = IsSome (bytes_named name past)
 abbrev pub IsMissing : FileName → FolderPast → Type 0
 IsMissing name past = bytes_named name past ≡ None
 
--- A call that failed has done it or hasn't.
+-- A call that failed has made the change or not.
 abbrev pub MayDo : FolderChange → FolderPast → FolderPast → Type 0
 MayDo change old new = (new ≡ old) ⊎ (new ≡ changed_by change old)
 
@@ -76,8 +81,8 @@ IsOpen name past = (use_of name past ≡ opened) ⊎ (use_of name past ≡ locke
 abbrev pub IsNotLost : FileName → FolderPast → Type 0
 IsNotLost name past = use_of name past ≡ lost → ⊥
 
--- A file may be written that is open, one of the journal's only once it is locked, and the record
--- store's never in its place.
+-- A file may be written if it is open. A journal file has to be locked too, and the record store's file is
+-- never written in place.
 abbrev pub MayBeWritten : FileName → FolderPast → Type 0
 MayBeWritten (Journal file) past = use_of (Journal file) past ≡ locked
 MayBeWritten Store past = ⊥

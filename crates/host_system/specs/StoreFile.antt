@@ -1,4 +1,4 @@
--- What putting a new file in the place of the record store's comes to.
+-- What replacing the record store's file does.
 use Rattle.std.specs.Prelude.{◌≡◌, ℕ, ◌⊎◌, List, Option, Some, Result, OnOk, OnErr}
 use Rattle.board_core.specs.Clock.{Passes}
 use Rattle.board_core.specs.Stop.{InStore, Becomes}
@@ -7,28 +7,28 @@ use Rattle.host_system.specs.BoardFile.{KeepsFile, SeesSame}
 use Rattle.host_system.specs.FolderPast.{FolderPast, IfTold}
 use Rattle.host_system.specs.View.{HasWholeStore, HasSettledStore, clock_over, seen_now, store_in, with_store}
 
--- A board sees the store of these bytes, and else the same.
+-- A board sees the store of these bytes, and everything else as before.
 abbrev pub SeesStore : List ℕ → FolderPast → FolderPast → Type 0
 SeesStore bytes old new = seen_now new ≡ with_store (store_in (Some bytes)) (seen_now old)
 
--- It does, and nothing of the file is on its way.
+-- A board sees the store of these bytes, and its file is durable.
 pub record HasReplaced (bytes : List ℕ) (old new : FolderPast) : Type 0 where
   pub seen : SeesStore bytes old new
   pub settled : HasSettledStore new
 
--- A file that was whole stays so.
+-- If the bytes of the store's file were durable, they still are.
 abbrev pub KeepsWhole : FolderPast → FolderPast → Type 0
 KeepsWhole old new = HasWholeStore old → HasWholeStore new
 
--- The store's file was replaced by one of these bytes, or that failed.
+-- The store's file was replaced by a file of these bytes, or that failed.
 pub record Replaces {T E : Type 0} (bytes : List ℕ) (result : Result T E) (old new : Option FolderPast) : Type 0 where
-  -- The file is whole on the disk if it was.
+  -- If the bytes of the store's file were durable, they still are.
   pub whole : IfTold KeepsWhole old new
   -- The journal's files are as usable as they were.
   pub files : (file : FileNo) → IfTold (KeepsFile file) old new
-  -- On `Ok` it is the new one, and so on the disk.
+  -- On `Ok` the file is the new one, and is durable.
   pub ok : OnOk result (IfTold (HasReplaced bytes) old new)
-  -- On `Err` it is the old one or the new one. Which one the disk has isn't known.
+  -- On `Err` the file is the old one or the new one. Which of them the disk has isn't known.
   pub err : OnErr result (IfTold (λ x y. SeesSame x y ⊎ SeesStore bytes x y) old new)
-  -- A stop meanwhile or now leaves what one before might have left, or that with the new store.
+  -- A crash during the call or now leaves what a crash before might have left, or that with the new store.
   pub stops : Passes (InStore (Becomes (store_in (Some bytes)))) (clock_over old) (clock_over new)

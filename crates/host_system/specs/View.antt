@@ -1,4 +1,4 @@
--- The folder as a board: its two files, the record store that its store file holds, and the output.
+-- The folder as a board sees it: its two files, the record store in its store file, and the output.
 use Rattle.std.specs.Prelude.{◌≡◌, ℕ, List, [], ◌∷◌, length, Bool, true, false, ◌&&◌, Option, None, Some, Result, Ok, Err}
 use Rattle.std.specs.Option.{option_map}
 use Rattle.erst_store.specs.Store.{Stored}
@@ -13,15 +13,17 @@ use Rattle.board_core.specs.Stop.{Left}
 use Rattle.host_system.specs.Folder.{FolderFile, NameEntry, Stopped, here_in, settled_folder}
 use Rattle.host_system.specs.FolderPast.{FolderPast, MayLeaveFolderSince, bytes_or, folder_of, file_bytes, IsNotLost}
 
--- The store that a file holds: none if it is missing or holds no store.
+-- The store in a file: empty if the file isn't a store.
 abbrev pub store_or : Result (List Stored) StoreRefused → List Stored
 store_or (Ok records) = records
 store_or (Err refused) = []
 
+-- the store in a file that may be missing
 abbrev pub store_in : Option (List ℕ) → List Stored
 store_in None = []
 store_in (Some bytes) = store_or (file_at bytes)
 
+-- what a board sees of these files
 abbrev pub seen_as : Stopped → Left
 seen_as left = record {
   file0 = bytes_or left.zero;
@@ -30,12 +32,13 @@ seen_as left = record {
   out = left.out;
 }
 
--- what a stop may leave, as a board
+-- what a crash may leave, as a board sees it
 pub record LeavesSince (past : FolderPast) (t : ℕ) (left : Left) : Type 0 where
   pub stopped : Stopped
   pub may : MayLeaveFolderSince (settled_folder past.first) past.changes t stopped
   pub is : left ≡ seen_as stopped
 
+-- the number of changes made so far, and what a crash may leave since each
 abbrev pub clock_over : Option FolderPast → Clock
 clock_over None = untold
 clock_over (Some past) = record { now = length past.changes; may_leave_since = LeavesSince past }
@@ -44,44 +47,46 @@ clock_over (Some past) = record { now = length past.changes; may_leave_since = L
 abbrev pub seen_now : FolderPast → Left
 seen_now past = seen_as (here_in (folder_of past))
 
--- what a board over a system tells
+-- what the model of a board over a system says
 abbrev pub told_over : Option FolderPast → Option Left
 told_over past = option_map seen_now past
 
 -- ---- the record store's file
 
+-- whether a list is empty
 abbrev pub is_none_of : {T : Type 0} → List T → Bool
 is_none_of [] = true
 is_none_of (x ∷ xs) = false
 
+-- whether all bytes of a file that may be missing are durable
 abbrev pub is_settled_file : Option FolderFile → Bool
 is_settled_file None = true
 is_settled_file (Some file) = is_none_of file.disk.written
 
+-- whether a name and all bytes of its file are durable
 abbrev pub is_settled : NameEntry → Bool
 is_settled entry = is_none_of entry.others && is_settled_file entry.now
 
--- All bytes of the file are on the disk. Its name may be on its way.
+-- All bytes of the store's file are durable. Its name may not be.
 abbrev pub HasWholeStore : FolderPast → Type 0
 HasWholeStore past = is_settled_file (folder_of past).store.now ≡ true
 
--- Nothing of the file is on its way, and its name stands for no other on the disk.
+-- The store's file is durable, and so is its name.
 abbrev pub HasSettledStore : FolderPast → Type 0
 HasSettledStore past = is_settled (folder_of past).store ≡ true
 
 abbrev pub with_store : List Stored → Left → Left
 with_store store left = record left { store = store }
 
--- A read gives what was written, unless a sync of the file failed. The record store's file is never
--- written in its place, so none of its bytes may be on their way to the disk.
+-- A read returns what was written, unless a sync of the file failed. The record store's file is never written
+-- in place, so all its bytes have to be durable.
 abbrev pub MayBeRead : FileName → FolderPast → Type 0
 MayBeRead (Journal file) past = IsNotLost (Journal file) past
 MayBeRead Store past = HasWholeStore past
 MayBeRead New past = IsNotLost New past
 
--- A folder that a board may begin over: no sync of a journal file failed, and the record store's
--- file is whole on the disk and made of bytes. Names may be on their way, as after a run that was
--- killed.
+-- A folder that a board may begin over: no sync of a journal file failed, and the record store's file is
+-- durable and consists of bytes. Names may not be durable, for example after a run was killed.
 pub record MayBegin (past : FolderPast) : Type 0 where
   pub zero : IsNotLost (Journal Zero) past
   pub one : IsNotLost (Journal One) past

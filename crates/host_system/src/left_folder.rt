@@ -1,4 +1,4 @@
-//! What a stop leaves of a system in memory.
+//! What a crash leaves of a system in memory.
 ghost use Rattle.std.specs.Prelude.{◌≡◌, ℕ, List, Option, length, IfOk, OnOk};
 ghost use Rattle.board_core.specs.DiskModel.{MayLeaveFile};
 ghost use Rattle.host_system.specs.Folder.{Uses, MayLeaveOne, MayLeaveName, MayLeaveFolder};
@@ -10,7 +10,7 @@ use crate::mem_files::{MemEntry, MemFile, MemFiles, MemWrite, copy_bytes, overla
 use ras_base::NoMemory;
 use std::alloc::Global;
 
-/// What a stop of the machine leaves: the bytes of each file that is there, and the output.
+/// What a crash of the machine leaves: the bytes of each file that exists, and the output.
 #[derive(Drop)]
 pub struct LeftFolder {
     /// `rasd.0`
@@ -21,34 +21,34 @@ pub struct LeftFolder {
     pub store: Option<Vec<u8>>,
     /// `rasd.new`
     pub fresh: Option<Vec<u8>>,
-    /// What was printed.
+    /// The printed text.
     pub out: Vec<u8>,
 }
 
-/// How a write comes out of which the disk may have anything.
+/// What a crash leaves of a write that isn't durable.
 #[derive(Clone, Copy, Debug, PartialEq, Eq)]
 pub enum WriteLeft {
-    /// As if it hadn't been made.
+    /// The bytes from before the write.
     Old,
-    /// With the bytes that were written.
+    /// The bytes that were written.
     New,
-    /// With this byte at each of its places.
+    /// This byte at each offset of the write.
     Fill(u8),
 }
 
-/// What a stop leaves of a name.
+/// What a crash leaves of a name.
 #[derive(Clone, Copy)]
 pub struct NamePick<'a> {
-    /// What the name stands for on the disk: 0 for what it stands for now, 1 for what it stood for
-    /// before that, and so on since the folder was last synced. Greater numbers are the oldest.
+    /// Which of its files the name refers to on the disk: 0 is the present one, 1 the one before
+    /// it, and so on back to the last sync of the folder. Greater numbers mean the oldest.
     pub back: usize,
-    /// How each write of that file comes out, the first of them first since its last sync.
+    /// What is left of each write to that file since its last sync, the oldest write first.
     pub writes: &'a [WriteLeft],
-    /// How those come out that `writes` doesn't reach.
+    /// What is left of the writes after those in `writes`.
     pub rest: WriteLeft,
 }
 
-/// What a stop leaves of each name.
+/// What a crash leaves of each name.
 #[derive(Clone, Copy)]
 pub struct StopPick<'a> {
     /// `rasd.0`
@@ -62,7 +62,7 @@ pub struct StopPick<'a> {
 }
 
 impl LeftFolder {
-    /// No file, and nothing printed.
+    /// Returns a folder without files, and with nothing printed.
     pub fn empty(alloc: Global) -> LeftFolder
         ensures { as_stopped result ≡ nothing_there }
     {
@@ -75,7 +75,11 @@ impl LeftFolder {
         }
     }
 
-    /// The same again.
+    /// Returns a copy.
+    ///
+    /// # Errors
+    ///
+    /// `NoMemory`: only if memory runs out.
     pub fn copy(&self, alloc: Global) -> Result<LeftFolder, NoMemory>
         ensures { IfOk result (λ copied. as_stopped copied ≡ as_stopped self.now) }
     {
@@ -98,7 +102,12 @@ impl NamePick<'_> {
     }
 }
 
-/// What a stop leaves of a folder with these files and this output, by this choice.
+/// Returns what a crash leaves of a folder with these files and this output, if `pick` is what the
+/// disk kept.
+///
+/// # Errors
+///
+/// `NoMemory`: only if memory runs out.
 pub fn left_of_folder(
     alloc: Global,
     files: &MemFiles,
@@ -130,7 +139,7 @@ fn left_of_name(
     }
 }
 
-// What the name stands for, or stood for so many times ago.
+// Returns what the name refers to now, or has referred to `back` changes ago.
 fn stood_for(entry: &MemEntry, back: usize) -> &Option<MemFile>
     ensures { (left : Option (List ℕ)) → MayLeaveOne (other_seen result.now) left
         → MayLeaveName (entry_seen entry.now) left }
@@ -143,7 +152,7 @@ fn stood_for(entry: &MemEntry, back: usize) -> &Option<MemFile>
     }
 }
 
-// A file's bytes as of its last sync, with each write since as it comes out.
+// Returns a file's bytes as of its last sync, with what is left of each write since.
 fn left_of_file(alloc: Global, file: &MemFile, pick: NamePick) -> Result<Vec<u8>, NoMemory>
     ensures { IfOk result (λ left. MayLeaveFile (disk_seen file.now) left.items) }
 {
@@ -157,7 +166,7 @@ fn left_of_file(alloc: Global, file: &MemFile, pick: NamePick) -> Result<Vec<u8>
     Ok(left)
 }
 
-// Bytes after a write as it comes out.
+// Returns the bytes with what is left of a write.
 fn after_write(
     alloc: Global,
     old: Vec<u8>,
@@ -177,7 +186,7 @@ fn after_write(
     }
 }
 
-// Bytes with others at a place, and zeros before it where it comes past their end.
+// Returns the old bytes with others at an offset. If that is past their end, zeros fill the gap.
 fn lay(alloc: Global, old: Vec<u8>, place: u64, bytes: &[u8]) -> Result<Vec<u8>, NoMemory>
     ensures { IfOk result (λ new. IsLaid
         (record { place = place; count = length bytes.now }) old.items new.items) }
@@ -187,7 +196,7 @@ fn lay(alloc: Global, old: Vec<u8>, place: u64, bytes: &[u8]) -> Result<Vec<u8>,
     overlaid(alloc, &old, place as usize, bytes)
 }
 
-// Brings bytes to a length by zeros.
+// Appends zeros up to a length.
 fn pad(alloc: Global, bytes: &mut Vec<u8>, size: usize) -> Result<(), NoMemory>
     ensures { OnOk result (IsPadded size bytes.old.items bytes.new.items) }
 {

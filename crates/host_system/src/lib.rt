@@ -1,7 +1,10 @@
-//! What the program asks of its operating system, and what a stop of the machine leaves of it.
+//! What the program asks of its operating system, and what a crash of the machine leaves of it.
+//!
+//! A public function with an empty body is a law: its clauses are the point.
 #![tactic(auto)]
 
 mod board_file;
+mod faults;
 mod laws;
 mod left_folder;
 mod mem_files;
@@ -13,6 +16,7 @@ mod system;
 pub use board_file::{
     file_size, open_files, print, read_file, sync_file, sync_names, sync_seen, write_file,
 };
+pub use faults::counted;
 pub use laws::system_laws;
 pub use left_folder::{LeftFolder, NamePick, StopPick, WriteLeft};
 pub use mem_system::{Effect, MemSystem};

@@ -1,4 +1,4 @@
-//! The files that a system in memory holds, with what the disk may have of each.
+//! The files of a system in memory, with what the disk may have of each.
 ghost use Rattle.std.specs.Prelude.{◌≡◌, ◌+◌, ◌≤◌, length, map, take, vec_len, vec_capacity, None, Some, IfOk, OnOk, OnErr};
 ghost use Rattle.std.specs.Option.{option_map};
 ghost use Rattle.board_core.specs.Told.{overlay};
@@ -14,8 +14,8 @@ use ras_base::NoMemory;
 use std::alloc::{AllocError, Global};
 use std::mem;
 
-/// A file, and what the disk may have of it: its bytes as of its last sync, which are kept apart
-/// once something is written, and the writes since.
+/// A file, and what the disk may have of it: its bytes as of its last sync, which are stored
+/// separately once something is written, and the writes since.
 #[derive(Drop)]
 pub struct MemFile {
     pub bytes: Vec<u8>,
@@ -23,7 +23,7 @@ pub struct MemFile {
     pub written: Vec<MemWrite>,
 }
 
-/// A write at a place, of which these bytes came and so many more were missing.
+/// A write at an offset: the bytes that arrived, and the number of bytes that are missing.
 #[derive(Drop)]
 pub struct MemWrite {
     pub place: u64,
@@ -43,13 +43,14 @@ impl Clone for MemWrite {
     }
 }
 
-/// What a name stands for now, and for what else it may stand on the disk, the newest first.
+/// What a name refers to now, and what else it may refer to on the disk, the newest first.
 #[derive(Drop)]
 pub struct MemEntry {
     pub here: Option<MemFile>,
     pub others: Vec<Option<MemFile>>,
 }
 
+/// The four files of the folder, by name.
 #[derive(Drop)]
 pub struct MemFiles {
     pub zero: MemEntry,
@@ -59,7 +60,7 @@ pub struct MemFiles {
 }
 
 impl MemFile {
-    /// An empty file.
+    /// Returns an empty file.
     pub fn empty(alloc: Global) -> MemFile
         ensures { file_seen result ≡ empty_file }
     {
@@ -70,7 +71,7 @@ impl MemFile {
         }
     }
 
-    // Writes bytes over what is there and past the end.
+    // Writes bytes over the old ones and past their end.
     fn write(
         &mut self,
         alloc: Global,
@@ -98,7 +99,7 @@ impl MemFile {
         Ok(())
     }
 
-    // All of it is on the disk.
+    // Makes all of the file durable.
     fn sync(&mut self)
         ensures { file_seen self.new ≡ after_syncing (file_seen self.old) }
     {
@@ -106,7 +107,7 @@ impl MemFile {
         self.written.clear();
     }
 
-    // The same file again.
+    // Returns a copy of the file.
     fn copy(&self, alloc: Global) -> Result<MemFile, NoMemory>
         ensures { IfOk result (λ copied. file_seen copied ≡ file_seen self.now) }
     {
@@ -122,7 +123,8 @@ impl MemFile {
 }
 
 impl MemEntry {
-    /// A name that stands for a file of these bytes, or for none, and for nothing else.
+    /// Returns a name that refers to a file of these bytes, or to no file, and on the disk to
+    /// nothing else.
     pub fn settled(alloc: Global, bytes: Option<Vec<u8>>) -> MemEntry
         ensures { entry_seen result ≡ entry_from (items_in bytes) }
     {
@@ -140,7 +142,7 @@ impl MemEntry {
         }
     }
 
-    /// The length of the file that is there.
+    /// Returns the file's length in bytes, if the file exists.
     pub fn length(&self) -> Option<u64>
         ensures { result ≡ option_map length (bytes_now (entry_seen self.now)) }
     {
@@ -150,7 +152,7 @@ impl MemEntry {
         }
     }
 
-    /// Its bytes, or none.
+    /// Returns the file's bytes, or no bytes if it is missing.
     pub fn bytes(&self) -> &[u8]
         ensures { result.now ≡ bytes_or (bytes_now (entry_seen self.now)) }
     {
@@ -160,7 +162,7 @@ impl MemEntry {
         }
     }
 
-    /// At most so many bytes of the file, from its start on; none if it is missing.
+    /// Returns the first bytes of the file, at most `most`, if the file exists.
     pub fn front(&self, alloc: Global, most: u64) -> Result<Option<Vec<u8>>, NoMemory>
         ensures { IfOk result (λ found. option_map (λ v. v.items) found
             ≡ option_map (take most) (bytes_now (entry_seen self.now))) }
@@ -172,7 +174,7 @@ impl MemEntry {
         Ok(Some(Vec::from_slice(alloc, &file.bytes[..count])?))
     }
 
-    // Writes into the file that is there.
+    // Writes into the file, which exists.
     fn write(
         &mut self,
         alloc: Global,
@@ -200,7 +202,7 @@ impl MemEntry {
         }
     }
 
-    // From now on the name stands for this.
+    // Lets the name refer to another file, or to no file.
     fn renew(&mut self, file: Option<MemFile>) -> Result<(), NoMemory>
         ensures ok { OnOk result (entry_seen self.new
             ≡ renewed (option_map file_seen file) (entry_seen self.old)) }
@@ -221,7 +223,7 @@ impl MemEntry {
         Ok(MemEntry { here, others })
     }
 
-    // The name is on the disk as it is.
+    // Makes the name durable as it is.
     fn settle(&mut self)
         ensures { entry_seen self.new ≡ settled_name (entry_seen self.old) }
     {
@@ -230,6 +232,7 @@ impl MemEntry {
 }
 
 impl MemFiles {
+    /// Returns what a name refers to.
     pub fn get(&self, name: FileName) -> &MemEntry
         ensures { result.now ≡ mem_entry name self.now }
     {
@@ -253,7 +256,7 @@ impl MemFiles {
         }
     }
 
-    /// Writes into a file that is there.
+    /// Writes into a file that exists.
     pub fn write(
         &mut self,
         alloc: Global,
@@ -272,14 +275,14 @@ impl MemFiles {
         self.get_mut(name).write(alloc, place, bytes, missing)
     }
 
-    /// Brings a file's bytes to the disk.
+    /// Makes a file's bytes durable.
     pub fn sync(&mut self, name: FileName)
         ensures { IsChanged name (with_now after_syncing) self.old self.new }
     {
         self.get_mut(name).sync();
     }
 
-    /// From now on the name stands for this.
+    /// Lets a name refer to another file, or to no file.
     pub fn renew(&mut self, name: FileName, file: Option<MemFile>) -> Result<(), NoMemory>
         ensures ok { OnOk result (IsChanged name (renewed (option_map file_seen file))
             self.old self.new) }
@@ -288,7 +291,7 @@ impl MemFiles {
         self.get_mut(name).renew(file)
     }
 
-    /// The new store's file takes the name of the old one's.
+    /// Gives the new store's file the name of the old one.
     pub fn rename(&mut self, alloc: Global) -> Result<(), NoMemory>
         ensures ok { OnOk result (IsRenamed self.old self.new) }
         ensures err { OnErr result (IsSame self.old self.new) }
@@ -299,7 +302,7 @@ impl MemFiles {
         self.store.renew(moved)
     }
 
-    /// The same files again.
+    /// Returns a copy of the files.
     pub fn copy(&self, alloc: Global) -> Result<MemFiles, NoMemory>
         ensures { IfOk result (λ copied. IsSame self.now copied) }
     {
@@ -315,7 +318,7 @@ impl MemFiles {
         })
     }
 
-    /// All names are on the disk as they are.
+    /// Makes all names durable as they are.
     pub fn settle(&mut self)
         ensures { AreSettled self.old self.new }
     {
@@ -347,7 +350,7 @@ fn copy_others(alloc: Global, others: &[Option<MemFile>]) -> Result<Vec<Option<M
     Ok(copied)
 }
 
-/// A copy of the bytes, if there are any.
+/// Returns a copy of the bytes, if there are any.
 pub fn copy_bytes(alloc: Global, bytes: &Option<Vec<u8>>) -> Result<Option<Vec<u8>>, NoMemory>
     ensures { IfOk result (λ copied. items_in copied ≡ items_in bytes.now) }
 {
@@ -357,7 +360,7 @@ pub fn copy_bytes(alloc: Global, bytes: &Option<Vec<u8>>) -> Result<Option<Vec<u
     }
 }
 
-/// Bytes with others written over them, and past their end.
+/// Returns the old bytes with others written over them at an offset, and past their end.
 pub fn overlaid(alloc: Global, old: &[u8], place: usize, bytes: &[u8]) -> Result<Vec<u8>, NoMemory>
     requires { place ≤ length old.now }
     ensures { IfOk result (λ made. made.items ≡ overlay place bytes.now old.now) }

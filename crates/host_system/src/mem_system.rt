@@ -1,11 +1,13 @@
 //! A system in memory.
 ghost use Rattle.std.specs.Prelude.{◌≡◌, ◌+◌, ◌^◌, ◌<◌, ◌≤◌, [], ◌∷◌, ◌++◌, length, Some, IfSome, IfOk, OnOk, OnErr};
+ghost use Rattle.board_core.specs.Cause.{HasCause};
 ghost use Rattle.host_system.specs.Folder.{MayLeaveFolder, settled_folder, made, removed, renamed, synced, loses, wrote, printed};
 ghost use Rattle.host_system.specs.FolderPast.{MayLeaveFolderSince, HasFile, MayWrite, MayPrint, changed_by, file_bytes, folder_of};
-ghost use Rattle.host_system.specs.MemSystem.{as_stopped, nothing_there, begun_over};
+ghost use Rattle.host_system.specs.MemSystem.{as_stopped, nothing_there, begun_over, with_change};
 ghost use Rattle.host_system.specs.Steps.Kept.{IsCopied};
 ghost use Rattle.host_system.specs.Steps.MemFiles.{number_of};
 
+use crate::faults::counted;
 use crate::left_folder::{LeftFolder, StopPick, left_of_folder};
 use crate::mem_files::{MemEntry, MemFile, MemFiles};
 use crate::notes::Notes;
@@ -15,10 +17,10 @@ use ras_base::NoMemory;
 use std::alloc::Global;
 use std::marker::Model;
 
-/// A system in memory, which tells all and fails at chosen calls.
+/// A system in memory, which is modelled and fails at chosen calls.
 ///
-/// It keeps what the disk may have of each file and of each name, so that it can tell what a stop
-/// leaves. A call that is refused memory fails, and has done nothing.
+/// It stores what the disk may have of each file and of each name, so that it can say what a crash
+/// leaves. A call for which memory runs out fails, and has done nothing.
 #[derive(Drop)]
 pub struct MemSystem {
     alloc: Global,
@@ -30,14 +32,15 @@ pub struct MemSystem {
     stop: u64,
     kept: Kept,
     notes: Notes,
+    faults: u64,
 }
 
-/// What there was before a call.
+/// The state before a chosen call.
 #[derive(Drop)]
 enum Kept {
-    /// The call hasn't come.
+    /// The call wasn't made yet.
     Nothing,
-    /// These files, and this output.
+    /// The files and the output before the call.
     Folder(MemFiles, Vec<u8>),
     /// Memory ran out.
     NoMemory,
@@ -49,28 +52,30 @@ struct ChosenFailure {
     effect: Effect,
 }
 
-/// What a call has done that fails. Whatever is chosen, a sync of a file that fails loses the file,
-/// and one of the names does nothing.
+/// What a failing call has done. Whatever is chosen, a failing sync of a file loses the file, and a
+/// failing sync of the names does nothing.
 #[derive(Clone, Copy, Debug, PartialEq, Eq)]
 pub enum Effect {
     /// Nothing.
     Nothing,
-    /// All that it was asked for: of a write, of a print, or of making, removing or renaming a file.
+    /// Everything asked for: a write, a print, or making, removing or renaming a file.
     All,
-    /// So many bytes of a write or of a print.
+    /// A write or a print of this many bytes only.
     Part(u64),
-    /// A write of this byte in the place of each that was to be written.
+    /// A write of this byte instead of every byte that was to be written.
     Other(u8),
 }
 
 impl Model for MemSystem {
-    ghost use Rattle.host_system.specs.FolderPast.{FolderPast};
-    ghost use Rattle.host_system.specs.MemSystem.{as_stopped, past_noted};
+    ghost use Rattle.host_system.specs.MemSystem.{MemState, as_stopped, past_noted};
     ghost use Rattle.host_system.specs.Steps.Kept.{Holds};
 
-    ghost Value = { FolderPast };
+    ghost Value = { MemState };
 
-    ghost view = { λ s. past_noted (as_stopped s.first) s.notes.calls };
+    ghost view = { λ s. record {
+      past = past_noted (as_stopped s.first) s.notes.calls;
+      faults = s.faults;
+    } };
 
     ghost invariant = { λ s.
         Holds (past_noted (as_stopped s.first) s.notes.calls) s.files s.out.items s.kept };
@@ -107,14 +112,19 @@ fn note(notes: &mut Notes, change: u64, name: FileName, place: u64, count: u64, 
 }
 
 impl MemSystem {
-    /// An empty folder, with nothing printed.
+    /// Returns a system with an empty folder, and with nothing printed.
     pub fn new(alloc: Global) -> MemSystem
         ensures { result ≡ begun_over nothing_there }
     {
         MemSystem::begun(alloc, LeftFolder::empty(alloc), LeftFolder::empty(alloc))
     }
 
-    /// A folder with these files, all of it on the disk, and with nothing printed.
+    /// Returns a system whose folder has these files, all of them durable, and with nothing
+    /// printed.
+    ///
+    /// # Errors
+    ///
+    /// `NoMemory`: only if memory runs out.
     pub fn over(alloc: Global, start: &LeftFolder) -> Result<MemSystem, NoMemory>
         ensures { IfOk result (λ system. system ≡ begun_over (as_stopped start.now)) }
     {
@@ -122,7 +132,7 @@ impl MemSystem {
         Ok(MemSystem::begun(alloc, first, start.copy(alloc)?))
     }
 
-    // A folder that begins with these files, given twice.
+    // Returns a system that begins with these files, which are given twice.
     fn begun(alloc: Global, first: LeftFolder, start: LeftFolder) -> MemSystem
         requires { as_stopped start ≡ as_stopped first }
         ensures { result ≡ begun_over (as_stopped first) }
@@ -149,11 +159,16 @@ impl MemSystem {
             stop: 0,
             kept: Kept::Nothing,
             notes: Notes::new(),
+            faults: 0,
         }
     }
 
-    /// Makes the call of this number fail, with this done. All calls of the trait are numbered from
-    /// 1.
+    /// Makes the call with this number fail, after it has done `effect`. All calls of the trait are
+    /// numbered from 1.
+    ///
+    /// # Errors
+    ///
+    /// `NoMemory`: only if memory runs out.
     pub fn fail_at(&mut self, call: u64, effect: Effect) -> Result<(), NoMemory>
         ensures { self.new ≡ self.old }
     {
@@ -161,25 +176,34 @@ impl MemSystem {
         Ok(())
     }
 
-    /// What a stop now leaves, by this choice.
+    /// Returns what a crash leaves now, if `pick` is what the disk kept.
+    ///
+    /// # Errors
+    ///
+    /// `NoMemory`: only if memory runs out.
     pub fn left(&self, pick: &StopPick) -> Result<LeftFolder, NoMemory>
-        ensures { IfOk result (λ left. MayLeaveFolder (folder_of self.now) (as_stopped left)) }
+        ensures { IfOk result (λ left. MayLeaveFolder (folder_of self.now.past) (as_stopped left)) }
     {
         left_of_folder(self.alloc, &self.files, &self.out, pick)
     }
 
-    /// Chooses the moment before the call of this number, of which `left_before` tells. The last
-    /// choice stands, and it is to be made before that call.
+    /// Chooses the point before the call with this number, for `left_before`. Has to be called
+    /// before that call is made. The last choice applies.
     pub fn stop_before(&mut self, call: u64)
         ensures { self.new ≡ self.old }
     {
         self.stop = call;
     }
 
-    /// What a stop at the chosen moment left, by this choice: none if it hasn't come.
+    /// Returns what a crash at the chosen point left, if `pick` is what the disk kept, or `None` if
+    /// that point wasn't reached.
+    ///
+    /// # Errors
+    ///
+    /// `NoMemory`: only if memory ran out, now or at the chosen point.
     pub fn left_before(&self, pick: &StopPick) -> Result<Option<LeftFolder>, NoMemory>
         ensures { IfOk result (λ found. IfSome found (λ left.
-            MayLeaveFolderSince (settled_folder self.now.first) self.now.changes 0
+            MayLeaveFolderSince (settled_folder self.now.past.first) self.now.past.changes 0
             (as_stopped left))) }
     {
         match &self.kept {
@@ -192,7 +216,7 @@ impl MemSystem {
         }
     }
 
-    // Counts a call. If a stop is to come before it, what is there is kept.
+    // Counts a call, and stores the state if a crash was chosen to come before the call.
     fn count(&mut self)
         ensures { self.new ≡ self.old }
     {
@@ -202,14 +226,14 @@ impl MemSystem {
         }
     }
 
-    // Keeps what is there now for `left_before`.
+    // Stores the present state for `left_before`.
     fn keep(&mut self)
         ensures { self.new ≡ self.old }
     {
         self.kept = kept_folder(self.alloc, &self.files, &self.out);
     }
 
-    // Counts a call, and says what it has done if it was chosen to fail.
+    // Counts a call, and returns what it has done if it was chosen to fail.
     fn fault(&mut self) -> Option<Effect>
         ensures { self.new ≡ self.old }
     {
@@ -221,18 +245,20 @@ impl MemSystem {
         }
     }
 
-    // Counts a call, and fails if it was chosen to.
+    // Counts a call, and fails if it was chosen to fail.
     fn begin(&mut self) -> Result<(), Failed>
-        ensures { self.new ≡ self.old }
+        ensures past { self.new.past ≡ self.old.past }
+        ensures cause { HasCause self.old.faults self.new.faults result }
     {
-        match self.fault() {
+        let answer = match self.fault() {
             Some(_) => Err(Failed),
             None => Ok(()),
-        }
+        };
+        counted(answer, &mut self.faults)
     }
 
     fn make_file(&mut self, name: FileName) -> Result<(), Failed>
-        ensures ok { OnOk result (self.new ≡ changed_by (made name) self.old) }
+        ensures ok { OnOk result (self.new ≡ with_change (made name) self.old) }
         ensures err { OnErr result (self.new ≡ self.old) }
     {
         let file = MemFile::empty(self.alloc);
@@ -244,7 +270,7 @@ impl MemSystem {
     }
 
     fn remove_file(&mut self, name: FileName) -> Result<(), Failed>
-        ensures ok { OnOk result (self.new ≡ changed_by (removed name) self.old) }
+        ensures ok { OnOk result (self.new ≡ with_change (removed name) self.old) }
         ensures err { OnErr result (self.new ≡ self.old) }
     {
         let Ok(()) = self.files.renew(name, None) else {
@@ -255,7 +281,7 @@ impl MemSystem {
     }
 
     fn rename_file(&mut self) -> Result<(), Failed>
-        ensures ok { OnOk result (self.new ≡ changed_by renamed self.old) }
+        ensures ok { OnOk result (self.new ≡ with_change renamed self.old) }
         ensures err { OnErr result (self.new ≡ self.old) }
     {
         let Ok(()) = self.files.rename(self.alloc) else {
@@ -265,10 +291,11 @@ impl MemSystem {
         Ok(())
     }
 
-    // Brings a file to the disk, or loses it if the call fails.
+    // Makes a file durable, or loses it if the call fails.
     fn sync_file(&mut self, name: FileName) -> Result<(), Failed>
-        ensures ok { OnOk result (self.new ≡ changed_by (synced name) self.old) }
-        ensures err { OnErr result (self.new ≡ changed_by (loses name) self.old) }
+        ensures ok { OnOk result (self.new.past ≡ changed_by (synced name) self.old.past) }
+        ensures err { OnErr result (self.new.past ≡ changed_by (loses name) self.old.past) }
+        ensures cause { HasCause self.old.faults self.new.faults result }
     {
         if self.begin().is_err() {
             note(&mut self.notes, 5, name, 0, 0, &[]);
@@ -279,7 +306,7 @@ impl MemSystem {
         Ok(())
     }
 
-    // A write of which so many bytes are missing.
+    // Writes bytes, of which `missing` are missing at the end.
     fn write(
         &mut self,
         name: FileName,
@@ -287,10 +314,10 @@ impl MemSystem {
         bytes: &[u8],
         missing: u64,
     ) -> Result<(), Failed>
-        requires there { HasFile name self.old }
-        requires within { place ≤ length (file_bytes name self.old) }
+        requires there { HasFile name self.old.past }
+        requires within { place ≤ length (file_bytes name self.old.past) }
         requires fits { length bytes.now + missing < 2 ^ 64 }
-        ensures ok { OnOk result (self.new ≡ changed_by
+        ensures ok { OnOk result (self.new ≡ with_change
             (wrote name place (length bytes.now + missing) bytes.now) self.old) }
         ensures err { OnErr result (self.new ≡ self.old) }
     {
@@ -302,7 +329,7 @@ impl MemSystem {
         Ok(())
     }
 
-    // A write that fails.
+    // Makes a write that fails.
     fn write_badly(
         &mut self,
         effect: Effect,
@@ -310,9 +337,10 @@ impl MemSystem {
         place: u64,
         bytes: &[u8],
     ) -> Result<(), Failed>
-        requires there { HasFile name self.old }
-        requires within { place ≤ length (file_bytes name self.old) }
-        ensures { MayWrite name place (length bytes.now) self.old self.new }
+        requires there { HasFile name self.old.past }
+        requires within { place ≤ length (file_bytes name self.old.past) }
+        ensures may { MayWrite name place (length bytes.now) self.old.past self.new.past }
+        ensures faults { self.new.faults ≡ self.old.faults }
     {
         match effect {
             Effect::Nothing => Ok(()),
@@ -333,8 +361,8 @@ impl MemSystem {
 
     // Appends to the output. If memory runs out, nothing is appended.
     fn append(&mut self, bytes: &[u8]) -> Result<(), Failed>
-        ensures ok { OnOk result (self.new ≡ changed_by (printed bytes.now) self.old) }
-        ensures err { OnErr result (self.new ≡ changed_by (printed []) self.old) }
+        ensures ok { OnOk result (self.new ≡ with_change (printed bytes.now) self.old) }
+        ensures err { OnErr result (self.new ≡ with_change (printed []) self.old) }
     {
         if self.out.extend_from_slice(bytes).is_err() {
             note(&mut self.notes, 9, FileName::New, 0, 0, &[]);
@@ -344,9 +372,10 @@ impl MemSystem {
         Ok(())
     }
 
-    // A print that fails.
+    // Makes a print that fails.
     fn print_badly(&mut self, effect: Effect, bytes: &[u8]) -> Result<(), Failed>
-        ensures { MayPrint bytes.now self.old self.new }
+        ensures may { MayPrint bytes.now self.old.past self.new.past }
+        ensures faults { self.new.faults ≡ self.old.faults }
     {
         match effect {
             Effect::Nothing | Effect::Other(_) => self.append(&[]),
@@ -360,7 +389,9 @@ impl MemSystem {
 }
 
 impl System for MemSystem {
-    ghost told = { λ s. Some s };
+    ghost told = { λ s. Some s.past };
+
+    ghost faults = { λ s. s.faults };
 
     fn find(&mut self, name: FileName) -> Result<Option<u64>, Failed> {
         self.begin()?;
@@ -374,14 +405,12 @@ impl System for MemSystem {
     }
 
     fn make(&mut self, name: FileName) -> Result<(), Failed> {
-        match self.fault() {
+        let answer = match self.fault() {
             None => self.make_file(name),
-            Some(Effect::All) => {
-                self.make_file(name)?;
-                Err(Failed)
-            }
+            Some(Effect::All) => self.make_file(name).and(Err(Failed)),
             Some(_) => Err(Failed),
-        }
+        };
+        counted(answer, &mut self.faults)
     }
 
     fn lock(&mut self, name: FileName) -> Result<(), Failed> {
@@ -392,10 +421,8 @@ impl System for MemSystem {
 
     fn read(&mut self, name: FileName, most: u64) -> Result<Option<Vec<u8>>, Failed> {
         self.begin()?;
-        let Ok(front) = self.files.get(name).front(self.alloc, most) else {
-            return Err(Failed);
-        };
-        Ok(front)
+        let answer = self.files.get(name).front(self.alloc, most);
+        counted(answer, &mut self.faults)
     }
 
     fn read_at(&mut self, name: FileName, place: u64, buf: &mut [u8]) -> Result<(), Failed> {
@@ -407,13 +434,13 @@ impl System for MemSystem {
     }
 
     fn write_at(&mut self, name: FileName, place: u64, bytes: &[u8]) -> Result<(), Failed> {
-        match self.fault() {
+        let answer = match self.fault() {
             None => self.write(name, place, bytes, 0),
-            Some(effect) => {
-                self.write_badly(effect, name, place, bytes)?;
-                Err(Failed)
-            }
-        }
+            Some(effect) => self
+                .write_badly(effect, name, place, bytes)
+                .and(Err(Failed)),
+        };
+        counted(answer, &mut self.faults)
     }
 
     fn sync(&mut self, name: FileName) -> Result<(), Failed> {
@@ -425,25 +452,21 @@ impl System for MemSystem {
     }
 
     fn remove(&mut self, name: FileName) -> Result<(), Failed> {
-        match self.fault() {
+        let answer = match self.fault() {
             None => self.remove_file(name),
-            Some(Effect::All) => {
-                self.remove_file(name)?;
-                Err(Failed)
-            }
+            Some(Effect::All) => self.remove_file(name).and(Err(Failed)),
             Some(_) => Err(Failed),
-        }
+        };
+        counted(answer, &mut self.faults)
     }
 
     fn rename(&mut self) -> Result<(), Failed> {
-        match self.fault() {
+        let answer = match self.fault() {
             None => self.rename_file(),
-            Some(Effect::All) => {
-                self.rename_file()?;
-                Err(Failed)
-            }
+            Some(Effect::All) => self.rename_file().and(Err(Failed)),
             Some(_) => Err(Failed),
-        }
+        };
+        counted(answer, &mut self.faults)
     }
 
     fn sync_names(&mut self) -> Result<(), Failed> {
@@ -454,12 +477,10 @@ impl System for MemSystem {
     }
 
     fn print(&mut self, bytes: &[u8]) -> Result<(), Failed> {
-        match self.fault() {
+        let answer = match self.fault() {
             None => self.append(bytes),
-            Some(effect) => {
-                self.print_badly(effect, bytes)?;
-                Err(Failed)
-            }
-        }
+            Some(effect) => self.print_badly(effect, bytes).and(Err(Failed)),
+        };
+        counted(answer, &mut self.faults)
     }
 }

@@ -4,7 +4,7 @@ ghost use Rattle.std.specs.Borrow.{ftrue};
 
 use std::marker::{Model, PhantomData};
 
-/// What was noted, each call as numbers and bytes. It takes no memory.
+/// The notes of calls, each as numbers and bytes. Allocates nothing: only contracts can read notes.
 #[derive(Drop)]
 pub struct Notes {
     marker: PhantomData<u8>,
@@ -16,7 +16,7 @@ impl Model for Notes {
 }
 
 impl Notes {
-    /// Nothing is noted.
+    /// Returns empty notes.
     pub fn new() -> Notes
         ensures { result.calls ≡ [] }
     {
@@ -25,7 +25,7 @@ impl Notes {
         }
     }
 
-    /// Notes a call, by numbers and bytes.
+    /// Notes a call, as numbers and bytes.
     pub fn note(&mut self, _numbers: &[u64], _bytes: &[u8])
         ensures { self.new.calls ≡ self.old.calls ++ (_numbers.now, _bytes.now) ∷ [] }
     {}

@@ -1,5 +1,6 @@
 //! The record store's file.
 ghost use Rattle.std.specs.Prelude.{IfSome, OnOk};
+ghost use Rattle.board_core.specs.Cause.{HasCause};
 ghost use Rattle.host_system.specs.Folder.{settled_file_of};
 ghost use Rattle.host_system.specs.FolderPast.{IsMissing};
 ghost use Rattle.host_system.specs.Steps.Quiet.{Quiet, HasNew};
@@ -8,24 +9,30 @@ ghost use Rattle.host_system.specs.StoreFile.{Replaces};
 use crate::{FileName, System};
 use board_core::Failed;
 
-/// Puts a new file of these bytes in the place of the record store's.
+/// Replaces the record store's file by a file of these bytes.
 ///
-/// A stop at any moment of it leaves a store that one before might have left or that of these
-/// bytes, and all else as it was. Once it has answered `Ok` it is these bytes, and on the disk;
-/// after `Failed` it is the old store or the new one.
+/// A crash at any point leaves a store that a crash before might have left, or the store of these
+/// bytes, and everything else as it was. After `Ok` the file has these bytes and is durable.
+///
+/// # Errors
+///
+/// `Failed`: only if a call of the system failed, which is counted. The store is then the old one
+/// or the new one.
 pub fn replace_store<S: System>(bytes: &[u8], system: &mut S) -> Result<(), Failed>
-    ensures { Replaces bytes.now result (S.told system.old) (S.told system.new) }
+    ensures replaces { Replaces bytes.now result (S.told system.old) (S.told system.new) }
+    ensures cause { HasCause (S.faults system.old) (S.faults system.new) result }
 {
     write_new(bytes, system)?;
     system.rename()?;
     system.sync_names()
 }
 
-// Makes `rasd.new` a file of these bytes that is on the disk.
+// Makes `rasd.new` a durable file of these bytes.
 fn write_new<S: System>(bytes: &[u8], system: &mut S) -> Result<(), Failed>
     ensures quiet { Quiet (S.told system.old) (S.told system.new) }
     ensures new { OnOk result
         (IfSome (S.told system.new) (HasNew (settled_file_of bytes.now))) }
+    ensures cause { HasCause (S.faults system.old) (S.faults system.new) result }
 {
     clear_new(system)?;
     system.make(FileName::New)?;
@@ -33,10 +40,11 @@ fn write_new<S: System>(bytes: &[u8], system: &mut S) -> Result<(), Failed>
     system.sync(FileName::New)
 }
 
-// Removes what a stop left under the name `rasd.new`.
+// Removes the file that a crash left under the name `rasd.new`, if there is one.
 fn clear_new<S: System>(system: &mut S) -> Result<(), Failed>
     ensures quiet { Quiet (S.told system.old) (S.told system.new) }
     ensures missing { OnOk result (IfSome (S.told system.new) (IsMissing FileName.New)) }
+    ensures cause { HasCause (S.faults system.old) (S.faults system.new) result }
 {
     match system.find(FileName::New)? {
         Some(_) => system.remove(FileName::New),

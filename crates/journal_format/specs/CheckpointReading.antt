@@ -1,5 +1,5 @@
--- The account that a checkpoint spells, read from left to right. A law says that it is the one
--- whose checkpoint the bytes are.
+-- The account that a checkpoint spells, read from left to right. A law says that it is the account whose checkpoint the
+-- bytes are.
 use Rattle.std.specs.Prelude.{ℕ, Bool, true, false, not, nat_eq, nat_le, ◌==◌, ◌&&◌, if◌then◌else◌, Option, None, Some, is_some, List, [], ◌∷◌, length, Result, Ok, Err}
 use Rattle.std.specs.List.{list_all}
 use Rattle.std.specs.Map.{keys_of}
@@ -33,7 +33,7 @@ list_at read bytes = do
 
 -- ---- the numbers at the front
 
--- the two limits, the number of entries, and the floor, where it stands here
+-- the two limits, the number of entries, and the floor if it is at the front
 abbrev pub CheckpointFront : Type 0
 CheckpointFront = Limit × (Limit × (ℕ × ℕ))
 
@@ -105,11 +105,11 @@ page_row_at =
 
 -- ---- the end
 
--- the floor that stands at the end of version 1, if it isn't 0
+-- the floor at the end of version 1, if it isn't 0
 unfoldable pub end_floor_at : Reader ℕ
 end_floor_at = made_at (if_passes (λ floor. not (floor == 0))) u64_at
 
--- the floor, if these bytes are left behind the rows, and this one was read at the front
+-- the floor, given the bytes left after the rows and the floor that was read at the front
 unfoldable pub floor_in : Version → ℕ → List ℕ → Result ℕ EntryRefused
 floor_in One floor [] = Ok floor
 floor_in One floor (byte ∷ bytes) = whole_at end_floor_at (byte ∷ bytes)
@@ -132,6 +132,7 @@ is_sound a =
     && (are_once same_name a.names
     && (are_once same_label (keys_of a.modules) && are_once nat_eq (keys_of a.pages))))
 
+-- the account of what was read: the front, the names, the rows of modules and of pages, and the floor
 abbrev pub state_with : CheckpointFront → List Name → List (Bytes × Module) → List (ℕ × PageRow) → ℕ → State
 state_with front names modules pages floor = record {
   names = names;

@@ -1,5 +1,5 @@
--- How the checkpoint of an account is spelled, in both versions. Each number has 8 bytes from its
--- low byte on, if nothing else is said.
+-- How the checkpoint of an account is spelled, in both versions. Each number has 8 bytes, the lowest first, unless
+-- another number of bytes is given.
 use Rattle.std.specs.Prelude.{◌≡◌, ℕ, ◌<◌, ◌^◌, Bool, ◌==◌, if◌then◌else◌, Option, None, Some, List, [], ◌∷◌, ◌++◌, length, All}
 use Rattle.std.specs.List.{flat_map}
 use Rattle.ras_base.specs.LittleEndian.{u64_bytes}
@@ -34,13 +34,13 @@ list_bytes spell rows = u64_bytes (length rows) ++ flat_map spell rows
 unfoldable pub bucket_bytes : Bucket → List ℕ
 bucket_bytes bucket = u64_bytes bucket.count ++ u64_bytes bucket.stamp
 
--- what is known of a module's replacement: whether it has a bucket (1 byte), and if it has one,
--- the bucket, and whether it is to be replaced (1)
+-- a module's replacement: whether it has a bucket (1 byte) and, if it has one, the bucket, and whether it is to be
+-- replaced (1)
 unfoldable pub replacement_bytes : Option Bucket → Bool → List ℕ
 replacement_bytes None replace = 0 ∷ []
 replacement_bytes (Some bucket) replace = 1 ∷ bucket_bytes bucket ++ replace_byte replace ∷ []
 
--- which version 1 doesn't tell
+-- a module's replacement in a version: version 1 has none
 abbrev pub replacement_part : Version → Module → List ℕ
 replacement_part One counted = []
 replacement_part Two counted = replacement_bytes counted.bucket counted.replace
@@ -60,28 +60,28 @@ unfoldable pub front_bytes : Version → State → List ℕ
 front_bytes One a = limit_bytes a.limit ++ u64_bytes a.entries
 front_bytes Two a = limit_bytes a.limit ++ limit_bytes a.module_limit ++ u64_bytes a.entries ++ u64_bytes a.floor
 
--- at the end of version 1 the floor, if it isn't 0
+-- the end of version 1: the floor, if it isn't 0
 unfoldable pub end_bytes : Version → State → List ℕ
 end_bytes One a = if a.floor == 0 then [] else u64_bytes a.floor
 end_bytes Two a = []
 
--- a checkpoint: the numbers at the front, the names, the rows of modules, and those of pages
+-- a checkpoint: the numbers at the front, the names, the rows of modules, and the rows of pages
 unfoldable pub checkpoint_bytes : Version → State → List ℕ
 checkpoint_bytes version a =
     front_bytes version a ++ list_bytes name_bytes a.names ++ list_bytes (module_bytes version) a.modules
     ++ list_bytes page_row_bytes a.pages ++ end_bytes version a
 
--- what a checkpoint of a version can tell: version 1 has no limit for modules but the first one,
--- and no bucket of a module
+-- what a checkpoint of version 1 can spell: no limit for modules but the first one, and no bucket of a module
 pub record HasNoBuckets (a : State) : Type 0 where
   pub limit : a.module_limit ≡ FIRST_MODULE_LIMIT
   pub modules : All (λ row. row.1.bucket ≡ None) a.modules
 
+-- a checkpoint of this version can spell this account
 abbrev pub CanTell : Version → State → Type 0
 CanTell One a = HasNoBuckets a
 CanTell Two a = Unit {0}
 
--- the bytes are the checkpoint of this account, which one of a version can tell
+-- the bytes are the checkpoint of this account in this version, which can spell it
 pub record IsCheckpoint (version : Version) (a : State) (bytes : List ℕ) : Type 0 where
   pub account : IsAccount a
   pub told : CanTell version a

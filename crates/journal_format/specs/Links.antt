@@ -1,5 +1,5 @@
--- How a link of the journal is spelled: entries that are kept or lost together. Each number of
--- several bytes stands from its low byte on.
+-- How a link of the journal is spelled: entries that are stored or lost together. Each number of several bytes begins
+-- with its low byte.
 use Rattle.std.specs.Prelude.{◌≡◌, ℕ, ◌+◌, ◌<◌, ◌≤◌, ◌^◌, Bool, nat_lt, List, ◌++◌, length, take, drop, All}
 use Rattle.ras_base.specs.LittleEndian.{u32_bytes, number_at}
 use Rattle.ras_facts.specs.declared.entry.Entry.{Entry}
@@ -16,7 +16,7 @@ payload_bytes entries = u32_bytes (length entries) ++ entries_bytes entries
 unfoldable pub link_bytes : List Entry → List ℕ
 link_bytes entries = u32_bytes (length (payload_bytes entries)) ++ payload_bytes entries
 
--- the bytes are the payload of these entries, which are those of a version
+-- the bytes are the payload of these entries, which a link of this version can have
 pub record IsPayload (version : Version) (entries : List Entry) (bytes : List ℕ) : Type 0 where
   pub some : 1 ≤ length entries
   pub few : length entries ≤ MOST_LINK_ENTRIES

@@ -1,5 +1,5 @@
--- The entries that a payload spells, read from left to right. A law says that they are those whose
--- payload the bytes are.
+-- The entries that a payload spells, read from left to right. A law says that they are the entries whose payload the
+-- bytes are.
 use Rattle.std.specs.Prelude.{ℕ, List, Option, None, Some, Result, Ok, Err, Bool, nat_le, ◌&&◌}
 use Rattle.ras_base.specs.Chaining.{◌>>=◌}
 use Rattle.ras_facts.specs.declared.entry.Entry.{Entry}

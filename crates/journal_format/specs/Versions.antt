@@ -6,9 +6,9 @@ use Rattle.ras_account.specs.Account.{State}
 use Rattle.entry_format.specs.Spelling.{limit_bytes}
 use Rattle.journal_format.specs.Checkpoints.{list_bytes}
 
--- the checkpoints of an account without buckets of modules: the first version is the second one
--- without the limit for modules, which is the first limit, and without the byte 0 that ends each
--- row of a module; its floor stands at the end, if it isn't 0, and not at the front
+-- the checkpoints of an account without buckets of modules: the first version is the second one without the limit for
+-- modules, which is the first limit, and without the byte 0 that ends each row of a module; its floor is at the end, if
+-- it isn't 0, and not at the front
 pub record InBothVersions (one two : List ℕ) (a : State) : Type 0 where
   pub names : List ℕ
   pub rows : List (List ℕ)

@@ -1,4 +1,4 @@
-//! Whether bytes are the checkpoint of an account that is there already.
+//! Whether bytes are the checkpoint of a given account.
 ghost use Rattle.std.specs.Prelude.{◌≡◌, ◌≢◌, ◌↔◌, ◌++◌, ℕ, List, IsTrue, IfOk, IfSome, None};
 ghost use Rattle.std.specs.List.{flat_map};
 ghost use Rattle.entry_format.specs.declared.version.Version.TheVariants.{Two};
@@ -12,7 +12,7 @@ use ras_base::NoMemory;
 use ras_base::little_endian::push_u64;
 use std::alloc::Global;
 
-// The bytes after a piece at their front, or none if they don't begin with it.
+// The bytes after a piece at their front, or `None` if they don't begin with it.
 fn after<'a>(piece: &[u8], bytes: &'a [u8]) -> Option<&'a [u8]>
     ensures some { IfSome result (λ rest. bytes.now ≡ piece.now ++ rest.now) }
     ensures none { result ≡ None → (rest : List ℕ) → bytes.now ≢ piece.now ++ rest }
@@ -20,7 +20,7 @@ fn after<'a>(piece: &[u8], bytes: &'a [u8]) -> Option<&'a [u8]>
     bytes.strip_prefix(piece)
 }
 
-// The bytes after the names of an account at their front, or none if they don't begin with them.
+// The bytes after the names of an account at their front, or `None` if they don't begin with them.
 fn after_names<'a>(account: &Account, bytes: &'a [u8]) -> Option<&'a [u8]>
     ensures some { IfSome result (λ rest. bytes.now
         ≡ flat_map name_bytes account.now.state.names ++ rest.now) }
@@ -29,7 +29,7 @@ fn after_names<'a>(account: &Account, bytes: &'a [u8]) -> Option<&'a [u8]>
 {
     let mut room = [0; BLOCK_BYTES];
     let mut rest = bytes;
-    // The last block may have no name.
+    // This is one block more than needed if the names fill whole blocks; it then has no name.
     for block in 0..account.names_len() / BLOCK_NAMES + 1 {
         let end = put_names(&mut room, account, block * BLOCK_NAMES);
         match after(&room[..end], rest) {
@@ -40,9 +40,10 @@ fn after_names<'a>(account: &Account, bytes: &'a [u8]) -> Option<&'a [u8]>
     Some(rest)
 }
 
-/// Whether bytes are the checkpoint of an account in version 2. No other account is made of them.
+/// Returns whether bytes are the checkpoint of this account in version 2. No second account is made
+/// of them.
 ///
-/// The answer is `NoMemory` if memory runs out.
+/// `NoMemory`: only if memory runs out.
 pub fn is_checkpoint_of(alloc: Global, account: &Account, bytes: &[u8]) -> Result<bool, NoMemory>
     ensures { IfOk result (λ same. IsTrue same ↔ IsCheckpoint Two account.now.state bytes.now) }
 {

@@ -25,11 +25,11 @@ use ras_base::NoMemory;
 use ras_facts::Name;
 use std::alloc::Global;
 
-// The fewest bytes that a name has: those of its kind and of one number.
+// The fewest bytes of a name: its kind and one number.
 const LEAST_NAME: usize = 9;
 
-// Takes room at once for the names at the front of the bytes. Their number comes from a file, so it
-// may be any: room is taken for no more names than the bytes can hold.
+// Reserves memory at once for the names at the front of the bytes. Their number comes from a file,
+// so it may be anything: memory is reserved for no more names than the bytes can contain.
 fn make_room(account: &mut Rebuilt, count: u64, bytes: &[u8]) -> Result<(), NoMemory>
     ensures { account.new ≡ account.old }
 {
@@ -37,7 +37,7 @@ fn make_room(account: &mut Rebuilt, count: u64, bytes: &[u8]) -> Result<(), NoMe
     account.make_room_for_names(count.min(most) as usize)
 }
 
-// Puts a name after those of an account that has no floor. `Bad` comes exactly if it is there
+// Adds a name to an account that has no floor. `Bad` is returned if and only if the name is there
 // or the account is full.
 fn put_name(account: &mut Rebuilt, name: Name) -> Result<(), EntryRefused>
     requires floor { account.old.floor ≡ 0 }
@@ -53,8 +53,8 @@ fn put_name(account: &mut Rebuilt, name: Name) -> Result<(), EntryRefused>
     }
 }
 
-// Puts the names at the front of the bytes into an account that has none and no floor. The answer
-// is the bytes after them.
+// Adds the names at the front of the bytes to an account that has no names and no floor. Returns
+// the bytes after them.
 fn names_at<'a>(account: &mut Rebuilt, bytes: &'a [u8]) -> Result<&'a [u8], EntryRefused>
     requires none { account.old.names ≡ [] }
     requires floor { account.old.floor ≡ 0 }
@@ -83,8 +83,8 @@ fn names_at<'a>(account: &mut Rebuilt, bytes: &'a [u8]) -> Result<&'a [u8], Entr
     Ok(rest)
 }
 
-// Puts a module's row after those of an account. `Bad` comes exactly if its label has a row or
-// the account is full.
+// Adds a module's row to an account. `Bad` is returned if and only if its label has a row or the
+// account is full.
 fn put_module(account: &mut Rebuilt, row: ModuleRow) -> Result<(), EntryRefused>
     requires row { IsModuleRow (row_of row) }
     ensures ok { OnOk result (account.new ≡ with_module account.old (row_of row)) }
@@ -99,8 +99,8 @@ fn put_module(account: &mut Rebuilt, row: ModuleRow) -> Result<(), EntryRefused>
     }
 }
 
-// Puts the rows of modules at the front of the bytes into an account that has none. The answer is
-// the bytes after them.
+// Adds the rows of modules at the front of the bytes to an account that has none. Returns the bytes
+// after them.
 fn modules_at<'a>(
     alloc: Global,
     version: Version,
@@ -132,7 +132,7 @@ fn modules_at<'a>(
     Ok(rest)
 }
 
-// Puts a page's row after those of an account. `Bad` comes exactly if the page has a row.
+// Adds a page's row to an account. `Bad` is returned if and only if the page has a row.
 fn put_page(
     account: &mut Rebuilt,
     page: u64,
@@ -154,8 +154,8 @@ fn put_page(
     }
 }
 
-// Puts the rows of pages at the front of the bytes into an account that has none. The answer is the
-// bytes after them.
+// Adds the rows of pages at the front of the bytes to an account that has none. Returns the bytes
+// after them.
 fn pages_at<'a>(account: &mut Rebuilt, bytes: &'a [u8]) -> Result<&'a [u8], EntryRefused>
     requires { account.old.pages ≡ [] }
     ensures read { IfOk result (λ rest. list_at page_row_at bytes.now
@@ -182,7 +182,7 @@ fn pages_at<'a>(account: &mut Rebuilt, bytes: &'a [u8]) -> Result<&'a [u8], Entr
     Ok(rest)
 }
 
-// The account with these numbers at its front and what stands after them.
+// The account with these numbers at its front, filled from the bytes after them.
 fn filled(
     alloc: Global,
     version: Version,
@@ -206,8 +206,8 @@ fn filled(
 }
 
 // Reads the names, modules, pages and floor from the bytes after a checkpoint's front into an
-// account that has none of them yet. It borrows the account, so that its caller drops the account
-// at one place, whatever is refused here.
+// account that has none of them yet. The account is borrowed, so that the caller drops it in one
+// place, whatever is refused here.
 fn fill(
     alloc: Global,
     version: Version,
@@ -249,21 +249,21 @@ fn account_at(alloc: Global, version: Version, bytes: &[u8]) -> Result<Account, 
     }
 }
 
-/// The account whose checkpoint the bytes are, in the version that is given. Nothing waits in it.
+/// Returns the account whose checkpoint the bytes are, in the given version. Nothing waits in it.
 /// Each byte is read once.
 ///
-/// It is refused as `Bad` exactly if the bytes aren't all of a checkpoint of that version, and
-/// as `NoMemory` if memory runs out.
+/// `Bad`: if and only if the bytes aren't exactly a checkpoint of that version. `NoMemory`: only if
+/// memory runs out.
 pub fn read_checkpoint(
     alloc: Global,
     version: Version,
     bytes: &[u8],
 ) -> Result<Account, CheckpointRefused>
-    // What is read is the account whose checkpoint the bytes are.
+    // The account that is read is the one whose checkpoint the bytes are.
     ensures found { IfOk result (λ account. IsCheckpoint version account.state bytes.now) }
     ensures waiting { IfOk result (λ account. account.waiting ≡ nothing) }
 
-    // What isn't read is no checkpoint, and what is one is read, unless memory runs out.
+    // Bytes that are refused aren't a checkpoint, and a checkpoint is read, unless memory runs out.
     ensures bad { result ≡ Err CheckpointRefused.Bad → (a : State)
         → ¬ IsCheckpoint version a bytes.now }
     ensures account { (a : State) → IsCheckpoint version a bytes.now

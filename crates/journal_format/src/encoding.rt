@@ -32,7 +32,7 @@ fn push_names(bytes: &mut Vec<u8>, account: &Account) -> Result<(), NoMemory>
     let count = account.names_len();
     push_u64(bytes, count as u64)?;
     let mut room = [0; BLOCK_BYTES];
-    // The last block may have no name.
+    // This is one block more than needed if the names fill whole blocks; it then has no name.
     for block in 0..count / BLOCK_NAMES + 1 {
         let end = put_names(&mut room, account, block * BLOCK_NAMES);
         bytes.extend_from_slice(&room[..end])?;
@@ -68,7 +68,8 @@ pub(crate) fn push_pages(bytes: &mut Vec<u8>, account: &Account) -> Result<(), N
     Ok(())
 }
 
-// So that a clause can tell that an account is one, and that its numbers of rows fit their fields.
+// The contracts of these calls say that an account is one, and that its numbers of rows fit their
+// fields.
 pub(crate) fn tell_account(account: &Account)
     ensures account { IsAccount account.now.state }
     ensures modules { length account.now.state.modules < 2 ^ 64 }
@@ -79,8 +80,8 @@ pub(crate) fn tell_account(account: &Account)
     let _ = account.pages().len();
 }
 
-/// Adds the checkpoint of an account, in version 2, which has as many bytes as
-/// [`crate::checkpoint_len`] says. If memory runs out, some of its bytes may have been added.
+/// Appends the checkpoint of an account in version 2, which has as many bytes as
+/// [`crate::checkpoint_len`] returns. If memory runs out, some of its bytes may have been added.
 #[tactic(auto, unfolding(crate::specs::Checkpoints::checkpoint_bytes, crate::specs::Checkpoints::end_bytes))]
 pub fn push_checkpoint(bytes: &mut Vec<u8>, account: &Account) -> Result<(), NoMemory>
     ensures bytes { OnOk result (bytes.new.items

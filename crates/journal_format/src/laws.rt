@@ -16,16 +16,16 @@ use crate::{CHECKPOINT_PLACE, MOST_LINK_ENTRIES, MOST_PAYLOAD};
 use entry_format::Version;
 use ras_facts::Entry;
 
-/// The laws of links. The function does nothing: its clauses are what it is for.
+/// What holds of links.
 pub fn link_laws()
-    // The entries that are read of a payload are those whose payload the bytes are.
+    // The entries read from a payload are the entries whose payload the bytes are.
     ensures payload { (version : Version) (entries : List Entry) (bytes : List ℕ) → AreBytes bytes
         → (payload_of version bytes ≡ Some entries) ↔ IsPayload version entries bytes }
     ensures payload_read { (version : Version) (entries : List Entry) (bytes : List ℕ)
         → IsPayload version entries bytes
         → payload_of version bytes ≡ Some entries }
 
-    // A link tells its length and its payload, whatever follows it.
+    // A link gives its length and its payload, whatever follows it.
     ensures whole { (version : Version) (entries : List Entry) (rest : List ℕ)
         → CanLink version entries → IsFalse (ends_early (link_bytes entries ++ rest)) }
     ensures length { (version : Version) (entries : List Entry) (rest : List ℕ)
@@ -35,7 +35,7 @@ pub fn link_laws()
         → CanLink version entries
         → payload_in (link_bytes entries ++ rest) ≡ payload_bytes entries }
 
-    // What a link begins with, but for the whole link, ends early, and no link begins another.
+    // Every shorter beginning of a link ends early, and no link is a beginning of another.
     ensures cut { (version : Version) (entries : List Entry) (front : List ℕ)
         → CanLink version entries → IsPrefixOf front (link_bytes entries)
         → length front < length (link_bytes entries) → IsTrue (ends_early front) }
@@ -43,21 +43,21 @@ pub fn link_laws()
         → CanLink version ds → CanLink version es
         → link_bytes ds ++ x ≡ link_bytes es ++ y → (ds ≡ es) × (x ≡ y) }
 
-    // The entries that a link is made of can be linked.
+    // The entries from which a link is made can be linked.
     ensures made { (entries : List Entry) → 1 ≤ length entries → length entries ≤ MOST_LINK_ENTRIES
         → All IsValidEntry entries
         → length (payload_bytes entries) ≤ MOST_PAYLOAD → CanLink Version.Two entries }
 {}
 
-/// The laws of checkpoints. The function does nothing: its clauses are what it is for.
+/// What holds of checkpoints.
 pub fn checkpoint_laws()
-    // The account that is read of bytes is the one whose checkpoint they are.
+    // The account read from bytes is the account whose checkpoint they are.
     ensures account { (version : Version) (a : State) (bytes : List ℕ) → AreBytes bytes
         → (checkpoint_of version bytes ≡ Some a) ↔ IsCheckpoint version a bytes }
     ensures account_read { (version : Version) (a : State) (bytes : List ℕ)
         → IsCheckpoint version a bytes → checkpoint_of version bytes ≡ Some a }
 
-    // A checkpoint has one reading, and every account has one in version 2.
+    // A checkpoint can be read in one way only, and every account has a checkpoint in version 2.
     ensures one_reading { (version : Version) (a b : State) (bytes : List ℕ)
         → IsCheckpoint version a bytes → IsCheckpoint version b bytes → a ≡ b }
     ensures spelled { (a : State) → IsAccount a → length a.modules < 2 ^ 64
@@ -68,8 +68,7 @@ pub fn checkpoint_laws()
         → InBothVersions (checkpoint_bytes Version.One a) (checkpoint_bytes Version.Two a) a }
 {}
 
-/// The numbers that the definitions cite by name. The function does nothing: its clauses are what
-/// it is for.
+/// The numbers that the definitions cite by name have these digits.
 pub fn numbers_in_digits()
     ensures entries { MOST_LINK_ENTRIES ≡ 2_000 }
     ensures payload { MOST_PAYLOAD ≡ 67_108_864 }

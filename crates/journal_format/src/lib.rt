@@ -1,8 +1,10 @@
 //! The journal's links and checkpoints as bytes, and back.
 //!
-//! A link has the entries that are kept or lost together, and a checkpoint is a whole account.
-//! Each has one spelling, which `specs/` gives. What is spelled is read again, and bytes that are
-//! no spelling are refused.
+//! A link has the entries that are stored or lost together, and a checkpoint is a whole account.
+//! Each has one spelling, which `specs/` defines. A spelling is read back, and bytes that aren't
+//! one are refused.
+//!
+//! A public function with an empty body is a law: its clauses are the point.
 #![tactic(auto)]
 
 mod blocks;

@@ -56,7 +56,10 @@ fn entries_len(entries: &[Entry]) -> usize
     total
 }
 
-/// The link of 1 to 2,000 valid entries, whose payload has at most 67,108,864 bytes.
+/// Returns the link of these entries. Requires 1 to 2,000 valid entries whose payload has at most
+/// 67,108,864 bytes.
+///
+/// `NoMemory`: only if memory runs out.
 #[tactic(auto, unfolding(crate::specs::Links::link_bytes, crate::specs::Links::payload_bytes))]
 pub fn encode_link(alloc: Global, entries: &[Entry]) -> Result<Link, NoMemory>
     requires some { 1 ≤ length entries.now }
@@ -118,22 +121,23 @@ fn read_payload(alloc: Global, version: Version, bytes: &[u8]) -> Result<Vec<Ent
     }
 }
 
-/// The entries of the link at the front of the bytes, and the link's length. Each byte is read
-/// once, and none after the link.
+/// Returns the entries of the link at the front of the bytes, and the link's length. Each byte is
+/// read once, and none after the link.
 ///
-/// It is refused as `Cut` exactly if the bytes end before the link does: within the length of
-/// its payload, or within that many bytes after it. It is refused as `Bad` exactly if the payload
-/// isn't that of 1 to 2,000 valid entries of the version, and as `NoMemory` if memory runs out.
+/// `Cut`: if and only if the bytes end before the link does, within the length of its payload or
+/// within that many bytes after it. `Bad`: if they don't and the payload isn't that of 1 to 2,000
+/// valid entries of the version, unless memory runs out; never otherwise. `NoMemory`: only if
+/// memory runs out.
 pub fn read_link(
     alloc: Global,
     version: Version,
     bytes: &[u8],
 ) -> Result<(Vec<Entry>, usize), LinkRefused>
-    // What is read stands at the front of the bytes.
+    // The entries that are read are those of the link at the front of the bytes.
     ensures found { IfOk result (λ read. IsPayload version read.0.items (payload_in bytes.now)) }
     ensures length { IfOk result (λ read. read.1 ≡ link_length bytes.now) }
 
-    // What isn't read is cut, or its payload is none, unless memory runs out.
+    // Bytes are refused because they are cut or their payload is invalid, unless memory runs out.
     ensures cut { (result ≡ Err LinkRefused.Cut) ↔ IsTrue (ends_early bytes.now) }
     ensures bad { result ≡ Err LinkRefused.Bad → (entries : List Entry)
         → ¬ IsPayload version entries (payload_in bytes.now) }

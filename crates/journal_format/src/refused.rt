@@ -12,7 +12,7 @@ pub enum LinkRefused {
     /// They end before the link does.
     #[error("the link is cut")]
     Cut,
-    /// Its payload is no list of entries.
+    /// Its payload isn't a list of entries.
     #[error("the payload of the link is no list of entries")]
     Bad,
     /// Memory ran out.
@@ -31,7 +31,7 @@ impl From<NoMemory> for LinkRefused {
 /// Why bytes were not read as a checkpoint.
 #[derive(Clone, Copy, Debug, PartialEq, Eq, Drop, Error)]
 pub enum CheckpointRefused {
-    /// They are none, or more than one.
+    /// They aren't a checkpoint, or more than one.
     #[error("the bytes are no checkpoint")]
     Bad,
     /// Memory ran out.

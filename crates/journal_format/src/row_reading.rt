@@ -1,5 +1,5 @@
-//! The parts of a checkpoint from bytes, each at the front. `Bad` comes exactly if none stands
-//! there; only the row of a module takes memory, for its label.
+//! The parts of a checkpoint from bytes, each at the front. `Bad` is returned if and only if the
+//! bytes don't begin with the part; only the row of a module allocates memory, for its label.
 ghost use Rattle.std.specs.Prelude.{◌≡◌, ◌≤◌, IfOk};
 ghost use Rattle.page_policy.specs.Buckets.{IsLimit, most_count};
 ghost use Rattle.ras_facts.specs.Valid.{IsPage};
@@ -15,8 +15,8 @@ use page_policy::{Bucket, Limit, MOST_CAPACITY, PageState};
 use ras_account::{FIRST_MODULE_LIMIT, MOST_ENTRIES, ModuleRow};
 use std::alloc::Global;
 
-/// The numbers at the front of a checkpoint; of version 1 the first limit for modules, and 0 as the
-/// floor.
+/// The numbers at the front of a checkpoint. Version 1 has the first limit for modules, and 0 as
+/// the floor.
 #[derive(Clone, Copy)]
 pub(crate) struct CheckpointFront {
     pub(crate) limit: Limit,
@@ -55,7 +55,7 @@ fn replace_at(bytes: &[u8]) -> Result<(bool, &[u8]), EntryRefused>
     }
 }
 
-// What is known of a module's replacement: its bucket, and whether it is to be replaced.
+// The replacement of a module: its bucket, and whether it is to be replaced.
 #[tactic(auto, unfolding(crate::specs::CheckpointReading::replacement_at, crate::specs::CheckpointReading::some_replacement_at))]
 fn replacement_at(
     version: Version,
@@ -119,7 +119,7 @@ fn read_module(
     Ok((row, rest))
 }
 
-/// The row of a module.
+/// Returns the row of a module, and the bytes after it.
 pub(crate) fn module_at(
     alloc: Global,
     version: Version,
@@ -157,7 +157,7 @@ fn read_page_row(bytes: &[u8]) -> Result<((u64, Bucket, PageState), &[u8]), Entr
     Ok(((page, bucket, state), rest))
 }
 
-/// The row of a page: its number, its bucket and its state.
+/// Returns the row of a page, its number, its bucket and its state, and the bytes after it.
 pub(crate) fn page_row_at(bytes: &[u8]) -> Result<((u64, Bucket, PageState), &[u8]), EntryRefused>
     ensures read { ReadsExactly (λ x. ((x.0.0, record { bucket = x.0.1; state = x.0.2 }), x.1.now)) result
         (page_row_at bytes.now) }
@@ -211,7 +211,7 @@ fn read_front(version: Version, bytes: &[u8]) -> Result<(CheckpointFront, &[u8])
     }
 }
 
-/// The numbers at the front.
+/// Returns the numbers at the front of a checkpoint, and the bytes after them.
 pub(crate) fn front_at(
     version: Version,
     bytes: &[u8],
@@ -224,8 +224,8 @@ pub(crate) fn front_at(
     read_front(version, bytes)
 }
 
-/// The floor of a checkpoint of which these bytes are left after the rows, if this one stood at its
-/// front.
+/// Returns the floor of a checkpoint, given the bytes left after its rows and the floor that was at
+/// its front.
 #[tactic(auto, unfolding(crate::specs::CheckpointReading::floor_in, crate::specs::CheckpointReading::end_floor_at))]
 pub(crate) fn floor_in(version: Version, floor: u64, bytes: &[u8]) -> Result<u64, EntryRefused>
     ensures { ReadsExactly (λ x. x) result (floor_in version floor bytes.now) }

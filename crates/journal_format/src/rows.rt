@@ -32,7 +32,7 @@ fn push_bucket(bytes: &mut Vec<u8>, bucket: Bucket) -> Result<(), NoMemory>
     push_u64(bytes, bucket.stamp)
 }
 
-// Adds what is known of a module's replacement.
+// Adds a module's replacement: its bucket, and whether it is to be replaced.
 #[tactic(auto, unfolding(crate::specs::Checkpoints::replacement_bytes))]
 fn push_replacement(
     bytes: &mut Vec<u8>,
@@ -65,7 +65,7 @@ fn push_sums(bytes: &mut Vec<u8>, sums: &[u64]) -> Result<(), NoMemory>
     Ok(())
 }
 
-/// Adds the row of a module.
+/// Appends the row of a module.
 #[tactic(auto, unfolding(crate::specs::Checkpoints::module_bytes))]
 pub(crate) fn push_module(bytes: &mut Vec<u8>, row: &ModuleRow) -> Result<(), NoMemory>
     ensures { OnOk result (bytes.new.items ≡ bytes.old.items ++ module_bytes Two (row_of row.now)) }
@@ -75,7 +75,7 @@ pub(crate) fn push_module(bytes: &mut Vec<u8>, row: &ModuleRow) -> Result<(), No
     push_replacement(bytes, row.bucket, row.replace)
 }
 
-/// Adds the row of a page.
+/// Appends the row of a page.
 #[tactic(auto, unfolding(crate::specs::Checkpoints::page_row_bytes))]
 pub(crate) fn push_page_row(
     bytes: &mut Vec<u8>,

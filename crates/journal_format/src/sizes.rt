@@ -1,4 +1,4 @@
-//! How many bytes a checkpoint has, and where it stands in a journal file.
+//! How many bytes a checkpoint has, and where it is in a journal file.
 ghost use Rattle.std.specs.Prelude.{◌≡◌, ◌≤◌, ◌*◌, Bool, length, min};
 ghost use Rattle.std.specs.List.{flat_map};
 ghost use Rattle.ras_base.specs.LittleEndian.{u64_bytes};
@@ -12,18 +12,18 @@ use mca_status::CLASS_COUNT;
 use page_policy::Bucket;
 use ras_account::{Account, ModuleRow};
 
-/// The place of the checkpoint in a journal file: after the gate, the eight bytes that tell the
+/// The offset of the checkpoint in a journal file: after the gate, the eight bytes that name the
 /// format, the generation and the checkpoint's length.
 pub const CHECKPOINT_PLACE: usize = 25;
 
-/// How many bytes a checkpoint has beside its rows: two limits, the number of entries, the floor,
+/// How many bytes a checkpoint has besides its rows: two limits, the number of entries, the floor,
 /// and three numbers of rows.
 const BYTES_BESIDE_ROWS: u128 = 72;
 
 /// How many bytes the row of a page has.
 const PAGE_ROW_BYTES: u128 = 25;
 
-// How many bytes what is known of a module's replacement has.
+// How many bytes a module's replacement has.
 #[tactic(auto, using(crate::proofs::SizeLemmas::row_sizes), unfolding(crate::specs::Checkpoints::replacement_bytes, crate::specs::Checkpoints::bucket_bytes))]
 fn replacement_len(bucket: Option<Bucket>) -> usize
     ensures length { (replace : Bool) → result ≡ length (replacement_bytes bucket replace) }
@@ -78,8 +78,8 @@ fn modules_len(account: &Account) -> u128
     total
 }
 
-/// How many bytes the checkpoint of an account has in version 2: the greatest number of 64 bits
-/// if they are more.
+/// Returns how many bytes the checkpoint of an account has in version 2, or the greatest number of
+/// 64 bits if they are more.
 #[tactic(auto, using(crate::proofs::SizeLemmas::checkpoint_size))]
 pub fn checkpoint_len(account: &Account) -> u64
     ensures { result ≡ min u64.MAX (length (checkpoint_bytes Two account.now.state)) }

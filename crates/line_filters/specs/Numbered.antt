@@ -7,7 +7,7 @@ use Rattle.ras_exit.specs.ScriptEnd.{ending_exit}
 use Rattle.ras_exit.specs.declared.exit.Exit.{Exit}
 use Rattle.ras_exit.specs.declared.exit.Exit.TheVariants.{BadLine, SourceFault, TooLong}
 
--- a reader of lines, and how many it gave
+-- a reader of lines, and how many lines it returned
 pub record Numbered : Type 0 where
   pub reader : Reader
   pub number : ℕ
@@ -16,8 +16,8 @@ pub record Numbered : Type 0 where
 abbrev pub no_lines : Numbered
 no_lines = record { reader = record { line = []; held = []; taken = 0 }; number = 0 }
 
--- What a call gives of the lines to come, after so many: the next one, or none, because the script
--- ended or their list ends otherwise. A source that fails takes none of them away.
+-- What a call returns of the lines to come, after that many: the next line, or no line, because the script ended or
+-- their list ends otherwise. A source that fails takes none of them away.
 abbrev pub GivesNumbered : Result Bool Exit → Lines → ℕ → Reader → List ℕ → Type 0
 GivesNumbered (Ok true) lines number reader left =
     lines ≡ with_line reader.line (lines_to_come reader left)
@@ -26,24 +26,24 @@ GivesNumbered (Err SourceFault) lines number reader left = lines ≡ lines_to_co
 GivesNumbered (Err exit) lines number reader left =
     (ending : Ending) × (lines ≡ no_line ending) × (exit ≡ ending_exit number ending)
 
--- how many lines were given after a call
+-- how many lines were returned after a call
 abbrev pub number_after : Result Bool Exit → ℕ → ℕ
 number_after (Ok true) number = number + 1
 number_after result number = number
 
--- Lines are counted, and bytes as by their reader.
+-- The lines are counted, and their reader counts the bytes.
 pub record Counts (result : Result Bool Exit) (old new : Numbered) : Type 0 where
   pub number : new.number ≡ number_after result old.number
   pub bytes : Advances (result ≡ Ok true) (result ≡ Err SourceFault) old.reader new.reader
 
--- how a list of lines ends a call, but at the script's end
+-- how a list of lines ends a call, except at the script's end
 abbrev pub IsNextExit : Exit → Type 0
 IsNextExit (BadLine line reason) = ⊤
 IsNextExit SourceFault = ⊤
 IsNextExit TooLong = ⊤
 IsNextExit exit = ⊥
 
--- over every source, and why
+-- how a call ends over every source, and why
 pub record EndsNext (result : Result Bool Exit) (count count' : ℕ) : Type 0 where
   pub exits : IfErr result IsNextExit
   pub source : Causes SourceCause result count count'

@@ -8,19 +8,19 @@ use ras_base::NoMemory;
 use ras_script::LineRefused;
 use std::alloc::Global;
 
-/// Makes a text of each line of a script, and one at its end.
+/// A filter: a text for each line of a script, and a text at its end.
 pub trait LineFilter {
-    /// What it makes of the lines to come.
+    /// What the filter prints for the lines to come.
     ghost makes: { Self → Filter };
 
-    /// How many lines it has taken.
+    /// How many lines the filter has taken.
     ghost taken: { Self → ℕ };
 
-    /// Takes a line, and puts its text after another.
+    /// Takes a line, and appends its text.
     ///
     /// # Errors
     ///
-    /// Why the line is refused, which changes nothing. `NoMemory` comes only if memory runs out.
+    /// Why the line is refused; nothing changes then. `NoMemory`: only if memory runs out.
     fn take(&mut self, alloc: Global, line: &[u8], text: &mut Vec<u8>) -> Result<(), LineRefused>
         requires short { length line.now ≤ LONGEST_LINE }
         requires few { taken self.old ≤ LONGEST_SCRIPT }
@@ -29,24 +29,24 @@ pub trait LineFilter {
         ensures taken { OnOk result (taken self.new ≡ taken self.old + 1) }
         ensures kept { OnErr result (taken self.new ≡ taken self.old) };
 
-    /// Puts the text that comes after all lines, however they end, after another.
+    /// Appends the text that comes after all lines, whether or not a line was refused.
     ///
     /// # Errors
     ///
-    /// `NoMemory` comes only if memory runs out.
+    /// `NoMemory`: only if memory runs out.
     fn push_rest(&self, alloc: Global, text: &mut Vec<u8>) -> Result<(), NoMemory>
         requires { taken self.now ≤ LONGEST_SCRIPT + 1 }
         ensures { OnOk result (text.new.items ≡ text.old.items ++ (makes self.now).rest []) };
 
-    /// Puts the text that follows if no line is refused after another.
+    /// Appends the text that comes last if no line was refused.
     ///
     /// # Errors
     ///
-    /// `NoMemory` comes only if memory runs out.
+    /// `NoMemory`: only if memory runs out.
     fn push_last(&self, alloc: Global, text: &mut Vec<u8>) -> Result<(), NoMemory>
         requires { taken self.now ≤ LONGEST_SCRIPT + 1 }
         ensures { OnOk result (text.new.items ≡ text.old.items ++ (makes self.now).last []) };
 
-    /// Of no line there is no answer.
+    /// For no lines there are no answers.
     ghost none: { (filter : Self) → (makes filter).answers [] ≡ [] };
 }

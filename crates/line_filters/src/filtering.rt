@@ -1,4 +1,4 @@
-//! The lines of a source, each filtered, and their texts printed before the source is read again.
+//! The lines of a source, each filtered, with their texts printed before the source is read again.
 
 ghost use Rattle.std.specs.Prelude.{◌≡◌, ◌+◌, ◌≤◌, ◌++◌, ℕ, List, [], length, Contains, OnOk, Some, IfErr, IfSome, IsSomeAnd};
 ghost use Rattle.board_core.specs.Doing.{looks};
@@ -17,9 +17,9 @@ use ras_base::NoMemory;
 use ras_exit::{Exit, print, stop_line};
 use std::alloc::Global;
 
-/// Filters the lines of a source, up to the first one that is refused or to the source's end, and
-/// tells how that ended. The texts of lines are printed by one call before the source is read again,
-/// and none waits while it is.
+/// Filters lines from `source` until one is refused or the source ends, and returns how that ended.
+/// The texts of all lines read so far are printed by one call before the next read, so none waits
+/// during a read.
 pub fn filter_lines<S: Source, B: Board, F: LineFilter>(
     alloc: Global,
     filter: &mut F,
@@ -31,7 +31,7 @@ pub fn filter_lines<S: Source, B: Board, F: LineFilter>(
         (S.left source.new) (B.told board.old) (B.told board.new) }
     ensures takes { IfSome (S.left source.old)
         (λ script. IsSomeAnd (S.left source.new) (TakesOf result script)) }
-    // Also if a stop before might have left something else than the board tells.
+    // This holds even if a crash before might have left something other than the model says.
     ensures stops { StopsFiltering (F.makes filter.old) (S.left source.old) (B.told board.old)
         (B.clock board.old) (B.clock board.new) }
     ensures exits { IsFilterExit result }
@@ -83,7 +83,7 @@ fn take_lines<S: Source, B: Board, F: LineFilter>(
     }
 }
 
-// How a call ends whose lines ended so.
+// How a call ends, by how its lines ended.
 fn exit_of(ended: Result<(), Exit>) -> Exit
     ensures { result ≡ exit_of ended }
 {
@@ -93,15 +93,15 @@ fn exit_of(ended: Result<(), Exit>) -> Exit
     }
 }
 
-// Whether a call of the source or the board failed: then no other follows.
+// Whether a call of the source or the board failed; then no other follows.
 fn has_failed(exit: Exit) -> bool
     ensures { result ≡ has_failed exit }
 {
     matches!(exit, Exit::SourceFault | Exit::PrintFault)
 }
 
-// Takes the lines in order. Their texts wait for each other, and are printed before the source is
-// read. At the end some may wait.
+// Takes the lines in order. Their texts are gathered, and printed before the source is read. At the
+// end some may be left to print.
 fn gather<S: Source, B: Board, F: LineFilter>(
     alloc: Global,
     lines: &mut NumberedLines,
@@ -134,7 +134,8 @@ fn gather<S: Source, B: Board, F: LineFilter>(
     }
 }
 
-// Prints the texts that wait, unless a line is held, which is taken before the source is read.
+// Prints the gathered texts, unless a whole line is in the buffer, which is taken before the source
+// is read.
 fn print_waiting<B: Board>(
     lines: &NumberedLines,
     waiting: &mut Vec<u8>,
@@ -155,7 +156,7 @@ fn print_waiting<B: Board>(
     Ok(())
 }
 
-// Takes the line that was given, and puts its text after those that wait.
+// Takes the line that was read, and appends its text to the gathered texts.
 fn take_line<F: LineFilter>(
     alloc: Global,
     lines: &NumberedLines,
@@ -213,7 +214,7 @@ fn end_lines<B: Board, F: LineFilter>(
     }
 }
 
-// Adds the text after the lines, and the last one or the stop line.
+// Adds the text after the lines, and then the last text or the `stop` line.
 fn push_closing<F: LineFilter>(
     alloc: Global,
     exit: Exit,

@@ -1,5 +1,5 @@
-//! Filters of lines: what a filter makes of the lines of a script is printed before the script is
-//! read on.
+//! Filters of lines: what a filter prints for the lines of a script is printed before the script is
+//! read further.
 #![tactic(auto)]
 
 mod filter;

@@ -11,8 +11,8 @@ use ras_script::{LineReader, NextRefused};
 use std::alloc::Global;
 use std::marker::Model;
 
-/// The lines of a source, from the first on, and how their list ends: a call that takes them ends
-/// so.
+/// The lines of a source, from the first on, and how their list ends, which is how a call that
+/// takes them ends.
 #[derive(Drop)]
 pub struct NumberedLines {
     reader: LineReader,
@@ -32,11 +32,12 @@ impl Model for NumberedLines {
 }
 
 impl NumberedLines {
-    /// Before the first line. It takes all its memory here: a line and a byte.
+    /// Returns the lines of a source, before the first. It allocates everything it needs: a line
+    /// and a byte.
     ///
     /// # Errors
     ///
-    /// `NoMemory` if memory runs out.
+    /// `NoMemory`: only if memory runs out.
     pub fn new(alloc: Global) -> Result<NumberedLines, NoMemory>
         ensures { IfOk result (λ lines. lines ≡ no_lines) }
     {
@@ -44,35 +45,36 @@ impl NumberedLines {
         Ok(NumberedLines { reader, number: 0 })
     }
 
-    /// The line that `next` gave last, without its line feed.
+    /// Returns the line that `next` read last, without its line feed.
     pub fn line(&self) -> &[u8]
         ensures { result.now ≡ self.now.reader.line }
     {
         self.reader.line()
     }
 
-    /// The number of that line, from 1 on, and so how many lines were given.
+    /// Returns the number of that line, from 1, which is how many lines were read.
     pub fn number(&self) -> u64
         ensures { result ≡ self.now.number }
     {
         self.number
     }
 
-    /// Whether a line is held with its line feed, so that `next` reads nothing.
+    /// Returns whether a whole line is in the buffer, so that `next` reads nothing from the source.
     pub fn has_line(&self) -> bool
         ensures { IsTrue result ↔ Contains self.now.reader.held 10 }
     {
         self.reader.has_line()
     }
 
-    /// Goes to the next line, which `line` then gives, and returns whether there was one. It takes
-    /// no memory.
+    /// Goes to the next line, which `line` then returns, and returns whether there was one.
+    /// Allocates nothing.
     ///
     /// # Errors
     ///
-    /// How a call ends that takes the lines: `SourceFault` only if the source failed; `BadLine`
-    /// with the line's number if it has more than 40,000 bytes; `TooLong` if the script has more
-    /// than 67,108,864. After either of the last two, each further call is refused in the same way.
+    /// How a call that takes the lines ends. `SourceFault`: only if the source failed. `BadLine`:
+    /// the next line, whose number it has, is longer than 40,000 bytes. `TooLong`: the script has
+    /// more than 67,108,864 bytes. After either of the last two, each further call returns the same
+    /// error.
     pub fn next<S: Source>(&mut self, source: &mut S) -> Result<bool, Exit>
         ensures gives { IfSome (S.left source.old) (λ before. IfSome (S.left source.new) (λ left.
             GivesNumbered result (lines_to_come self.old.reader before) self.old.number

@@ -1,4 +1,4 @@
--- The lines of a listing: of what is counted of each module, of each page, of the names, or of the metrics.
+-- The lines of a listing: of each module's counts, of each page, of the names, or of the metrics.
 use Rattle.std.specs.Prelude.{ℕ, Bool, List, [], ◌++◌, codes, decimal, if◌then◌else◌}
 use Rattle.std.specs.List.{flat_map, zip}
 use Rattle.std.specs.Option.{option_map_or}
@@ -23,7 +23,7 @@ class_count row = codes " " ++ class_text row.0 ++ codes "=" ++ decimal row.1
 abbrev pub class_counts : List ℕ → List ℕ
 class_counts sums = flat_map class_count (zip classes sums)
 
--- what a bucket holds, and its time
+-- how many errors a bucket has, and its time
 abbrev pub bucket_text : Bucket → List ℕ
 bucket_text bucket = codes " count=" ++ decimal bucket.count ++ codes " stamp=" ++ decimal bucket.stamp
 
@@ -44,7 +44,7 @@ abbrev pub bucket_line : Bytes × Module → Bucket → List ℕ
 bucket_line row bucket = line_with (
     codes "module label=" ++ label_text row.0 ++ codes " state=" ++ replace_text row.1.replace ++ bucket_text bucket)
 
--- a module without a bucket has none
+-- the line of a module's bucket; a module without a bucket has no line
 abbrev pub module_row_line : Bytes × Module → List ℕ
 module_row_line row = option_map_or (bucket_line row) row.1.bucket []
 

@@ -1,5 +1,5 @@
--- The metrics of an account, in the text format of Prometheus, version 0.0.4: a family of samples for each metric, and
--- before them a line that says what it is, and one that says how it changes.
+-- The metrics of an account, in the text format of Prometheus, version 0.0.4: a family of samples for each metric and,
+-- before them, a line that says what it is and a line that says how it changes.
 use Rattle.std.specs.Prelude.{◌≡◌, ℕ, ◌==◌, ◌||◌, Bool, IsTrue, nat_eq, List, [], ◌∷◌, ◌++◌, codes, count_by, decimal, length, map, if◌then◌else◌}
 use Rattle.std.specs.List.{flat_map, join_with_byte, zip}
 use Rattle.std.specs.Option.{option_map_or}
@@ -29,7 +29,7 @@ pub record Sample : Type 0 where
 
 -- ---- the text of samples
 
--- In the value of a label a backslash (92) stands before each backslash and each quotation mark (34).
+-- In the value of a label a backslash (92) comes before each backslash and each quotation mark (34).
 abbrev pub escape : ℕ → List ℕ
 escape sign = if sign == 34 || sign == 92 then 92 ∷ sign ∷ [] else sign ∷ []
 
@@ -112,7 +112,7 @@ abbrev pub page_sample : List (ℕ × PageRow) → PageState → Sample
 page_sample pages state =
     sample_of Pages ((codes "state", state_text state) ∷ []) (count_by (is_page_in state) pages)
 
--- whether a module is to be replaced, and what its bucket holds, if it has one
+-- whether a module is to be replaced, and how many errors its bucket has, if it has one
 abbrev pub replace_sample : Bytes → Bool → Sample
 replace_sample label replace =
     sample_of ModuleReplace (label_pair label ∷ []) (if replace then 1 else 0)
@@ -157,7 +157,7 @@ metrics_text account = flat_map (family_text account) metrics
 abbrev pub all_samples : State → List Sample
 all_samples account = flat_map (λ metric. samples_of metric account) metrics
 
--- a sample that a history gives: what is counted of a module that was seen, and of a class
+-- a sample that a history gives: the count of a module that was seen, for a class
 pub record IsErrorSample (history : History) (sample : Sample) : Type 0 where
   pub label : Bytes
   pub class : ItemClass

@@ -1,6 +1,6 @@
--- A reader of samples in the text format of Prometheus, version 0.0.4. It takes one byte after the other, and knows
--- nothing of what is measured. Comments are passed over, and so are empty lines. Of what the format allows it takes
--- this: a name, labels in braces with a comma between each two, one space, and a whole number in decimal digits.
+-- A parser of samples in the text format of Prometheus, version 0.0.4. It reads one byte after the other, and knows
+-- nothing of accounts. It ignores comments and empty lines. Of what the format allows it accepts this: a name, labels
+-- in braces with a comma between each two, one space, and a whole number in decimal digits.
 use Rattle.std.specs.Prelude.{ℕ, ◌<◌, ◌^◌, ◌==◌, ◌||◌, ◌&&◌, not, nat_le, Bool, false, IsTrue, Option, None, Some, List, [], ◌∷◌, ◌++◌, fold, if◌then◌else◌}
 use Rattle.std.specs.List.{list_all}
 use Rattle.std.specs.Str.Parse.{digits_value}
@@ -12,7 +12,7 @@ pub record Named : Type 0 where
   pub name : Bytes
   pub labels : List (Bytes × Bytes)
 
--- where in a line the reader is
+-- where in a line the parser is
 pub data Place : Type 0 where
   begin : Place
   comment : Place
@@ -34,7 +34,7 @@ abbrev pub is_name_sign : ℕ → Bool
 is_name_sign sign =
     (nat_le 97 sign && nat_le sign 122) || (nat_le 65 sign && nat_le sign 90) || is_digit sign || sign == 95
 
--- a label more, with its value
+-- one more label, with its value
 abbrev pub with_label : Named → Bytes → Bytes → Named
 with_label named label value = record named { labels = named.labels ++ (label, value) ∷ [] }
 
@@ -67,12 +67,12 @@ next (behind_labels named) sign = if sign == 32 then in_number named [] else wro
 next (in_number named digits) sign = if is_digit sign then in_number named (digits ++ sign ∷ []) else wrong
 next wrong sign = wrong
 
--- the samples of the lines before, and the place in this line
+-- the samples of the lines before, and where in this line the parser is
 pub record Reader : Type 0 where
   pub samples : List Sample
   pub place : Place
 
--- the reader after a line feed: a line is a comment, empty, or a sample whose number has a digit
+-- the parser after a line feed: a line is a comment, empty, or a sample whose number has a digit
 abbrev pub with_line : List Sample → Place → Reader
 with_line samples begin = record { samples = samples; place = begin }
 with_line samples comment = record { samples = samples; place = begin }
@@ -87,7 +87,7 @@ read_byte reader sign =
     if sign == 10 then with_line reader.samples reader.place
     else record reader { place = next reader.place sign }
 
--- the samples of a text, if each of its lines is one, a comment or empty, and ends with a line feed
+-- the samples of a text, if each of its lines is a sample, a comment or empty, and ends with a line feed
 abbrev pub samples_at : Reader → Option (List Sample)
 samples_at reader = elim reader.place [ begin ↦ Some reader.samples | other ↦ None ]
 

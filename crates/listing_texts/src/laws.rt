@@ -1,4 +1,4 @@
-//! What the metrics of an account tell, in other words than their definitions.
+//! What the metrics of an account say, in words that don't follow their definitions.
 
 ghost use Rattle.std.specs.Prelude.{◌≡◌, ◌↔◌, [], ◌∷◌, Contains, Some};
 ghost use Rattle.ras_account.specs.Account.{State, account_of};
@@ -10,18 +10,17 @@ ghost use Rattle.listing_texts.specs.MetricsReader.{IsSample, read_samples};
 
 use crate::metrics::Metric;
 
-/// The laws of the metrics of an account. The function does nothing: its clauses are what it is
-/// for.
+/// What holds of the metrics of an account.
 pub fn metrics_laws()
-    // A reader of the format, who knows nothing of accounts, finds in the text just the samples:
-    // each with its name, its labels and its number, and none that a label forged.
+    // A parser of the format, which knows nothing of accounts, finds in the text exactly the
+    // samples, each with its name, its labels and its number. No label can forge one.
     ensures read { (a : State) → IsAccount a
         → read_samples (metrics_text a) ≡ Some (all_samples a) }
-    // So it does in each line.
+    // The same parser finds the sample in each line.
     ensures line { (s : Sample) → IsSample s → read_samples (sample_text s) ≡ Some (s ∷ []) }
 
-    // The samples of errors are what the history counts, of each module that was seen and each
-    // class, and no other.
+    // The samples of errors are what the history counts, for each module that was seen and each
+    // class, and there are no others.
     ensures errors { (history : History) (s : Sample)
         → Contains (samples_of Metric.ErrorsTotal (account_of history)) s
         ↔ IsErrorSample history s }

@@ -1,5 +1,7 @@
-//! The listings of an account that a report prints: of its modules, its pages or its names, or sums
-//! of all of them as metrics.
+//! The listings of an account that a report prints: of its modules, its pages or its names, or
+//! their sums as metrics.
+//!
+//! A public function with an empty body is a law: its clauses are the point.
 #![tactic(auto)]
 
 mod laws;

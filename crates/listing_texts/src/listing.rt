@@ -16,10 +16,10 @@ use ras_base::{NoMemory, push_number};
 use ras_facts::Name;
 use ras_texts::{CLASSES, class_word, push_label, push_name, push_page, state_word};
 
-/// What of the account is listed.
+/// Which part of the account is listed.
 #[derive(Clone, Copy, Debug, PartialEq, Eq)]
 pub enum Listing {
-    /// Of each module the weights of its items by class.
+    /// The weights of the items of each module, by class.
     Counts,
     /// Each page, with its state and its bucket.
     Pages,
@@ -27,15 +27,15 @@ pub enum Listing {
     Names,
     /// Each module that has a bucket, with the bucket.
     Modules,
-    /// Sums of all of these, in the text format of Prometheus.
+    /// The sums of all of these, in the text format of Prometheus.
     Metrics,
 }
 
-/// Adds the lines of a listing of an account, in the order in which its rows were first seen.
+/// Appends the lines of a listing of an account, in the order in which its rows were first seen.
 ///
 /// # Errors
 ///
-/// `NoMemory` comes only if memory runs out.
+/// `NoMemory`: only if memory runs out.
 pub fn push_listing(text: &mut Vec<u8>, listing: Listing, account: &Account) -> Result<(), NoMemory>
     ensures { OnOk result
         (text.new.items ≡ text.old.items ++ listing_lines listing account.now.state) }
@@ -183,7 +183,7 @@ fn push_bucket_line(text: &mut Vec<u8>, row: &ModuleRow, bucket: Bucket) -> Resu
     Ok(())
 }
 
-// Adds what a bucket holds, and its time.
+// Adds how many errors a bucket has, and its time.
 fn push_bucket(text: &mut Vec<u8>, bucket: Bucket) -> Result<(), NoMemory>
     ensures { OnOk result (text.new.items ≡ text.old.items ++ bucket_text bucket) }
 {

@@ -19,7 +19,7 @@ use ras_account::{Account, MOST_NAMES, ModuleRow};
 use ras_base::{NoMemory, push_number};
 use ras_texts::{CLASSES, VERSION, class_word, label_word, state_word};
 
-/// What is measured of an account: each metric has samples of its own.
+/// A metric of an account, with its own samples.
 #[derive(Clone, Copy, Debug, PartialEq, Eq)]
 pub enum Metric {
     /// The weights of errors by their module and class.
@@ -28,13 +28,13 @@ pub enum Metric {
     Pages,
     /// Whether a module is to be replaced.
     ModuleReplace,
-    /// What the bucket of a module holds.
+    /// How many errors the bucket of a module has.
     ModuleBucket,
-    /// How much a module's bucket holds before the module is to be replaced.
+    /// How many errors in a module's bucket order it replaced.
     ModuleBucketLimit,
-    /// How many names are known.
+    /// How many names are in the account.
     Names,
-    /// How many names can be known.
+    /// How many names the account can have.
     NamesLimit,
     /// How many entries are counted.
     EntriesTotal,
@@ -58,11 +58,11 @@ const METRICS: [Metric; 10] = [
     Metric::BuildInfo,
 ];
 
-/// Adds all metrics of an account.
+/// Appends all metrics of an account.
 ///
 /// # Errors
 ///
-/// `NoMemory` comes only if memory runs out.
+/// `NoMemory`: only if memory runs out.
 pub(crate) fn push_metrics(text: &mut Vec<u8>, account: &Account) -> Result<(), NoMemory>
     ensures { OnOk result (text.new.items ≡ text.old.items ++ metrics_text account.now.state) }
 {
@@ -261,7 +261,7 @@ fn push_replace(text: &mut Vec<u8>, row: &ModuleRow) -> Result<(), NoMemory>
     }
 }
 
-// 1 for what is so, and else 0.
+// 1 for true, 0 for false.
 fn number_of(is_so: bool) -> u64
     ensures { result ≡ (if is_so then 1 else 0) }
 {

@@ -19,7 +19,7 @@ pub data CodeRow : Type 0 where
   plain : ℕ → Code → CodeRow
   -- the numbers from low to high
   numbers : (low high : ℕ) → Code → CodeRow
-  -- a pattern with letters: the mask has the bits that no letter takes, the value what stands there
+  -- a pattern with letters: the mask has the bits that no letter takes, and the value says what they are
   pattern : (mask value : ℕ) → (ℕ → Code) → CodeRow
 
 -- whether a code fits a row
@@ -54,7 +54,7 @@ cache_of code = Cache (bits 4 4 code) (bits 2 2 code) (bits 0 2 code) (is_filter
 abbrev pub bus_of : ℕ → Code
 bus_of code = Bus (bits 9 2 code) (bits 8 1 code) (bits 4 4 code) (bits 2 2 code) (bits 0 2 code) (is_filtered code)
 
--- the simple error codes; 0E0Bh, generic input and output, stands among them
+-- the simple error codes, and among them 0E0Bh, generic input and output
 abbrev pub simple_rows : List CodeRow
 simple_rows =
     plain 0x0000 NoError
@@ -78,7 +78,7 @@ compound_rows =
     ∷ pattern 0xe800 0x0800 bus_of
     ∷ []
 
--- the table; 0E0Bh stands before the bus form, whose pattern it fits too
+-- the table; 0E0Bh comes before the bus form, whose pattern it fits too
 abbrev pub code_rows : List CodeRow
 code_rows = simple_rows ++ compound_rows
 
@@ -94,7 +94,7 @@ code_of_rows code = reading code_rows code
 abbrev pub rows_fitted : ℕ → ℕ
 rows_fitted code = count_by (fits_code code) code_rows
 
--- raw fields that their subfields can hold: what a text is defined for
+-- the raw fields fit their bits in the code: a text is defined only for these
 abbrev pub HasFieldsInRange : Code → Type 0
 HasFieldsInRange (GenericCache ll filter) = ll < 4
 HasFieldsInRange (Tlb tt ll filter) = (tt < 4) × (ll < 4)
@@ -103,7 +103,7 @@ HasFieldsInRange (Cache rrrr tt ll filter) = (rrrr < 16) × (tt < 4) × (ll < 4)
 HasFieldsInRange (Bus pp t rrrr ii ll filter) = (pp < 4) × (t < 2) × (rrrr < 16) × (ii < 4) × (ll < 4)
 HasFieldsInRange _ = ⊤
 
--- the filter that an answer tells; a simple code has none
+-- the filter bit of what was read; a simple code has none
 abbrev pub filter_of : Code → Bool
 filter_of (GenericCache ll filter) = filter
 filter_of (Tlb tt ll filter) = filter

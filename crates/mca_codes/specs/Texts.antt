@@ -40,7 +40,7 @@ target_words = codes "M" ∷ codes "RES" ∷ codes "IO" ∷ codes "OTHER" ∷ []
 abbrev pub memory_words : List (List ℕ)
 memory_words = codes "GEN" ∷ codes "RD" ∷ codes "WR" ∷ codes "AC" ∷ codes "SCRUB" ∷ []
 
--- CCCC, the channel, 15 if it isn't told
+-- CCCC, the channel; 15 is an unspecified channel
 abbrev pub channel_word : ℕ → List ℕ
 channel_word channel = if channel == 15 then codes "-" else decimal channel
 
@@ -82,10 +82,10 @@ code_text_of (Bus pp t rrrr ii ll filter) =
     ∷ word_at target_words ii ∷ word_at timeout_words t ∷ []) filter
 code_text_of Other = codes "OTHER"
 
--- whether a byte can stand in a word: it is neither a space (20h) nor a line feed (0Ah)
+-- whether a byte can be in a word: it is neither a space (20h) nor a line feed (0Ah)
 abbrev pub is_word_byte : ℕ → Bool
 is_word_byte byte = not (byte == 0x20) && not (byte == 0x0a)
 
--- a word of a printed line: it isn't empty, and each of its bytes can stand in a word
+-- a word of a printed line: it isn't empty, and each of its bytes can be in a word
 abbrev pub IsWord : List ℕ → Type 0
 IsWord bytes = (bytes ≢ []) × AllPass is_word_byte bytes

@@ -12,7 +12,7 @@ use ras_base::bits;
 pub enum Code {
     /// No error was reported.
     NoError,
-    /// An error that the manual's classes don't have.
+    /// An error that isn't classified into the manual's error classes.
     Unclassified,
     /// A parity error in the microcode ROM.
     MicrocodeRom,
@@ -30,7 +30,7 @@ pub enum Code {
     GenericIo,
     /// A code that no row of the table has.
     Other,
-    /// An error of the cache hierarchy, with its level alone.
+    /// An error of the cache hierarchy, of which only the level is known.
     GenericCache {
         ll: u8,
         filter: bool,
@@ -65,16 +65,16 @@ pub enum Code {
     },
 }
 
-/// What an MCA error code says. (Intel SDM, volume 3, "Simple Error Codes" and "Compound Error
-/// Codes".)
+/// Returns the kind of an MCA error code and its subfields. A code that fits no row of the manual's
+/// tables is `Other`. (Intel SDM, volume 3, "Simple Error Codes" and "Compound Error Codes".)
 #[tactic(auto, using(crate::proofs::PatternLemmas::pattern_bits))]
 pub fn code_of(code: u16) -> Code
     ensures rows { result ≡ code_of_rows code }
 
-    // No code fits two rows, 0E0Bh apart, so their order says nothing else.
+    // Only 0E0Bh fits two rows, so the order of the rows matters for no other code.
     ensures one_row { code ≢ 0x0e0b → rows_fitted code ≤ 1 }
 
-    // A code is Other exactly if it fits no row.
+    // A code is Other if and only if it fits no row.
     ensures other { (result ≡ Code.Other) ↔ (rows_fitted code ≡ 0) }
     ensures in_range { HasFieldsInRange result }
 
@@ -95,7 +95,8 @@ pub fn code_of(code: u16) -> Code
     }
 }
 
-// A code that is no simple one, by the pattern of its bits. Bit 12, the filter, belongs to none.
+// The kind of a code that isn't a simple one, by the pattern of its bits. Bit 12, the filter, is in
+// no pattern.
 #[tactic(auto, using(crate::proofs::PatternLemmas::pattern_bits))]
 fn compound_code(code: u16) -> Code
     ensures rows { result ≡ reading compound_rows code }

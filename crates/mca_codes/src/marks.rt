@@ -7,7 +7,7 @@ ghost use Rattle.mca_codes.specs.Codes.{code_of_rows};
 /// The kind of recoverable error that the manual gives a code to.
 #[derive(Clone, Copy, Debug, PartialEq, Eq)]
 pub enum Mark {
-    /// None.
+    /// No recoverable error.
     Neither,
     /// Action optional: memory scrubbing, or an explicit writeback of the L3 cache.
     Srao,
@@ -15,8 +15,8 @@ pub enum Mark {
     Srar,
 }
 
-/// The kind of recoverable error that the manual gives an MCA error code to, whatever its filter
-/// bit is. (Intel SDM, volume 3, "Architecturally Defined UCR Errors".)
+/// Returns the kind of recoverable error that the manual gives an MCA error code to, whatever its
+/// filter bit is. (Intel SDM, volume 3, "Architecturally Defined UCR Errors".)
 #[tactic(auto, using(crate::proofs::PatternLemmas::unfiltered_and, crate::proofs::MarkLemmas::mark_by_kind))]
 pub fn mark_of(code: u16) -> Mark
     ensures mark { result ≡ mark_of_number code }

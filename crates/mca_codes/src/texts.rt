@@ -25,14 +25,14 @@ impl Model for Text {
 }
 
 impl Text {
-    /// The text of these bytes. It takes no memory.
+    /// Returns the text of these bytes. Allocates nothing.
     pub fn new(bytes: Vec<u8>) -> Text
         ensures { result ≡ bytes.items }
     {
         Text { bytes }
     }
 
-    /// The bytes of the text.
+    /// Returns the bytes of the text.
     pub fn bytes(&self) -> &[u8]
         ensures { result.now ≡ self.now }
     {
@@ -40,11 +40,11 @@ impl Text {
     }
 }
 
-/// The text of an error code, as `push_code_text` puts it.
+/// Returns the text of an error code, as `push_code_text` appends it.
 ///
 /// # Errors
 ///
-/// `NoMemory` comes only if memory runs out.
+/// `NoMemory`: only if memory runs out.
 pub fn code_text(alloc: Global, code: Code) -> Result<Text, NoMemory>
     requires { HasFieldsInRange code }
     ensures text { IfOk result (λ text. text ≡ code_text_of code) }
@@ -57,13 +57,14 @@ pub fn code_text(alloc: Global, code: Code) -> Result<Text, NoMemory>
     Ok(Text::new(text))
 }
 
-/// Adds the text of an error code: a word for its kind, then the words of its subfields with a colon
-/// before each, then `/F` if a compound code has its filter set. (The subfields are those of the
-/// Intel SDM, volume 3, "Compound Error Codes".)
+/// Appends the text of an error code: a word for its kind, then the words of its subfields with a
+/// colon before each, then `/F` if a compound code has its filter set. Requires subfields that fit
+/// their fields in the code. (The subfields are those of the Intel SDM, volume 3, "Compound Error
+/// Codes".)
 ///
 /// # Errors
 ///
-/// `NoMemory` comes only if memory runs out.
+/// `NoMemory`: only if memory runs out.
 #[tactic(auto, using(crate::proofs::WordLemmas::text_of_word))]
 pub fn push_code_text(text: &mut Vec<u8>, code: Code) -> Result<(), NoMemory>
     requires { HasFieldsInRange code }

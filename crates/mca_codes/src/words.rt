@@ -1,9 +1,9 @@
-//! The words of the subfields of compound codes, one table each.
+//! The words of the subfields of compound codes, one table for each subfield.
 
 ghost use Rattle.std.specs.Prelude.{◌≡◌, ◌<◌};
 ghost use Rattle.mca_codes.specs.Texts.{word_at, level_words, transaction_words, request_words, participation_words, timeout_words, target_words, memory_words, channel_word, filter_ending};
 
-/// LL, the memory hierarchy level.
+/// Returns the word for LL, the memory hierarchy level.
 pub fn level(ll: u8) -> &'static [u8]
     requires { ll < 4 }
     ensures { result.now ≡ word_at level_words ll }
@@ -16,7 +16,7 @@ pub fn level(ll: u8) -> &'static [u8]
     }
 }
 
-/// TT, the transaction type.
+/// Returns the word for TT, the transaction type.
 pub fn transaction(tt: u8) -> &'static [u8]
     requires { tt < 4 }
     ensures { result.now ≡ word_at transaction_words tt }
@@ -29,7 +29,7 @@ pub fn transaction(tt: u8) -> &'static [u8]
     }
 }
 
-/// RRRR, the request.
+/// Returns the word for RRRR, the request.
 pub fn request(rrrr: u8) -> &'static [u8]
     ensures { result.now ≡ word_at request_words rrrr }
 {
@@ -47,7 +47,7 @@ pub fn request(rrrr: u8) -> &'static [u8]
     }
 }
 
-/// PP, the participation of the processor.
+/// Returns the word for PP, the participation of the processor.
 pub fn participation(pp: u8) -> &'static [u8]
     requires { pp < 4 }
     ensures { result.now ≡ word_at participation_words pp }
@@ -60,7 +60,7 @@ pub fn participation(pp: u8) -> &'static [u8]
     }
 }
 
-/// T, the time-out.
+/// Returns the word for T, the time-out.
 pub fn timeout(t: u8) -> &'static [u8]
     requires { t < 2 }
     ensures { result.now ≡ word_at timeout_words t }
@@ -71,7 +71,7 @@ pub fn timeout(t: u8) -> &'static [u8]
     }
 }
 
-/// II, memory or input and output.
+/// Returns the word for II, memory or input and output.
 pub fn target(ii: u8) -> &'static [u8]
     requires { ii < 4 }
     ensures { result.now ≡ word_at target_words ii }
@@ -84,7 +84,7 @@ pub fn target(ii: u8) -> &'static [u8]
     }
 }
 
-/// MMM, the memory transaction.
+/// Returns the word for MMM, the memory transaction.
 pub fn memory(mmm: u8) -> &'static [u8]
     ensures { result.now ≡ word_at memory_words mmm }
 {
@@ -98,7 +98,7 @@ pub fn memory(mmm: u8) -> &'static [u8]
     }
 }
 
-/// CCCC, the channel; 15 is one that isn't told.
+/// Returns the word for CCCC, the channel; 15 is an unspecified channel.
 #[tactic(auto, using(std::proofs::lemmas::Fmt::decimal_digit, std::proofs::lemmas::Fmt::decimal_step))]
 pub fn channel(channel: u8) -> &'static [u8]
     requires { channel < 16 }
@@ -124,7 +124,7 @@ pub fn channel(channel: u8) -> &'static [u8]
     }
 }
 
-/// The ending of a compound code, by its filter.
+/// Returns the ending of a compound code's text: `/F` if its filter is set, else nothing.
 pub fn ending(filter: bool) -> &'static [u8]
     ensures { result.now ≡ filter_ending filter }
 {

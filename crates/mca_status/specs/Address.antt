@@ -8,8 +8,8 @@ use Rattle.mca_status.specs.declared.registers.Cap.{Cap}
 use Rattle.mca_status.specs.declared.registers.Status.{Status}
 use Rattle.mca_status.specs.declared.registers.Misc.{Misc}
 
--- whether the address can be used: the registers hold it, it is a physical address (mode 2), and it
--- tells the page (4,096 is 2 ^ 12)
+-- whether the address can be used: the registers have one, it is a physical address (mode 2), and its valid bits give
+-- the page (4,096 is 2 ^ 12)
 abbrev pub has_usable_address : Cap → Status → Misc → Bool
 has_usable_address cap status misc =
     recovers_in_software cap && address_valid status && misc_valid status
@@ -24,7 +24,7 @@ abbrev pub usable_address_of : Cap → Status → ℕ → Misc → Option ℕ
 usable_address_of cap status address misc =
     if has_usable_address cap status misc then Some (rounded_address address (least_bit misc)) else None
 
--- the number of the page of 4,096 bytes that an address lies in
+-- the number of the page of 4,096 bytes that contains an address
 abbrev pub page_of_address : ℕ → ℕ
 page_of_address address = address / 4096
 

@@ -55,7 +55,7 @@ fits_class cap status (row val uc pcc ser s en ar class) =
 abbrev pub class_in : ClassRow → Option Class
 class_in (row val uc pcc ser s en ar class) = class
 
--- the class of the registers: that of the first row that fits
+-- the class of the registers, by the first row that fits
 abbrev pub class_of_rows : Cap → Status → Option Class
 class_of_rows cap status = option_and_then class_in (find (fits_class cap status) class_rows)
 

@@ -10,7 +10,7 @@ use Rattle.mca_status.specs.declared.registers.Status.{Status}
 use Rattle.mca_status.specs.declared.registers.GlobalStatus.{GlobalStatus}
 use Rattle.mca_status.specs.declared.registers.Misc.{Misc}
 
--- the two registers have the same bits, but for those of the places listed
+-- the two registers have the same bits, except at the listed positions
 abbrev pub AgreeApartFrom : List ℕ → ℕ → ℕ → Type 0
 AgreeApartFrom places a b = (i : ℕ) → list_any (λ place. place == i) places ≡ false → bit_at a i ≡ bit_at b i
 
@@ -18,7 +18,7 @@ AgreeApartFrom places a b = (i : ℕ) → list_any (λ place. place == i) places
 abbrev pub counts_corrected : Cap → Bool
 counts_corrected cap = is_set 10 cap.0
 
--- IA32_MCG_CAP: MCG_TES_P, banks tell a threshold status
+-- IA32_MCG_CAP: MCG_TES_P, banks report a threshold status
 abbrev pub tells_threshold : Cap → Bool
 tells_threshold cap = is_set 11 cap.0
 
@@ -62,11 +62,11 @@ signaled status = is_set 56 status.0
 abbrev pub context_corrupt : Status → Bool
 context_corrupt status = is_set 57 status.0
 
--- IA32_MCi_STATUS: ADDRV, IA32_MCi_ADDR holds an address
+-- IA32_MCi_STATUS: ADDRV, IA32_MCi_ADDR has an address
 abbrev pub address_valid : Status → Bool
 address_valid status = is_set 58 status.0
 
--- IA32_MCi_STATUS: MISCV, IA32_MCi_MISC holds more of the error
+-- IA32_MCi_STATUS: MISCV, IA32_MCi_MISC says more about the error
 abbrev pub misc_valid : Status → Bool
 misc_valid status = is_set 59 status.0
 
@@ -82,7 +82,7 @@ uncorrected status = is_set 61 status.0
 abbrev pub overflow : Status → Bool
 overflow status = is_set 62 status.0
 
--- IA32_MCi_STATUS: VAL, the bank holds an error
+-- IA32_MCi_STATUS: VAL, the bank has an error
 abbrev pub valid : Status → Bool
 valid status = is_set 63 status.0
 

@@ -1,5 +1,5 @@
--- What a bank tells of its corrected errors: the Intel SDM, volume 3, chapter "Machine-Check
--- Architecture", section "IA32_MCi_STATUS MSRs", on the threshold-based error status.
+-- The threshold status of a bank's corrected errors: the Intel SDM, volume 3, chapter "Machine-Check Architecture",
+-- section "IA32_MCi_STATUS MSRs", on the threshold-based error status.
 use Rattle.std.specs.Prelude.{Bool, ◌&&◌, not, List, [], ◌∷◌, slice_index_or, if◌then◌else◌}
 use Rattle.mca_status.specs.Registers.{tells_threshold, uncorrected, threshold_status}
 use Rattle.mca_status.specs.declared.registers.Cap.{Cap}
@@ -7,7 +7,7 @@ use Rattle.mca_status.specs.declared.registers.Status.{Status}
 use Rattle.mca_status.specs.declared.thresholds.Threshold.{Threshold}
 use Rattle.mca_status.specs.declared.thresholds.Threshold.TheVariants.{Untold, NoTracking, Green, Yellow, Reserved}
 
--- whether the field tells something: the banks tell, and the error was corrected
+-- whether the field has a meaning: the banks report a threshold status, and the error was corrected
 abbrev pub is_threshold_told : Cap → Status → Bool
 is_threshold_told cap status = tells_threshold cap && not (uncorrected status)
 
@@ -15,7 +15,7 @@ is_threshold_told cap status = tells_threshold cap && not (uncorrected status)
 abbrev pub threshold_values : List Threshold
 threshold_values = NoTracking ∷ Green ∷ Yellow ∷ Reserved ∷ []
 
--- the meaning of the field if it tells something
+-- the meaning of the field, or Untold if it has none
 abbrev pub threshold_of : Cap → Status → Threshold
 threshold_of cap status =
     if is_threshold_told cap status then slice_index_or threshold_values (threshold_status status) Reserved

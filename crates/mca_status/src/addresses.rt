@@ -12,10 +12,11 @@ const PHYSICAL: u8 = 2;
 // A page of memory is 2 ^ 12 bytes.
 const PAGE_BITS: u32 = 12;
 
-/// The physical address that a bank's report names, by IA32_MCG_CAP and the bank's IA32_MCi_STATUS,
-/// IA32_MCi_ADDR and IA32_MCi_MISC, with all bits below the least valid one cleared. It is Some
-/// exactly if MCG_SER_P, ADDRV and MISCV are 1, the address mode is 2 (physical) and the least
-/// valid bit is at most 12. (Intel SDM, volume 3, "IA32_MCi_ADDR MSRs" and "IA32_MCi_MISC MSRs".)
+/// Returns the physical address that a bank's report names, by IA32_MCG_CAP and the bank's
+/// IA32_MCi_STATUS, IA32_MCi_ADDR and IA32_MCi_MISC, with all bits below the least valid one
+/// cleared. It is `Some` if and only if MCG_SER_P, ADDRV and MISCV are 1, the address mode is 2
+/// (physical) and the least valid bit is at most 12. (Intel SDM, volume 3, "IA32_MCi_ADDR MSRs" and
+/// "IA32_MCi_MISC MSRs".)
 pub fn usable_address(cap: Cap, status: Status, addr: u64, misc: Misc) -> Option<u64>
     ensures address { result ≡ usable_address_of cap status addr misc }
     ensures usable { IsSome result ↔ IsTrue (has_usable_address cap status misc) }
@@ -45,7 +46,8 @@ fn round_down(address: u64, least_bit: u32) -> u64
     address & (u64::MAX << least_bit)
 }
 
-/// The number of the page of 4,096 bytes that holds the usable address, on the same conditions.
+/// Returns the number of the page of 4,096 bytes that contains the usable address. It is `None` if
+/// and only if `usable_address` returns `None`.
 pub fn usable_page(cap: Cap, status: Status, addr: u64, misc: Misc) -> Option<u64>
     ensures page { result ≡ usable_page_of cap status addr misc }
     ensures usable { IsSome result ↔ IsTrue (has_usable_address cap status misc) }

@@ -30,32 +30,32 @@ pub const CLASS_COUNT: usize = 10;
 /// The class of an item of a report: a bank's class, or the severity of a firmware record.
 #[derive(Clone, Copy, Debug, PartialEq, Eq)]
 pub enum ItemClass {
-    /// A bank's class Ce.
+    /// Of a bank: corrected by the hardware.
     Ce,
-    /// A bank's class Ucna.
+    /// Of a bank: uncorrected, no action required.
     Ucna,
-    /// A bank's class Srao.
+    /// Of a bank: software recoverable, action optional.
     Srao,
-    /// A bank's class Srar.
+    /// Of a bank: software recoverable, action required.
     Srar,
-    /// A bank's class Uc.
+    /// Of a bank: uncorrected, with no way to recover.
     Uc,
-    /// A bank's class Odd.
+    /// Of a bank: uncorrected, with a setting of S, AR and EN that has no class in the manual.
     Odd,
-    /// A firmware record's severity corrected.
+    /// Of a firmware record: severity corrected.
     Corrected,
-    /// A firmware record's severity recoverable.
+    /// Of a firmware record: severity recoverable.
     Recoverable,
-    /// A firmware record's severity fatal.
+    /// Of a firmware record: severity fatal.
     Fatal,
-    /// A firmware record's severity informational.
+    /// Of a firmware record: severity informational.
     Informational,
 }
 
 impl ItemClass {
     ghost use Rattle.mca_status.specs.Classes.{class_number};
 
-    /// The place of the class among the ten, from 0.
+    /// Returns the class's number among the ten, from 0.
     pub fn number(self) -> u8
         ensures { result ≡ class_number self }
     {
@@ -91,13 +91,14 @@ impl From<Class> for ItemClass {
     }
 }
 
-/// The class of the error that a bank holds, by IA32_MCG_CAP and the bank's IA32_MCi_STATUS; None
-/// exactly if VAL is 0. (Intel SDM, volume 3, "UCR Error Classification".)
+/// Returns the class of the error that a bank holds, by IA32_MCG_CAP and the bank's
+/// IA32_MCi_STATUS; `None` if and only if VAL is 0. (Intel SDM, volume 3, "UCR Error
+/// Classification".)
 pub fn class_of(cap: Cap, status: Status) -> Option<Class>
     ensures rows { result ≡ class_of_rows cap status }
     ensures held { IsSome result ↔ IsTrue (valid status) }
 
-    // An error is Ce exactly if the bank holds one that the hardware corrected.
+    // An error is Ce if and only if the bank holds one that the hardware corrected.
     ensures corrected { (result ≡ Some Class.Ce)
         ↔ IsTrue (valid status && not (uncorrected status)) }
 

@@ -1,6 +1,6 @@
 //! Decoding of a machine-check bank's registers, apart from the error code itself: the class of the
 //! error, its weight, the page it names and the threshold status. It follows the Intel SDM, volume
-//! 3, chapter "Machine-Check Architecture". No call takes memory, and none refuses.
+//! 3, chapter "Machine-Check Architecture". No call allocates memory, and none returns an error.
 #![tactic(auto)]
 
 mod addresses;

@@ -1,4 +1,4 @@
-//! What a bank tells of its corrected errors.
+//! The threshold status of a bank's corrected errors.
 
 ghost use Rattle.std.specs.Prelude.{◌≡◌, ◌↔◌};
 ghost use Rattle.std.specs.Bool.{IsFalse};
@@ -9,7 +9,7 @@ use crate::registers::{Cap, Status};
 /// The threshold status of a bank.
 #[derive(Clone, Copy, Debug, PartialEq, Eq)]
 pub enum Threshold {
-    /// The bank doesn't tell.
+    /// The bank reports no threshold status.
     Untold,
     /// The hardware doesn't track the bank's corrected errors.
     NoTracking,
@@ -21,8 +21,8 @@ pub enum Threshold {
     Reserved,
 }
 
-/// The threshold status of a bank, bits 54:53 of IA32_MCi_STATUS; Untold exactly if MCG_TES_P is
-/// 0 or UC is 1. (Intel SDM, volume 3, "IA32_MCi_STATUS MSRs".)
+/// Returns the threshold status of a bank, bits 54:53 of IA32_MCi_STATUS. It is `Untold` if and
+/// only if MCG_TES_P is 0 or UC is 1. (Intel SDM, volume 3, "IA32_MCi_STATUS MSRs".)
 pub fn threshold_of(cap: Cap, status: Status) -> Threshold
     ensures threshold { result ≡ threshold_of cap status }
     ensures untold { (result ≡ Threshold.Untold) ↔ IsFalse (is_threshold_told cap status) }

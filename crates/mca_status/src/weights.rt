@@ -1,4 +1,4 @@
-//! How many errors a bank's report stands for.
+//! How many errors a bank's report counts for.
 
 ghost use Rattle.std.specs.Prelude.{◌≡◌, ◌<◌, ◌^◌, max, IsTrue};
 ghost use Rattle.std.specs.Bool.{IsFalse};
@@ -7,8 +7,8 @@ ghost use Rattle.mca_status.specs.Weight.{count_applies, weight_of};
 
 use crate::registers::{Cap, Status};
 
-/// The weight of a bank's report: the corrected error count if MCG_CMCI_P is 1, UC is 0 and the
-/// count isn't 0; else 1. (Intel SDM, volume 3, "IA32_MCi_STATUS MSRs".)
+/// Returns the weight of a bank's report: the corrected error count if MCG_CMCI_P is 1, UC is 0 and
+/// the count isn't 0; else 1. (Intel SDM, volume 3, "IA32_MCi_STATUS MSRs".)
 pub fn weight_of(cap: Cap, status: Status) -> u16
     ensures weight { result ≡ weight_of cap status }
     ensures positive { 0 < result }

@@ -41,6 +41,7 @@ IsEarly limit now bucket = now < bucket.stamp + limit.period
 abbrev pub filled_bucket : ℕ → Bucket → Bucket
 filled_bucket weight bucket = record bucket { count = bucket.count + weight }
 
+-- a bucket that has reached the limit's capacity
 abbrev pub IsFull : Limit → Bucket → Type 0
 IsFull limit bucket = limit.capacity ≤ bucket.count
 

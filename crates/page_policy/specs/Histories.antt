@@ -31,8 +31,7 @@ abbrev pub first_seconds : List PageReport → ℕ
 first_seconds [] = 0
 first_seconds (r ∷ rs) = r.seconds
 
--- the row that the reports of one page give: they are taken in order, from a new row at the first
--- one's time
+-- the row that the reports of one page give, taken in order, from a new row at the time of the first
 abbrev pub page_row : List PageReport → PageRow
 page_row reports = fold row_after (new_row (first_seconds reports)) reports
 
@@ -40,32 +39,32 @@ page_row reports = fold row_after (new_row (first_seconds reports)) reports
 abbrev pub page_rows_of : List PageReport → List (ℕ × PageRow)
 page_rows_of history = table nat_eq page_in page_row history
 
--- the state of a page in a table: one that isn't there is Kept
+-- the state of a page in a table; a page that has no row is Kept
 abbrev pub state_in : List (ℕ × PageRow) → ℕ → PageState
 state_in rows page = option_map_or (λ (row : PageRow). row.state) (lookup (nat_eq page) rows) Kept
 
--- a table of rows continued by a report: it changes its page's row, or begins one after the others
+-- a table of rows continued by a report: it changes its page's row, or adds a row after the others
 abbrev pub rows_after : List (ℕ × PageRow) → PageReport → List (ℕ × PageRow)
 rows_after rows r = updated_rows nat_eq r.page (row_after (new_row r.seconds) r) (λ row. row_after row r) rows
 
--- the order for a page whose table was the first and is now the other
+-- the order for a page when one table becomes another
 abbrev pub order_at : ℕ → List (ℕ × PageRow) → List (ℕ × PageRow) → Option Order
 order_at page before now = order_between page (state_in before page) (state_in now page)
 
--- no page's state falls from a table to another, and none but one page's row changes
+-- from one table to the next, no page's state falls
 abbrev pub NeverFalls : List (ℕ × PageRow) → List (ℕ × PageRow) → Type 0
 NeverFalls before now = (page : ℕ) → height (state_in before page) ≤ height (state_in now page)
 
+-- from one table to the next, only this page's row may change
 abbrev pub OthersStay : ℕ → List (ℕ × PageRow) → List (ℕ × PageRow) → Type 0
 OthersStay page before now =
     (other : ℕ) → other ≢ page → lookup (nat_eq other) now ≡ lookup (nat_eq other) before
 
--- the order of a report after the earlier reports of its page: it comes if the page's state
--- rises
+-- the order of a report after the earlier reports of its page: there is one if and only if the page's state rises
 abbrev pub order_behind : ℕ → List PageReport → PageReport → Option Order
 order_behind page earlier r = order_between page (page_row earlier).state (page_row (earlier ++ r ∷ [])).state
 
--- the order of a report after a history: that after its page's reports
+-- the order of a report after a history, which depends only on the reports of the same page
 abbrev pub order_in : List PageReport → PageReport → Option Order
 order_in history r = order_behind r.page (page_history history r.page) r
 
@@ -73,12 +72,13 @@ order_in history r = order_behind r.page (page_history history r.page) r
 abbrev pub orders_of : List PageReport → ℕ → List Order
 orders_of history page = filter_map (λ p. order_behind page p.0 p.1) (places (page_history history page))
 
--- the state that an order asks for, and the highest one that orders ask for
+-- the state that an order asks for
 abbrev pub state_asked : Order → PageState
 state_asked (Soft page) = state.Soft
 state_asked (Hard page) = state.Hard
 state_asked (Module place) = Kept
 
+-- the highest state that these orders ask for
 abbrev pub state_under : List Order → PageState
 state_under [] = Kept
 state_under (order ∷ orders) = higher (state_asked order) (state_under orders)
@@ -92,7 +92,7 @@ AreOnceInOrder page orders =
     ⊎ (orders ≡ Hard page ∷ [])
     ⊎ (orders ≡ Soft page ∷ Hard page ∷ [])
 
--- a report of one corrected error, under a limit and within the period from a time
+-- a report of one corrected error, under a limit and within a period after a time
 pub record IsSingle (limit : Limit) (from : ℕ) (r : PageReport) : Type 0 where
   pub corrected : is_corrected r.class ≡ true
   pub one : r.weight ≡ 1

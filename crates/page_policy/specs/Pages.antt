@@ -1,4 +1,4 @@
--- What a report does to the pages that are held and those that wait.
+-- What a report does to the pages that have a row and the pages that wait.
 use Rattle.std.specs.Prelude.{ℕ, ◌≡◌, nat_eq, if◌then◌else◌, List, drop}
 use Rattle.row_tables.specs.Held.{Held, is_held, new_keys}
 use Rattle.page_policy.specs.declared.buckets.Bucket.{Bucket}
@@ -14,7 +14,7 @@ pages_after held r = record {
   waiting = if is_held nat_eq held.rows r.page then held.waiting else drop 1 held.waiting;
 }
 
--- exactly what the reports of these pages add waits, so that they can be taken in turn
+-- the pages that wait are exactly those that reports of these pages would add, so the reports can be taken in turn
 abbrev pub AreReservedFor : Held ℕ PageRow → List ℕ → Type 0
 AreReservedFor held pages = held.waiting ≡ new_keys nat_eq held.rows pages
 

@@ -1,7 +1,6 @@
--- What one report of a page does to the page's row, and the order that follows. These rules are
--- this project's own: a page is ordered away softly at too many corrected errors or at an
--- uncorrected one that nothing has used yet, and hard at each other uncorrected error of a known
--- class.
+-- What one report of a page does to the page's row, and the order that follows. These rules are this project's own: a
+-- page is soft-offlined at too many corrected errors or at an uncorrected one that nothing has used yet, and
+-- hard-offlined at each other uncorrected error of a known class.
 use Rattle.std.specs.Prelude.{ℕ, ◌≡◌, Bool, true, false, nat_lt, if◌then◌else◌, Option, Some, None}
 use Rattle.mca_status.specs.declared.classes.ItemClass.{ItemClass}
 use Rattle.mca_status.specs.declared.classes.ItemClass.TheVariants.{Ce, Ucna, Srao, Srar, Uc, Odd, Corrected, Recoverable, Fatal, Informational}
@@ -24,7 +23,7 @@ pub record PageReport : Type 0 where
 abbrev pub report : ℕ → ItemClass → ℕ → ℕ → Limit → PageReport
 report page class seconds weight limit = record { page = page; class = class; seconds = seconds; weight = weight; limit = limit }
 
--- whether an item tells of corrected errors, which fill the page's bucket
+-- whether an item reports corrected errors, which fill the page's bucket
 abbrev pub is_corrected : ItemClass → Bool
 is_corrected Ce = true
 is_corrected Corrected = true
@@ -37,7 +36,7 @@ is_corrected Recoverable = false
 is_corrected Fatal = false
 is_corrected Informational = false
 
--- the state that an item calls for; the Bool is whether the bucket trips at it
+-- the state that an item calls for; the Bool says whether the bucket trips at it
 abbrev pub state_called_for : ItemClass → Bool → PageState
 state_called_for Ce trip = if trip then Soft else Kept
 state_called_for Corrected trip = if trip then Soft else Kept
@@ -85,6 +84,6 @@ order_to page Kept = None
 order_to page Soft = Some (Ordered.TheVariants.Soft page)
 order_to page Hard = Some (Ordered.TheVariants.Hard page)
 
--- the order if a page's state was the first and is now the other: it comes if the state rose
+-- the order when a page's state changes from one to another: there is one if and only if the state rose
 abbrev pub order_between : ℕ → PageState → PageState → Option Order
 order_between page before now = if nat_lt (height before) (height now) then order_to page now else None

@@ -24,7 +24,8 @@ pub struct Limit {
 impl Limit {
     ghost use Rattle.page_policy.specs.Buckets.{limit_of};
 
-    /// The limit of these two numbers. It is None exactly if one of them is out of its range.
+    /// Returns the limit of these two numbers. It is `None` if and only if one of them is out of
+    /// its range.
     pub fn of(capacity: u64, period: u64) -> Option<Limit>
         ensures { result ≡ limit_of capacity period }
     {
@@ -45,22 +46,24 @@ impl Limit {
 /// with time.
 #[derive(Clone, Copy, Debug, PartialEq, Eq)]
 pub struct Bucket {
-    /// The errors in it.
+    /// How many errors are in it.
     pub count: u32,
-    /// When errors last leaked out of it, in seconds; before that, when it was first used.
+    /// The time, in seconds, when errors last leaked out; before the first leak, when the bucket
+    /// was first used.
     pub stamp: u64,
 }
 
 impl Bucket {
     ghost use Rattle.page_policy.specs.Buckets.{IsLimit, IsEarly, IsFull, most_count, filled_bucket, aged_bucket, trips, bucket_after};
 
-    /// Lets out what has leaked by this time, in seconds, and fills in a report's errors. The
-    /// answer is whether the bucket trips: it held the limit's capacity or more, and was emptied.
+    /// Lets out what has leaked until `now`, in seconds, and adds a report's errors. Returns
+    /// whether the bucket trips: it then had reached the limit's capacity, and is emptied. Requires
+    /// a limit in its ranges and a bucket of at most `MOST_COUNT` errors.
     ///
-    /// Nothing leaks before a whole period of the limit has passed since the stamp, and so nothing
-    /// at an earlier time than the stamp either. After a whole period capacity errors leak per
-    /// period, in whole errors. Under a limit whose capacity is below what the bucket holds, it
-    /// trips whatever the weight.
+    /// Nothing leaks until a whole period of the limit has passed since the stamp, so nothing leaks
+    /// at a time before the stamp either. After that, the capacity leaks out in each period, in
+    /// whole errors. If the limit's capacity is below what the bucket contains, the bucket trips
+    /// whatever the weight.
     pub fn step(&mut self, limit: Limit, now: u64, weight: u16) -> bool
         requires limit { IsLimit limit }
         requires count { self.old.count ≤ most_count }
@@ -84,7 +87,7 @@ impl Bucket {
         is_full
     }
 
-    // Lets out what has leaked by this time.
+    // Lets out what has leaked until now.
     fn age(&mut self, limit: Limit, now: u64)
         requires limit { IsLimit limit }
         ensures { self.new ≡ aged_bucket limit now self.old }
@@ -93,7 +96,7 @@ impl Bucket {
         if passed < u64::from(limit.period) {
             return;
         }
-        // In u128, since the product of seconds and a capacity can pass 64 bits.
+        // In u128, because the product of seconds and a capacity can exceed 64 bits.
         let leaked = u128::from(passed) * u128::from(limit.capacity) / u128::from(limit.period);
         self.count -= leaked.min(u128::from(self.count)) as u32;
         self.stamp = now;

@@ -1,4 +1,4 @@
-//! What the rows and the orders of a history are, in other words.
+//! What the rows and the orders of a history are, in words that don't follow the calls.
 
 ghost use Rattle.std.specs.Prelude.{◌≡◌, ◌↔◌, ◌+◌, ◌≤◌, ◌==◌, ℕ, nat_eq, if◌then◌else◌, IsTrue, List, [], ◌∷◌, ◌++◌, Some, None, Contains, length};
 ghost use Rattle.std.specs.List.{IsDistinct};
@@ -17,8 +17,7 @@ ghost use Rattle.row_tables.specs.Held.{Held, is_ready};
 
 use crate::{MOST_CAPACITY, MOST_PERIOD};
 
-/// The laws of the rows and the orders of a history. The function does nothing: its clauses are
-/// what it is for.
+/// What holds of the rows and the orders of every history.
 pub fn page_laws()
     // The pages that have a row are exactly those that a report names, and each has one.
     ensures named { (history : List PageReport) (page : ℕ)
@@ -26,43 +25,43 @@ pub fn page_laws()
     ensures once { (history : List PageReport)
         → IsDistinct nat_eq (keys_of (page_rows_of history)) }
 
-    // A page is ordered away at most once softly and at most once hard, and never softly after
+    // A page is ordered offline at most once softly and at most once hard, and never softly after
     // hard.
     ensures orders { (history : List PageReport) (page : ℕ)
         → AreOnceInOrder page (orders_of history page) }
 
-    // A page stands in the highest state that its orders ask for.
+    // A page has the highest state that its orders ask for.
     ensures stands { (history : List PageReport) (page : ℕ)
         → state_in (page_rows_of history) page ≡ state_under (orders_of history page) }
 
-    // Single corrected errors of a page within one period give an order exactly if their number
+    // Single corrected errors of a page within one period give an order if and only if their number
     // reaches the capacity.
     ensures capacity { (limit : Limit) (page : ℕ) (earlier : List PageReport) (last : PageReport)
         → IsLimit limit → AreSingle limit (earlier ++ last ∷ [])
         → order_behind page earlier last
         ≡ (if length earlier + 1 == limit.capacity then Some (Order.Soft page) else None) }
 
-    // A bucket that isn't above its capacity is empty after a whole period.
+    // A bucket whose count isn't above the capacity is empty after a whole period.
     ensures empties { (limit : Limit) (now : ℕ) (bucket : Bucket) → IsLimit limit
         → bucket.count ≤ limit.capacity → bucket.stamp + limit.period ≤ now
         → (aged_bucket limit now bucket).count ≡ 0 }
 
-    // If the pages of a list of reports wait, a report of the first can be taken.
+    // If the pages of a list of reports wait, a report of the first page can be taken.
     ensures ready { (pages : Held ℕ PageRow) (first : ℕ) (more : List ℕ)
         → AreReservedFor pages (first ∷ more) → IsTrue (is_ready nat_eq pages first) }
 {}
 
-/// What one more report does. The function does nothing: its clauses are what it is for.
+/// What one more report does.
 pub fn report_laws()
-    // The rows of a history become those of the history with this report, and the order is the
-    // one there.
+    // The rows of a history become the rows of the history with this report, and the order is the
+    // one that the history with this report gives.
     ensures history { (history : List PageReport) (r : PageReport)
         → rows_after (page_rows_of history) r ≡ page_rows_of (history ++ r ∷ []) }
     ensures order { (history : List PageReport) (r : PageReport)
         → order_at r.page (page_rows_of history) (page_rows_of (history ++ r ∷ []))
         ≡ order_in history r }
 
-    // Soft is ordered of a page that is Kept alone, and Hard only if the class calls for it,
+    // Soft is ordered only of a page that is Kept, and Hard only if the class calls for it,
     // whatever the bucket says.
     ensures soft { (rows : List (ℕ × PageRow)) (r : PageReport)
         → order_at r.page rows (rows_after rows r) ≡ Some (Order.Soft r.page)
@@ -78,8 +77,7 @@ pub fn report_laws()
         → OthersStay r.page rows (rows_after rows r) }
 {}
 
-/// The numbers that the definitions cite by name. The function does nothing: its clauses are what
-/// it is for.
+/// The numbers that the definitions cite by name have these digits.
 pub fn numbers_in_digits()
     ensures capacity { MOST_CAPACITY ≡ 1_000_000 }
     ensures period { MOST_PERIOD ≡ 10_000_000 }

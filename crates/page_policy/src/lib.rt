@@ -1,9 +1,11 @@
-//! When memory pages are taken out of use: a leaky bucket of corrected errors for each page, the
+//! When memory pages are taken offline: a leaky bucket of corrected errors for each page, the
 //! states of pages, and the orders that follow when a state rises.
 //!
-//! `Pages` holds a row for each page, in the order in which pages were first seen. What a page's
-//! row says is a function of the reports of that page alone. The definitions in `specs/` say which
-//! one, and the contracts of `Pages` say that each call keeps it.
+//! `Pages` has a row for each page, in the order in which pages were first seen. A page's row
+//! depends only on the reports of that page. The definitions in `specs/` say how, and the contracts
+//! of `Pages` say that each call keeps to them.
+//!
+//! A public function with an empty body is a law: its clauses are the point.
 #![tactic(auto)]
 
 mod buckets;

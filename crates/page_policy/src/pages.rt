@@ -18,8 +18,8 @@ use std::marker::Model;
 
 /// The pages that were reported, in the order in which they were first seen, each with its row.
 ///
-/// Pages can wait after those that are held, so that their reports can be taken with no memory.
-/// Only `reserve`, `give_up` and `account` concern pages that wait.
+/// Pages can wait after those that have a row, so that their reports can be taken without
+/// allocating memory. Only `reserve`, `give_up` and `account` concern pages that wait.
 #[derive(Drop)]
 pub struct Pages {
     table: RowTable<u64, PageRow>,
@@ -39,7 +39,7 @@ impl Model for Pages {
 }
 
 impl Pages {
-    /// No pages.
+    /// Returns an empty table of pages.
     pub fn new(alloc: Global) -> Pages
         ensures rows { result.rows ≡ page_rows_of [] }
         ensures waiting { result.waiting ≡ [] }
@@ -49,9 +49,9 @@ impl Pages {
         }
     }
 
-    /// Lets these pages wait, so that a report of each can be taken in turn with no memory: those
-    /// that aren't held, in the order in which they are first seen, each once. What waited before
-    /// is given up. The pages held stay, and after `NoMemory` none waits.
+    /// Reserves what reports of these pages, taken in turn, need. The pages that have no row wait,
+    /// in the order in which they first appear, each once; pages that waited before no longer do.
+    /// No row changes, and after `NoMemory` no page waits.
     pub fn reserve(&mut self, pages: &[u64]) -> Result<(), NoMemory>
         ensures rows { self.new.rows ≡ self.old.rows }
         ensures ok { OnOk result (self.new.waiting ≡ new_keys nat_eq self.old.rows pages.now) }
@@ -60,7 +60,7 @@ impl Pages {
         self.table.reserve(pages, PageRow::new(0))
     }
 
-    /// Lets no page wait any longer.
+    /// Removes all pages that wait.
     pub fn give_up(&mut self)
         ensures rows { self.new.rows ≡ self.old.rows }
         ensures waiting { self.new.waiting ≡ [] }
@@ -69,15 +69,15 @@ impl Pages {
     }
 
     /// Takes a report of a page: an item's class and weight, with the time of the report in seconds
-    /// and the limit in force. The answer is the order that follows, if any.
+    /// and the limit in force. Returns the order that follows, if any. Allocates nothing.
     ///
-    /// The page has to be held, or to be the first that waits; it is then held, after the others.
-    /// A new page starts Kept, with an empty bucket of that time. Ce and Corrected fill the page's
-    /// bucket, and lead to Soft if it trips. Ucna leads to Soft; Srao, Srar, Uc, Recoverable and
-    /// Fatal lead to Hard; Odd and Informational lead to nothing. A state only rises, and an order
-    /// comes exactly if it rose: a bucket that trips at a page that is Soft or Hard is emptied,
-    /// and no order comes. What this makes of the reports of a history stands at
-    /// [`crate::report_laws`].
+    /// Requires that the page has a row or is the first that waits, and a limit in its ranges. A
+    /// page that waited has a row afterwards, after the others: it starts Kept, with an empty
+    /// bucket of that time. Ce and Corrected fill the page's bucket, and lead to Soft if it trips.
+    /// Ucna leads to Soft; Srao, Srar, Uc, Recoverable and Fatal lead to Hard; Odd and
+    /// Informational lead to nothing. A state only rises, and an order is returned if and only if
+    /// it rose: a bucket that trips at a page that is Soft or Hard is emptied, and no order
+    /// follows. [`crate::report_laws`] says what this makes of a history.
     pub fn account(
         &mut self,
         page: u64,
@@ -101,21 +101,21 @@ impl Pages {
         order_for(page, before.state, after.state)
     }
 
-    /// How many pages are held.
+    /// Returns how many pages have a row.
     pub fn len(&self) -> usize
         ensures { result ≡ length self.now.rows }
     {
         self.table.len()
     }
 
-    /// Whether no page is held.
+    /// Returns whether no page has a row.
     pub fn is_empty(&self) -> bool
         ensures { IsTrue result ↔ (self.now.rows ≡ []) }
     {
         self.table.is_empty()
     }
 
-    /// The page at a place, from 0 in first-seen order, with its bucket and its state.
+    /// Returns the page at an index, from 0 in first-seen order, with its bucket and its state.
     pub fn row(&self, i: usize) -> (u64, Bucket, PageState)
         requires { i < length self.now.rows }
         ensures row { slice_get self.now.rows i ≡ Some (page_entry result.0 result.1 result.2) }
@@ -125,9 +125,10 @@ impl Pages {
         (*self.table.key(i), row.bucket, row.state)
     }
 
-    /// Puts the row of a page after the others. After a refusal all stays as it was.
+    /// Appends the row of a page. Requires that no page waits, and a bucket of at most `MOST_COUNT`
+    /// errors. After an error the table is unchanged.
     ///
-    /// `Repeated` comes exactly if the page is held.
+    /// `Repeated`: if and only if the page has a row.
     pub fn push_row(
         &mut self,
         page: u64,

@@ -7,35 +7,35 @@ ghost use Rattle.page_policy.specs.Rows.{report, new_row, row_after, is_correcte
 use crate::{Bucket, Limit};
 use mca_status::ItemClass;
 
-/// How far a page was taken out of use. A page's state only rises, in the order of the variants.
+/// How far a page was taken offline. A page's state only rises, in the order of the variants.
 #[derive(Clone, Copy, Debug, PartialEq, Eq)]
 pub enum PageState {
     /// The page stays in use.
     Kept,
-    /// Its contents are to be moved away, and the page left unused.
+    /// Soft-offlined: its contents are moved away first, then the page is left unused.
     Soft,
-    /// The page is to be taken away at once, with what it holds.
+    /// Hard-offlined: the page is taken away at once, with its contents.
     Hard,
 }
 
-/// An order to take a page out of use, by the page's number, its address over 4,096, or to replace
-/// a memory module.
+/// An order to take a page offline, by the page's number, which is its address over 4,096, or to
+/// replace a memory module.
 #[derive(Clone, Copy, Debug, PartialEq, Eq)]
 pub enum Order {
-    /// Move the page's contents away first.
+    /// Soft-offline the page: move its contents away first.
     Soft(u64),
-    /// Take the page away at once.
+    /// Hard-offline the page: take it away at once.
     Hard(u64),
-    /// Replace the module whose row stands at this place.
+    /// Replace the module whose row has this index.
     Module(usize),
 }
 
-/// What is known of a page.
+/// A page's row: what its reports have led to.
 #[derive(Clone, Copy, Debug, PartialEq, Eq)]
 pub struct PageRow {
     /// The bucket of its corrected errors.
     pub bucket: Bucket,
-    /// Its state.
+    /// How far the page was taken offline.
     pub state: PageState,
 }
 
@@ -82,7 +82,7 @@ impl PageState {
     }
 }
 
-/// Whether an item of this class tells of corrected errors, which fill a bucket.
+/// Returns whether an item of this class reports corrected errors, which fill a bucket.
 pub fn is_corrected(class: ItemClass) -> bool
     ensures { result ≡ is_corrected class }
 {

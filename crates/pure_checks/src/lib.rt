@@ -1,9 +1,10 @@
 //! What no clause says and no run shows of the crates of values: sections, stored records and what
 //! is printed of them, and lines that a run doesn't take yet, as bytes and texts that were written
-//! down by hand.
+//! by hand.
 //!
-//! They stand in a crate of their own, so that none of those crates is proved once more with its
-//! tests. What the built program shows is a row of tests/program/rows.txt or a case of tests/program/cases.
+//! The tests have a crate of their own, so that none of those crates is proved again with its
+//! tests. What the built program can show is a row of tests/program/rows.txt or a case of
+//! tests/program/cases.
 #![tactic(auto)]
 
 #[cfg(test)]

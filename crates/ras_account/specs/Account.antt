@@ -1,7 +1,6 @@
--- What the account of a history is. Each of its parts is a function of the fresh entries alone, and
--- each row of its items alone: the sums of a module are sums over the items that have its label,
--- its bucket runs along its own corrected errors since the last mark, and the row of a page runs
--- one bucket along the items that name the page.
+-- What the account of a history is. Each of its parts depends only on the new entries, and each row only on its own
+-- items: the sums of a module are sums over the items with its label, its bucket runs along its own corrected errors
+-- since the last upgrade marker, and the row of a page runs one bucket along the items that name the page.
 use Rattle.std.specs.Prelude.{◌≡◌, ℕ, Bool, not, List, [], ◌∷◌, map, filter, length, sum, Contains}
 use Rattle.std.specs.Bool.{IsFalse}
 use Rattle.std.specs.List.{sum_by, list_any}
@@ -34,8 +33,8 @@ kept_names floor names = filter (λ name. not (is_retired floor name)) names
 abbrev pub module_items : History → Bytes → List Sighting
 module_items history label = filter (is_labeled label) (sightings history)
 
--- those of them that count towards the replacement of the module: the corrected errors since the
--- last mark, each with its time and the limit in force for modules at it
+-- the items of a label that count towards the replacement of its module: the corrected errors since the last upgrade
+-- marker, each with its time and the limit for modules in force at that time
 abbrev pub module_errors : History → Bytes → List Sighting
 module_errors history label = errors_of label (sightings_since_mark history)
 
@@ -43,8 +42,8 @@ module_errors history label = errors_of label (sightings_since_mark history)
 abbrev pub module_count : History → Bytes → ItemClass → ℕ
 module_count history label class = class_weight (module_items history label) class
 
--- the items of a history's fresh entries that name a page, in order, each with its time and the
--- limit in force for pages at it
+-- the items of a history's new entries that name a page, in order, each with its time and the limit for pages in force
+-- at that time
 abbrev pub page_history : History → ℕ → List PageReport
 page_history history page = page_history_of (reports_of (sightings history)) page
 
@@ -55,7 +54,7 @@ modules_of all since_mark =
 
 -- what is counted
 pub record State : Type 0 where
-  -- the names of facts, but for those of retired boots
+  -- the names of facts, except for retired boots
   pub names : List Name
   -- the boot below which all boots are retired
   pub floor : ℕ
@@ -63,7 +62,7 @@ pub record State : Type 0 where
   pub limit : Limit
   -- the limit in force for modules
   pub module_limit : Limit
-  -- how many entries
+  -- the number of entries
   pub entries : ℕ
   -- the weights of all items together
   pub total : ℕ
@@ -85,14 +84,15 @@ account_of history = record {
   pages = page_rows_of (reports_of (sightings history));
 }
 
--- all weights that modules hold together
+-- the sum of all weights in the rows of modules
 abbrev pub weight_in : List (Bytes × Module) → ℕ
 weight_in modules = sum_by (λ row. sum row.1.sums) modules
 
--- an account is that of a history, and the accounts of two histories are the same
+-- an account is the account of a history
 abbrev pub IsAccountOf : History → State → Type 0
 IsAccountOf history a = a ≡ account_of history
 
+-- two histories have the same account
 abbrev pub AreSame : History → History → Type 0
 AreSame one other = account_of one ≡ account_of other
 
@@ -109,6 +109,7 @@ IsKeptAfter history name =
 abbrev pub is_seen : History → Bytes → Bool
 is_seen history label = list_any (same_label label) (map label_of (sightings history))
 
+-- what is counted of the module with this label
 abbrev pub module_of : History → Bytes → Module
 module_of history label =
     module_by_items (sightings history) (sightings_since_mark history) label

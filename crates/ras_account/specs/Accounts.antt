@@ -1,5 +1,4 @@
--- What holds of every account, whatever it was given or read from: its rows can be written and read
--- again.
+-- What holds of every account, whether it was counted or read: its rows can be written and read again.
 use Rattle.std.specs.Prelude.{◌≡◌, ℕ, ◌<◌, ◌≤◌, ◌^◌, nat_eq, None, [], length, All, IfSome, IsTrue}
 use Rattle.std.specs.Bool.{IsFalse}
 use Rattle.std.specs.List.{IsDistinct}
@@ -18,8 +17,7 @@ use Rattle.ras_account.specs.Modules.{Module}
 use Rattle.ras_account.specs.Account.{State, weight_in}
 use Rattle.ras_account.specs.Numbers.{IsWithin}
 
--- a name that an account with this floor may hold: each number fits its field, and its boot isn't
--- retired
+-- a name that an account with this floor may have: each number fits its field, and its boot isn't retired
 pub record IsKeptName (floor : ℕ) (name : Name) : Type 0 where
   pub valid : IsValidName name
   pub kept : IsFalse (is_retired floor name)
@@ -42,8 +40,8 @@ pub record IsPageRow (row : ℕ × PageRow) : Type 0 where
   pub page : IsPage row.0
   pub bucket : IsBucket row.1.bucket
 
--- an account: each name, label and page stands once, each row is one, the numbers are within, and
--- the modules together hold the total weight
+-- an account: each name, label and page is there once, each row is valid, the numbers are within their bounds, and the
+-- rows of modules add up to the total weight
 pub record IsAccount (a : State) : Type 0 where
   pub within : IsWithin a
   pub limit : IsLimit a.limit

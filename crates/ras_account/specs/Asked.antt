@@ -17,7 +17,7 @@ is_for_page page (Soft other) = nat_eq page other
 is_for_page page (Hard other) = nat_eq page other
 is_for_page page (Module place) = false
 
--- whether it is for the module at a place
+-- whether an order is for the module at an index
 abbrev pub is_for_module : ℕ → Order → Bool
 is_for_module place (Soft page) = false
 is_for_module place (Hard page) = false
@@ -31,7 +31,7 @@ orders_for_page page orders = filter (is_for_page page) orders
 abbrev pub orders_for_module : ℕ → List Order → List Order
 orders_for_module place orders = filter (is_for_module place) orders
 
--- the place of a label's row in the account of a history
+-- the index of a label's row in the account of a history
 abbrev pub module_place : History → Bytes → ℕ
 module_place history label = place_of label (keys_of (account_of history).modules)
 
@@ -40,8 +40,8 @@ abbrev pub HasRow : History → Bytes → Type 0
 HasRow history label =
     IsTrue (list_any (same_label label) (keys_of (account_of history).modules))
 
--- whether an entry after a history makes a module's bucket trip the first time since the last
--- mark, by the module's own corrected errors
+-- whether an entry after a history makes a module's bucket trip for the first time since the last upgrade marker, by
+-- the module's own corrected errors
 abbrev pub trips_with : History → Entry → Bytes → Bool
 trips_with history entry label =
     not (has_tripped (module_errors history label))
@@ -52,7 +52,7 @@ abbrev pub replace_orders_at : History → Entry → Bytes → List Order
 replace_orders_at history entry label =
     orders_for_module (module_place (with_entry history entry) label) (orders_behind history entry)
 
--- the order to replace a label's module, and such orders since the last mark
+-- the order to replace a label's module, and such orders since the last upgrade marker
 abbrev pub replace_order : History → Bytes → Order
 replace_order history label = Module (module_place history label)
 

@@ -1,4 +1,4 @@
--- How one entry more, or a mark, continues an account, also one that no history gives.
+-- How one more entry or upgrade marker continues an account, even an account that no history gives.
 use Rattle.std.specs.Prelude.{ℕ, ◌+◌, Bool, false, ◌&&◌, ◌||◌, not, nat_lt, if◌then◌else◌, None, Some, List, [], ◌∷◌, ◌++◌, fold, map, replicate, slice_index, slice_set}
 use Rattle.std.specs.Option.{option_map_or}
 use Rattle.mca_status.specs.Classes.{class_number}
@@ -17,12 +17,12 @@ use Rattle.ras_account.specs.Sightings.{Sighting, sightings_in, label_of, report
 use Rattle.ras_account.specs.Modules.{Module, fills_bucket, bucket_with, trips_at}
 use Rattle.ras_account.specs.Account.{State, kept_names}
 
--- whether an account knows a name: it holds it, or the name's boot is retired
+-- whether an account knows a name: the name is in the account, or its boot is retired
 abbrev pub knows : State → Name → Bool
 knows a name = is_among a.names name || is_retired a.floor name
 
--- whether an entry is fresh in an account: a fact whose name it doesn't know, a limit other than
--- the one of its kind in force, or a retire above the floor
+-- whether an entry is new in an account: a fact whose name it doesn't know, a limit other than the one of its kind in
+-- force, or a retire above the floor
 abbrev pub is_fresh_in : State → Entry → Bool
 is_fresh_in a (Fact fact) = not (knows a fact.name)
 is_fresh_in a (PageLimit limit) = not (same_limit limit a.limit)
@@ -58,7 +58,7 @@ modules_after modules s =
 abbrev pub pages_after : List (ℕ × PageRow) → Sighting → List (ℕ × PageRow)
 pages_after pages s = option_map_or (rows_after pages) (report_of s) pages
 
--- an account with one item more
+-- an account with one more item
 abbrev pub account_after_item : State → Sighting → State
 account_after_item a s = record a {
   total = a.total + s.item.weight;
@@ -66,12 +66,12 @@ account_after_item a s = record a {
   pages = pages_after a.pages s;
 }
 
--- an account with items more, in order
+-- an account with more items, in order
 abbrev pub account_after_items : State → List Sighting → State
 account_after_items a ss = fold account_after_item a ss
 
--- an account with a fresh entry more, but for the number of entries: a fact's name and then its
--- items, a limit that is in force from now on, or a floor below which names are dropped
+-- an account with one more new entry, except for the number of entries: a fact's name and then its items, a limit that
+-- is in force from now on, or a floor below which names are dropped
 abbrev pub account_after_fresh : State → Entry → State
 account_after_fresh a (Fact fact) =
     account_after_items (record a { names = a.names ++ fact.name ∷ [] }) (sightings_in a.limit a.module_limit (Fact fact))
@@ -79,11 +79,11 @@ account_after_fresh a (PageLimit limit) = record a { limit = limit }
 account_after_fresh a (Retire boot) = record a { names = kept_names boot a.names; floor = boot }
 account_after_fresh a (ModuleLimit limit) = record a { module_limit = limit }
 
--- an account with one entry counted more
+-- an account with one more counted entry
 abbrev pub account_with_count : State → State
 account_with_count a = record a { entries = a.entries + 1 }
 
--- an account continued by an entry: it counts the entry if it is fresh, and else stays
+-- an account continued by an entry: it counts the entry if it is new, and otherwise stays the same
 abbrev pub account_after : State → Entry → State
 account_after a entry = if is_fresh_in a entry then account_after_fresh (account_with_count a) entry else a
 
@@ -95,7 +95,7 @@ account_after_all a entries = fold account_after a entries
 abbrev pub without_bucket : Module → Module
 without_bucket m = record m { bucket = None; replace = false }
 
--- an account with a mark more: no module has a bucket, and none is to be replaced
+-- an account with one more upgrade marker: no module has a bucket, and none is to be replaced
 abbrev pub account_after_mark : State → State
 account_after_mark a = record a { modules = map {B = Bytes × Module} (λ row. (row.0, without_bucket row.1)) a.modules }
 

@@ -1,4 +1,4 @@
--- Which entries are fresh at their place in a history: these alone count.
+-- Which entries are new at their place in a history: only these count.
 use Rattle.std.specs.Prelude.{Bool, ◌&&◌, ◌==◌, not, nat_lt, if◌then◌else◌, List, [], ◌∷◌, ◌++◌}
 use Rattle.std.specs.List.{list_any}
 use Rattle.page_policy.specs.declared.buckets.Limit.{Limit}
@@ -16,8 +16,8 @@ same_limit one other = (one.capacity == other.capacity) && (one.period == other.
 abbrev pub is_among : List Name → Name → Bool
 is_among names name = list_any (same_name name) names
 
--- an entry is fresh after a history: a fact whose name no fact of the history has and whose boot
--- isn't retired, a limit other than the one of its kind in force, or a retire above the floor
+-- an entry is new after a history: a fact whose name no fact of the history has and whose boot isn't retired, a limit
+-- other than the one of its kind in force, or a retire above the floor
 abbrev pub is_fresh_behind : History → Entry → Bool
 is_fresh_behind history (Fact fact) =
     not (is_among (names_in history) fact.name) && not (is_retired (floor_after history) fact.name)
@@ -25,7 +25,7 @@ is_fresh_behind history (PageLimit limit) = not (same_limit limit (limit_after h
 is_fresh_behind history (Retire boot) = nat_lt (floor_after history) boot
 is_fresh_behind history (ModuleLimit limit) = not (same_limit limit (module_limit_after history))
 
--- the entries of a history that are fresh at their place, in order
+-- the entries of a history that are new at their place, in order
 abbrev pub fresh_entries : History → List Entry
 fresh_entries empty = []
 fresh_entries (with_entry history entry) = if is_fresh_behind history entry then fresh_entries history ++ entry ∷ [] else fresh_entries history

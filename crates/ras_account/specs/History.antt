@@ -7,8 +7,8 @@ use Rattle.ras_facts.specs.declared.entry.Entry.TheVariants.{Fact, Limit as Page
 pub use Rattle.ras_facts.specs.Names.{is_retired}
 use Rattle.ras_account.specs.declared.limits.TheConstants.{FIRST_LIMIT, FIRST_MODULE_LIMIT}
 
--- a list of entries and marks, the latest last. A mark stands where an account was taken over from
--- a journal that kept no buckets of modules: they begin anew after it.
+-- a list of entries and upgrade markers, the latest last. An upgrade marker is where an account was taken over from a
+-- journal of version 1, which stored no buckets of modules: they start again after it.
 pub data History : Type 0 where
   empty : History
   with_entry : History → Entry → History
@@ -18,7 +18,7 @@ pub data History : Type 0 where
 abbrev pub with_entries : History → List Entry → History
 with_entries history entries = fold with_entry history entries
 
--- a list of entries alone, as a history
+-- a list of entries as a history, without upgrade markers
 abbrev pub history_of : List Entry → History
 history_of entries = with_entries empty entries
 
@@ -32,7 +32,7 @@ followed_by history empty = history
 followed_by history (with_entry more entry) = with_entry (followed_by history more) entry
 followed_by history (with_mark more) = with_mark (followed_by history more)
 
--- a history without marks
+-- a history without upgrade markers
 abbrev pub IsUnmarked : History → Type 0
 IsUnmarked empty = Unit {0}
 IsUnmarked (with_entry history entry) = IsUnmarked history

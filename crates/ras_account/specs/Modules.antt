@@ -33,7 +33,7 @@ is_labeled label s = same_label label (label_of s)
 abbrev pub fills_bucket : Sighting → Bool
 fills_bucket s = is_corrected s.item.class && not (is_labeled [] s)
 
--- the items of a list that fill the bucket of a label, in order; none, if the label is none
+-- the items of a list that fill the bucket of a label, in order; no items fill one without a label
 abbrev pub errors_of : Bytes → List Sighting → List Sighting
 errors_of label ss = filter (λ s. fills_bucket s && is_labeled label s) ss
 

@@ -1,5 +1,4 @@
--- The three numbers that an account keeps small, and those that a list of entries would bring it
--- to.
+-- The three numbers that an account keeps small, and the numbers that a list of entries would bring it to.
 use Rattle.std.specs.Prelude.{ℕ, ◌+◌, ◌≤◌, Bool, ◌||◌, nat_lt, if◌then◌else◌, List, [], ◌∷◌, length, IsTrue}
 use Rattle.std.specs.List.{sum_by, flat_map}
 use Rattle.ras_facts.specs.declared.items.Item.{Item}
@@ -21,23 +20,25 @@ pub record AreWithin (numbers : Numbers) : Type 0 where
   pub entries : numbers.entries ≤ MOST_ENTRIES
   pub total : numbers.total ≤ MOST_TOTAL
 
+-- whether one of the numbers is above its bound
 abbrev pub are_past : Numbers → Bool
 are_past numbers =
     nat_lt MOST_NAMES numbers.names || (nat_lt MOST_ENTRIES numbers.entries || nat_lt MOST_TOTAL numbers.total)
 
--- those of an account
+-- the numbers of an account
 abbrev pub numbers_of : State → Numbers
 numbers_of a = record { names = length a.names; entries = a.entries; total = a.total }
 
--- an account within its numbers, and one that stays so after each entry of a list
+-- an account within its numbers
 abbrev pub IsWithin : State → Type 0
 IsWithin a = AreWithin (numbers_of a)
 
+-- the account is within its numbers after each entry of the list
 abbrev pub StaysWithin : State → List Entry → Type 0
 StaysWithin a [] = Unit {0}
 StaysWithin a (entry ∷ entries) = IsWithin (account_after a entry) × StaysWithin (account_after a entry) entries
 
--- the entries of a list that are fresh at their place after an account
+-- the entries of a list that are new at their place after an account
 abbrev pub fresh_entries_in : State → List Entry → List Entry
 fresh_entries_in a [] = []
 fresh_entries_in a (entry ∷ entries) =
@@ -47,7 +48,7 @@ fresh_entries_in a (entry ∷ entries) =
 abbrev pub items_of : List Entry → List Item
 items_of entries = flat_map items_in entries
 
--- the numbers of an account with all that is fresh of a list: a retire among it takes no name away
+-- the numbers of an account with all new entries of a list; a retire in the list removes no name here
 abbrev pub numbers_with : State → List Entry → Numbers
 numbers_with a entries = record {
   names = length a.names + length (names_of (fresh_entries_in a entries));
@@ -55,7 +56,7 @@ numbers_with a entries = record {
   total = a.total + sum_by (λ (item : Item). item.weight) (items_of (fresh_entries_in a entries));
 }
 
--- there is room for all that is fresh of a list, or there is none
+-- there is room for all new entries of a list, or there isn't
 abbrev pub HasRoomFor : State → List Entry → Type 0
 HasRoomFor a entries = AreWithin (numbers_with a entries)
 

@@ -1,6 +1,5 @@
--- The orders that an entry gives. An item first orders its page out of use, if the page's state
--- rises, and then asks for its module to be replaced, if that module's bucket trips the first
--- time.
+-- The orders that an entry gives. An item first orders its page offline, if the page's state rises, and then its module
+-- replaced, if that module's bucket trips for the first time.
 use Rattle.std.specs.Prelude.{ℕ, zero, suc, Bool, false, ◌&&◌, not, if◌then◌else◌, Option, None, Some, List, [], ◌∷◌, ◌++◌, map, flat_map, option_and_then, option_to_list}
 use Rattle.std.specs.Map.{keys_of, lookup}
 use Rattle.std.specs.Option.{option_map_or}
@@ -19,32 +18,32 @@ use Rattle.ras_account.specs.Modules.{Module, errors_of, has_tripped}
 use Rattle.ras_account.specs.Account.{State}
 use Rattle.ras_account.specs.Continued.{is_fresh_in, modules_after, account_after_item}
 
--- the place of a label among labels, from 0
+-- the index of a label among labels, from 0
 abbrev pub place_of : Bytes → List Bytes → ℕ
 place_of label [] = zero
 place_of label (other ∷ labels) = if same_label label other then zero else suc (place_of label labels)
 
--- the order for the page of an item after all earlier items: by those of the page alone
+-- the order for the page of an item after all earlier items, which depends only on the items of that page
 abbrev pub page_order : List Sighting → Sighting → Option Order
 page_order earlier s =
     option_and_then (λ (r : PageReport). order_behind r.page (page_history (reports_of earlier) r.page) r) (report_of s)
 
--- whether an item is the one at which its module's bucket trips the first time since the last mark:
--- by the earlier errors of the module alone
+-- whether an item is the one at which its module's bucket trips for the first time since the last upgrade marker, which
+-- depends only on the earlier errors of that module
 abbrev pub trips_first : List Sighting → Sighting → Bool
 trips_first since_mark s =
     not (has_tripped (errors_of (label_of s) since_mark))
     && has_tripped (errors_of (label_of s) (since_mark ++ s ∷ []))
 
--- the order for the module of an item after all earlier items and those since the last mark. A
--- module is named by the place of its label among all labels in first-seen order.
+-- the order for the module of an item after all earlier items and the items since the last upgrade marker; a module is
+-- named by the index of its label among all labels in first-seen order
 abbrev pub module_order : List Sighting → List Sighting → Sighting → Option Order
 module_order earlier since_mark s =
     if trips_first since_mark s
     then Some (Ordered.TheVariants.Module (place_of (label_of s) (distinct_keys same_label (map label_of (earlier ++ s ∷ [])))))
     else None
 
--- the orders of an item after all earlier items and those since the last mark
+-- the orders of an item after all earlier items and the items since the last upgrade marker
 abbrev pub item_orders : List Sighting → List Sighting → Sighting → List Order
 item_orders earlier since_mark s =
     option_to_list (page_order earlier s) ++ option_to_list (module_order earlier since_mark s)
@@ -59,7 +58,7 @@ abbrev pub orders_behind : History → Entry → List Order
 orders_behind history entry =
     orders_of_items (sightings history) (sightings_since_mark history) (sightings_behind history entry)
 
--- all orders of a history, and those since its last mark
+-- all orders of a history, and the orders since its last upgrade marker
 abbrev pub orders : History → List Order
 orders empty = []
 orders (with_entry history entry) = orders history ++ orders_behind history entry

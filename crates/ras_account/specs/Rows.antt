@@ -18,14 +18,14 @@ row_of row = (row.label, record { sums = row.sums; bucket = row.bucket; replace 
 abbrev pub has_retired : ℕ → List Name → Bool
 has_retired floor names = list_any (is_retired floor) names
 
--- whether an account has a row of a label, or of a page
+-- whether an account has a row for a label, or for a page
 abbrev pub has_module : State → Bytes → Bool
 has_module a label = is_held same_label a.modules label
 
 abbrev pub has_page : State → ℕ → Bool
 has_page a page = is_held nat_eq a.pages page
 
--- an account with a name, a module or a page more; a module brings its weight
+-- an account with one more name, module or page; a module adds its weight
 abbrev pub with_name : State → Name → State
 with_name a name = record a { names = a.names ++ name ∷ [] }
 
@@ -39,6 +39,6 @@ with_page a row = record a { pages = a.pages ++ row ∷ [] }
 abbrev pub base_of : State → State
 base_of a = record (account_of empty) { limit = a.limit; module_limit = a.module_limit; floor = a.floor; entries = a.entries }
 
--- and with each of its rows, in order
+-- the empty account with these numbers, and with each row of the account, in order
 abbrev pub account_from_rows : State → State
 account_from_rows a = fold with_page (fold with_module (fold with_name (base_of a) a.names) a.modules) a.pages

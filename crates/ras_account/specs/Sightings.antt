@@ -1,4 +1,4 @@
--- The items of a history's fresh facts, each with what was known as it came.
+-- The items of a history's new facts, each with its time and the limits in force when it came.
 use Rattle.std.specs.Prelude.{ℕ, Option, if◌then◌else◌, List, [], ◌++◌, map, filter_map, option_map}
 use Rattle.dimm_topology.specs.Labels.{Bytes}
 use Rattle.page_policy.specs.declared.buckets.Limit.{Limit}
@@ -9,8 +9,7 @@ use Rattle.ras_facts.specs.declared.entry.Entry.TheVariants.{Fact}
 use Rattle.ras_account.specs.History.{History, empty, with_entry, with_mark, limit_after, module_limit_after}
 use Rattle.ras_account.specs.Fresh.{is_fresh_behind}
 
--- an item, with the time of its fact in seconds, and the limits in force at it for pages and
--- modules
+-- an item, with the time of its fact in seconds, and the limits in force for pages and modules when it came
 pub record Sighting : Type 0 where
   pub item : Item
   pub seconds : ℕ
@@ -27,18 +26,18 @@ abbrev pub sightings_in : Limit → Limit → Entry → List Sighting
 sightings_in limit module_limit (Fact fact) = sightings_of limit module_limit fact.seconds fact.items
 sightings_in limit module_limit other = []
 
--- the items that an entry brings after a history: none, if it isn't fresh
+-- the items that an entry adds after a history: none if it isn't new
 abbrev pub sightings_behind : History → Entry → List Sighting
 sightings_behind history entry =
     if is_fresh_behind history entry then sightings_in (limit_after history) (module_limit_after history) entry else []
 
--- the items of a history's fresh entries, in order
+-- the items of a history's new entries, in order
 abbrev pub sightings : History → List Sighting
 sightings empty = []
 sightings (with_entry history entry) = sightings history ++ sightings_behind history entry
 sightings (with_mark history) = sightings history
 
--- those of them that came after the last mark
+-- the items that came after the last upgrade marker
 abbrev pub sightings_since_mark : History → List Sighting
 sightings_since_mark empty = []
 sightings_since_mark (with_entry history entry) = sightings_since_mark history ++ sightings_behind history entry
@@ -51,7 +50,7 @@ label_of s = s.item.label
 abbrev pub sighting_weight : Sighting → ℕ
 sighting_weight s = s.item.weight
 
--- the report of a page that an item is, if it names a page
+-- the item as a report of a page, if it names a page
 abbrev pub report_of : Sighting → Option PageReport
 report_of s = option_map (λ page. report page s.item.class s.seconds s.item.weight s.limit) s.item.page
 

@@ -1,4 +1,4 @@
--- A tally of entries that may follow an account: what then waits, and how far they bring it.
+-- A tally of entries that may follow an account: what then waits, and the numbers they bring it to.
 use Rattle.std.specs.Prelude.{◌≡◌, ℕ, ◌+◌, min, ◌||◌, List, [], ◌++◌, length, Result, Err, OnOk}
 use Rattle.std.specs.List.{sum_by}
 use Rattle.std.specs.Map.{keys_of}
@@ -17,12 +17,12 @@ use Rattle.ras_account.specs.Continued.{knows, account_after_all}
 use Rattle.ras_account.specs.Numbers.{fresh_entries_in, items_of, HasRoomFor, HasNoRoomFor}
 use Rattle.ras_account.specs.View.{View, labels_in, pages_in, added_by}
 
--- the greatest number of 64 bits, at which a tally stays
+-- the greatest number of 64 bits, at which the numbers of a tally stop
 abbrev pub greatest : ℕ
 greatest = 18446744073709551615
 
--- the fresh ones of some entries that bring an account to another: their names and labels wait, and
--- the tally has their pages, their numbers, and what is in force after them
+-- the new entries of a list that bring an account to another: their names and labels wait, and the tally has their
+-- pages, their numbers, and what is in force after them
 pub record Tallies (account : View) (after : State) (fresh : List Entry) (tally : Tally) : Type 0 where
   pub names : account.waiting.names ≡ names_of fresh
   pub labels : account.waiting.labels ≡ added_keys same_label (keys_of account.state.modules) (labels_in (items_of fresh))

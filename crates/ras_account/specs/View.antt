@@ -16,11 +16,11 @@ pub record Waiting : Type 0 where
   pub labels : List Bytes
   pub pages : List ℕ
 
--- none of either
+-- nothing waits
 abbrev pub nothing : Waiting
 nothing = record { names = []; labels = []; pages = [] }
 
--- what waits in front, and what waits after it
+-- two lists of waiting things, one after the other
 abbrev pub then_waits : Waiting → Waiting → Waiting
 then_waits front rest = record {
   names = front.names ++ rest.names;
@@ -28,7 +28,7 @@ then_waits front rest = record {
   pages = front.pages ++ rest.pages;
 }
 
--- what waits in front is the beginning of what waits, in each of the three lists
+-- the first is a beginning of what waits, in each of the three lists
 abbrev pub WaitsFirst : Waiting → Waiting → Type 0
 WaitsFirst front all = (rest : Waiting) × (then_waits front rest ≡ all)
 
@@ -58,6 +58,6 @@ pub record OrderList : Type 0 where
   pub orders : List Order
   pub room : ℕ
 
--- exactly what a list of entries adds waits, so that each can be taken in turn
+-- exactly what a list of entries adds waits, so that each entry can be taken in turn
 abbrev pub IsReservedFor : View → List Entry → Type 0
 IsReservedFor account entries = account.waiting ≡ added_by account.state entries

@@ -26,11 +26,11 @@ use ras_facts::{Entry, Fact, Item, Name};
 use std::alloc::Global;
 use std::marker::Model;
 
-/// What was counted so far: the names of the reports in the order in which they came, what they say
-/// of memory modules and of pages, and what is in force.
+/// What was counted so far: the names of the reports in the order in which they came, what the
+/// reports say of memory modules and of pages, and the limits and the floor in force.
 ///
 /// Names, labels and pages can wait after those that are counted, so that their entries can be
-/// taken with no memory. No call tells of what waits.
+/// taken without allocating memory. No call returns anything that waits.
 #[derive(Drop)]
 pub struct Account {
     pub(crate) names: Names,
@@ -75,7 +75,7 @@ impl Model for Account {
 }
 
 impl Account {
-    /// An account that counts nothing.
+    /// Returns an account in which nothing is counted yet, with the first limits in force.
     pub fn new(alloc: Global) -> Account
         ensures state { result.state ≡ account_of empty }
         ensures waiting { result.waiting ≡ nothing }
@@ -95,8 +95,9 @@ impl Account {
         }
     }
 
-    /// Whether taking this entry would count it: a fact whose name isn't held and whose boot isn't
-    /// retired, a limit other than the one of its kind in force, or a retire above the floor.
+    /// Returns whether `take` would count this entry: a fact whose name isn't in the account and
+    /// whose boot isn't retired, a limit other than the one of its kind in force, or a retire above
+    /// the floor.
     pub fn is_fresh(&self, entry: &Entry) -> bool
         ensures fresh { result ≡ is_fresh_in self.now.state entry.now }
         ensures history { (history : History) → IsAccountOf history self.now.state
@@ -107,8 +108,8 @@ impl Account {
         self.in_force.admits(entry) && !self.holds_name_of(entry)
     }
 
-    /// Whether the account knows a name: it holds it, or the name's boot is retired. A fact is
-    /// fresh exactly if its name isn't known.
+    /// Returns whether the name is in the account or of a retired boot. A report is new if and only
+    /// if its name isn't known.
     pub fn knows(&self, name: &Name) -> bool
         ensures known { result ≡ knows self.now.state name.now }
         ensures account { IsAccount self.now.state }
@@ -126,11 +127,12 @@ impl Account {
         }
     }
 
-    /// Counts the entry, if it is fresh, and puts the orders that it gives after those in `orders`.
+    /// Counts the entry if it is new, and appends the orders it gives to `orders`. Allocates
+    /// nothing.
     ///
-    /// The entry has to be valid. What it adds has to wait, before all else that waits, and it then
-    /// waits no longer; the orders need room for `Entry::most_orders`; and with the entry the
-    /// account has to stay within `MOST_NAMES`, `MOST_ENTRIES` and `MOST_TOTAL`.
+    /// Requires a valid entry; that what it adds waits, before everything else that waits; room in
+    /// `orders` for `Entry::most_orders`; and that the account stays within `MOST_NAMES`,
+    /// `MOST_ENTRIES` and `MOST_TOTAL`. What the entry adds no longer waits afterwards.
     pub fn take(&mut self, entry: Entry, orders: &mut Orders)
         requires valid { IsValidEntry entry }
         requires waits { WaitsFirst (added_by self.old.state (entry ∷ [])) self.old.waiting }
@@ -142,12 +144,12 @@ impl Account {
         ensures orders { orders.new.orders ≡ orders.old.orders ++ orders_at self.old.state entry }
         ensures room { orders.new.room + length (orders_at self.old.state entry) ≡ orders.old.room }
 
-        // If what a list of entries adds waits, the entries can be taken in turn.
+        // If what a list of entries adds waits, the entries can be taken one after the other.
         ensures in_turn { (entries : List Entry) → IsReservedFor self.old (entry ∷ entries)
             → IsReservedFor self.new entries }
 
-        // The account of a history becomes that of the history with the entry after it, and the
-        // orders are those of the history.
+        // The account of a history becomes the account of the history with the entry after it, and
+        // the orders are the orders of the history there.
         ensures history { (history : History) → IsAccountOf history self.old.state
             → IsAccountOf (with_entry history entry) self.new.state }
         ensures history_orders { (history : History) → IsAccountOf history self.old.state
@@ -156,7 +158,7 @@ impl Account {
         self.take_any(entry, orders);
     }
 
-    // Counts the entry, if it is fresh.
+    // Counts the entry if it is new.
     fn take_any(&mut self, entry: Entry, orders: &mut Orders)
         requires valid { IsValidEntry entry }
         requires waits { WaitsFirst (added_by self.old.state (entry ∷ [])) self.old.waiting }
@@ -174,8 +176,8 @@ impl Account {
         }
     }
 
-    // Whether an entry is fresh, if what it adds waits first. A name that is held never waits,
-    // so that no name needs to be hashed.
+    // Whether an entry is new, if what it adds waits first. A name in the account never waits, so
+    // no name needs to be hashed.
     fn is_next(&self, entry: &Entry) -> bool
         requires { WaitsFirst (added_by self.now.state (entry.now ∷ [])) self.now.waiting }
         ensures { result ≡ is_fresh_in self.now.state entry.now }
@@ -194,7 +196,7 @@ impl Account {
         }
     }
 
-    // Counts a fact that is fresh: its name, and then its items.
+    // Counts a fact that is new: its name, and then its items.
     fn take_fact(&mut self, fact: &Fact, orders: &mut Orders)
         requires ready { CanTakeFact self.old fact.now }
         requires room { 2 * length fact.now.items ≤ orders.old.room }
@@ -245,7 +247,7 @@ impl Account {
         orders.push_some(replaced);
     }
 
-    // Puts in force the limit that an entry sets, for pages or for modules.
+    // Puts the limit of an entry in force, for pages or for modules.
     fn put_limit(&mut self, entry: &Entry)
         requires limit { SetsLimit entry.now }
         requires room { self.old.state.entries < MOST_ENTRIES }
@@ -256,7 +258,7 @@ impl Account {
         self.in_force.put(entry);
     }
 
-    // Retires the boots below a number: their names are dropped.
+    // Retires the boots below a number: drops their names.
     fn retire(&mut self, boot: u64)
         requires { self.old.state.entries < MOST_ENTRIES }
         ensures state { self.new.state ≡ account_after_fresh (account_with_count self.old.state) (Entry.Retire boot) }
@@ -267,8 +269,8 @@ impl Account {
         self.names.retire(boot);
     }
 
-    /// Takes a mark: from now on no module has a bucket or is to be replaced, and all else stays.
-    /// Nothing may wait.
+    /// Takes an upgrade marker: from now on no module has a bucket or is to be replaced, and
+    /// everything else stays. Requires that nothing waits.
     pub fn mark(&mut self)
         requires { self.old.waiting ≡ nothing }
         ensures state { self.new.state ≡ account_after_mark self.old.state }
@@ -279,7 +281,7 @@ impl Account {
         self.modules.mark();
     }
 
-    /// How many names are held.
+    /// Returns how many names are in the account.
     pub fn names_len(&self) -> usize
         ensures count { result ≡ length self.now.state.names }
         ensures account { IsAccount self.now.state }
@@ -287,7 +289,8 @@ impl Account {
         self.names.len()
     }
 
-    /// The name held at a place, from 0 in the order in which they came.
+    /// Returns a name by its index, from 0 in the order in which the names came. The index has to
+    /// be below `names_len`.
     pub fn name(&self, i: usize) -> &Name
         requires { i < length self.now.state.names }
         ensures { slice_get self.now.state.names i ≡ Some result.now }
@@ -295,7 +298,7 @@ impl Account {
         self.names.get(i)
     }
 
-    /// How many entries are counted.
+    /// Returns how many entries are counted.
     pub fn entries(&self) -> u64
         ensures count { result ≡ self.now.state.entries }
         ensures account { IsAccount self.now.state }
@@ -303,7 +306,7 @@ impl Account {
         self.entries
     }
 
-    /// The weights of all items together.
+    /// Returns the sum of the weights of all items.
     pub fn total(&self) -> u64
         ensures total { result ≡ self.now.state.total }
         ensures rows { result ≡ weight_in self.now.state.modules }
@@ -312,14 +315,14 @@ impl Account {
         self.total
     }
 
-    /// The floor: all boots below it are retired.
+    /// Returns the floor: all boots below it are retired, and 0 means none.
     pub fn floor(&self) -> u64
         ensures { result ≡ self.now.state.floor }
     {
         self.in_force.floor
     }
 
-    /// The limit in force for pages.
+    /// Returns the limit in force for pages.
     pub fn limit(&self) -> Limit
         ensures limit { result ≡ self.now.state.limit }
         ensures valid { IsLimit result }
@@ -327,7 +330,7 @@ impl Account {
         self.in_force.limit
     }
 
-    /// The limit in force for modules.
+    /// Returns the limit in force for modules.
     pub fn module_limit(&self) -> Limit
         ensures limit { result ≡ self.now.state.module_limit }
         ensures valid { IsLimit result }
@@ -335,14 +338,15 @@ impl Account {
         self.in_force.module_limit
     }
 
-    /// How many modules have a row.
+    /// Returns how many modules have a row.
     pub fn modules_len(&self) -> usize
         ensures { result ≡ length self.now.state.modules }
     {
         self.modules.len()
     }
 
-    /// The row of the module at a place, from 0 in the order in which they were first seen.
+    /// Returns the row of a module by its index, from 0 in the order in which the modules were
+    /// first seen. The index has to be below `modules_len`.
     pub fn module(&self, i: usize) -> &ModuleRow
         requires { i < length self.now.state.modules }
         ensures { slice_get self.now.state.modules i ≡ Some (row_of result.now) }
@@ -350,7 +354,7 @@ impl Account {
         self.modules.row(i)
     }
 
-    /// The pages, in the order in which they were first seen.
+    /// Returns the pages with their rows, in the order in which they were first seen.
     pub fn pages(&self) -> &Pages
         ensures { result.now.rows ≡ self.now.state.pages }
     {

@@ -1,4 +1,4 @@
-//! What an account is, in other words than its definitions.
+//! What an account is, in words that don't follow its definitions.
 
 ghost use Rattle.std.specs.Prelude.{◌≡◌, ◌≤◌, ◌+◌, ◌==◌, ◌&&◌, ◌||◌, ◌^◌, not, ◌↔◌, ℕ, max, List, [], ◌∷◌, ◌++◌, if◌then◌else◌, IsTrue, All, Contains, Some, None, map, nat_eq, nat_le, length};
 ghost use Rattle.std.specs.Bool.{IsFalse};
@@ -31,10 +31,10 @@ ghost use Rattle.ras_account.specs.Accounts.{IsAccount};
 
 use crate::{FIRST_LIMIT, FIRST_MODULE_LIMIT, MOST_ENTRIES, MOST_NAMES, MOST_TOTAL};
 
-/// The laws of the account of a history. The function does nothing: its clauses are what it is for.
+/// What holds of the account of a history.
 pub fn account_laws()
-    // The account of a history with an entry or a mark after it is that of the history, continued
-    // by it.
+    // The account of a history with an entry or an upgrade marker after it is the account of the
+    // history, continued by it.
     ensures entry { (history : History) (entry : Entry)
         → account_of (with_entry history entry) ≡ account_after (account_of history) entry }
     ensures mark { (history : History)
@@ -46,11 +46,11 @@ pub fn account_laws()
         → account_of (followed_by history more)
         ≡ account_after_history (account_of history) more }
 
-    // Accounts that are equal stay equal, whatever follows.
+    // Equal accounts stay equal, whatever follows.
     ensures equal { (one other more : History) → AreSame one other
         → AreSame (followed_by one more) (followed_by other more) }
 
-    // An entry that isn't fresh changes nothing, and an account knows which entries are.
+    // An entry that isn't new changes nothing, and the account says which entries are new.
     ensures freshness { (history : History) (entry : Entry)
         → is_fresh_in (account_of history) entry ≡ is_fresh_behind history entry }
     ensures stale { (history : History) (entry : Entry)
@@ -58,13 +58,13 @@ pub fn account_laws()
     ensures stale_orders { (history : History) (entry : Entry)
         → IsFalse (is_fresh_behind history entry) → orders_behind history entry ≡ [] }
 
-    // The fresh entries alone give the account again, as if they were all that was kept.
+    // The new entries by themselves give the same account, as if they were all that was kept.
     ensures refreshed { (history : History) → IsUnmarked history
         → AreSame (history_of (fresh_entries history)) history }
     ensures unmarked { (entries : List Entry) → IsUnmarked (history_of entries) }
 
-    // An account holds exactly the names of the history's facts whose boots aren't retired, and
-    // each of them once, as each label and each page.
+    // An account has exactly the names of the history's facts whose boots aren't retired. It has
+    // each name, each label and each page once.
     ensures held { (history : History) (name : Name)
         → Contains (account_of history).names name ↔ IsKeptAfter history name }
     ensures names_once { (history : History) → IsDistinct same_name (account_of history).names }
@@ -73,7 +73,8 @@ pub fn account_laws()
     ensures pages_once { (history : History)
         → IsDistinct nat_eq (keys_of (account_of history).pages) }
 
-    // The row of a label says what is counted of it, and the rows together are the total weight.
+    // The row of a label says what is counted of it, and the sums of all rows add up to the total
+    // weight.
     ensures counts { (history : History) (label : Bytes)
         → lookup (same_label label) (account_of history).modules
         ≡ (if is_seen history label then Some (module_of history label) else None) }
@@ -81,30 +82,30 @@ pub fn account_laws()
         → weight_in (account_of history).modules ≡ (account_of history).total }
 {}
 
-/// The laws of the names that an account knows. The function does nothing: its clauses are what it
-/// is for.
+/// What holds of the names that an account knows.
 pub fn known_laws()
-    // The account of a history knows the names of its facts, and all names of retired boots.
+    // The account of a history knows the names of the history's facts, and all names of retired
+    // boots.
     ensures known { (history : History) (name : Name)
         → knows (account_of history) name
         ≡ (is_among (names_in history) name || is_retired (floor_after history) name) }
 
-    // What is known stays known, whatever follows.
+    // A known name stays known, whatever follows.
     ensures known_after { (history more : History) (name : Name)
         → IsTrue (knows (account_of history) name)
         → IsTrue (knows (account_of (followed_by history more)) name) }
     ensures known_after_entries { (a : State) (entries : List Entry) (name : Name)
         → IsTrue (knows a name) → IsTrue (knows (account_after_all a entries) name) }
 
-    // Each fact among entries is known after them, whether it was fresh or not.
+    // Each fact among entries is known after them, whether it was new or not.
     ensures counted { (a : State) (entries : List Entry) (fact : Fact)
         → Contains entries (Entry.Fact fact)
         → IsTrue (knows (account_after_all a entries) fact.name) }
 {}
 
-/// The laws of retired boots. The function does nothing: its clauses are what it is for.
+/// What holds of retired boots.
 pub fn retire_laws()
-    // The floor never falls, and what is retired stays so.
+    // The floor never falls, so a retired boot stays retired.
     ensures floor { (history more : History)
         → floor_after history ≤ floor_after (followed_by history more) }
 
@@ -116,7 +117,7 @@ pub fn retire_laws()
         → IsTrue (is_retired (floor_after history) fact.name)
         → orders_behind (followed_by history more) (Entry.Fact fact) ≡ [] }
 
-    // A retire changes the names, the floor and the number of entries alone: counts, modules and
+    // A retire changes only the names, the floor and the number of entries: counts, modules and
     // pages stay.
     ensures keeps { (history : History) (boot : ℕ)
         → record (account_of (with_retire history boot)) {
@@ -131,29 +132,30 @@ pub fn retire_laws()
         ≡ (account_of (with_retire history (max one other))).names }
 {}
 
-/// The laws of the orders of a history. The function does nothing: its clauses are what it is for.
+/// What holds of the orders of a history.
 pub fn order_laws()
-    // The orders that an entry gives after a history are those by which its account is continued.
+    // The orders that an entry gives after a history are the orders with which its account is
+    // continued.
     ensures ordered { (history : History) (entry : Entry)
         → orders_behind history entry ≡ orders_at (account_of history) entry }
 
-    // Of all orders of a history those for a page are what the page's own reports give: at most one
-    // soft and one hard, and never a soft one after a hard one.
+    // The orders of a history for one page depend only on the page's own reports: at most one soft
+    // and one hard, and never a soft one after a hard one.
     ensures page { (history : History) (page : ℕ)
         → orders_for_page page (orders history)
         ≡ orders_of (reports_of (sightings history)) page }
     ensures page_once { (history : History) (page : ℕ)
         → AreOnceInOrder page (orders_for_page page (orders history)) }
 
-    // Since the last mark a module was asked to be replaced once if its own corrected errors
-    // have made its bucket trip, and else not at all, whatever other modules do.
+    // Since the last upgrade marker a module was ordered replaced once if its own corrected errors
+    // made its bucket trip, and otherwise never, whatever other modules do.
     ensures module { (history : History) (label : Bytes) → HasRow history label
         → replace_orders history label
         ≡ (if has_tripped (module_errors history label)
         then replace_order history label ∷ [] else []) }
 
-    // An entry asks for a module exactly if, with the entry's items, the module's own corrected
-    // errors make its bucket trip the first time since the last mark.
+    // An entry orders a module replaced if and only if, with the entry's items, the module's own
+    // corrected errors make its bucket trip for the first time since the last upgrade marker.
     ensures module_at { (history : History) (entry : Entry) (label : Bytes)
         → HasRow (with_entry history entry) label
         → replace_orders_at history entry label
@@ -161,17 +163,17 @@ pub fn order_laws()
         then replace_order (with_entry history entry) label ∷ [] else []) }
 {}
 
-/// The laws of the buckets of modules. The function does nothing: its clauses are what it is for.
+/// What holds of the buckets of modules.
 pub fn module_laws()
-    // Single corrected errors of a module within one period ask for it to be replaced once their
-    // number reaches the capacity, and not before.
+    // Single corrected errors of a module within one period order it replaced once their number
+    // reaches the capacity, and not before.
     ensures capacity { (history : History) (label : Bytes) (limit : Limit) → IsLimit limit
         → AreSingleErrors limit (module_errors history label)
         → has_tripped (module_errors history label)
         ≡ nat_le limit.capacity (length (module_errors history label)) }
 
-    // A bucket that isn't above its capacity is empty after a whole period: it goes on as one that
-    // begins at the next error.
+    // A bucket whose count isn't above the capacity is empty after a whole period: from then on it
+    // is like a bucket that begins at the next error.
     ensures empties { (bucket : Bucket) (s : Sighting) → IsLimit s.module_limit
         → bucket.count ≤ s.module_limit.capacity → IsLate bucket s
         → bucket_with (Some bucket) s ≡ bucket_with None s }
@@ -180,10 +182,10 @@ pub fn module_laws()
         → trips_at (Some bucket) s ≡ trips_at None s }
 {}
 
-/// The laws of accounts that no history needs to give. The function does nothing: its clauses are
-/// what it is for.
+/// What holds of every account, even if no history gives it.
 pub fn kept_laws()
-    // The empty account is one, and a valid entry or a mark keeps it so, within the three numbers.
+    // The empty account is an account, and a valid entry or an upgrade marker leaves one, within
+    // the three numbers.
     ensures empty { IsAccount (account_of empty) }
     ensures entry { (a : State) (entry : Entry) → IsAccount a → IsValidEntry entry
         → IsWithin (account_after a entry) → IsAccount (account_after a entry) }
@@ -191,15 +193,13 @@ pub fn kept_laws()
         → StaysWithin a entries → IsAccount (account_after_all a entries) }
     ensures mark { (a : State) → IsAccount a → IsAccount (account_after_mark a) }
 
-    // Its numbers and rows alone give an account again.
+    // An account can be made again from its numbers and rows.
     ensures rows { (a : State) → IsAccount a → account_from_rows a ≡ a }
 {}
 
-/// The laws by which each entry of a list can be taken in turn once the list was reserved. The
-/// function does nothing: its clauses are what it is for.
+/// Why each entry of a list can be taken in turn once the list was reserved.
 pub fn reserve_laws()
-    // What a list adds begins with what its first entry adds, and goes on with what the others then
-    // add.
+    // What a list adds is what its first entry adds, followed by what the other entries then add.
     ensures in_turn { (a : State) (entry : Entry) (entries : List Entry)
         → added_by a (entry ∷ entries)
         ≡ then_waits (added_by a (entry ∷ [])) (added_by (account_after a entry) entries) }
@@ -214,8 +214,8 @@ pub fn reserve_laws()
         → IsFalse (are_past (numbers_with a entries)) ↔ HasRoomFor a entries }
     ensures now_past { (a : State) → IsFalse (are_past (numbers_of a)) ↔ IsWithin a }
 
-    // If there is room for all that a list adds, the account stays within its numbers at every
-    // front of the list, and then there is room for what the others add.
+    // If there is room for all that a list adds, the account stays within its numbers after each
+    // entry of the list, and there is then room for what the remaining entries add.
     ensures stays { (a : State) (entries : List Entry)
         → HasRoomFor a entries → StaysWithin a entries }
     ensures front { (a : State) (front more : List Entry)
@@ -224,8 +224,7 @@ pub fn reserve_laws()
         → HasRoomFor a (entry ∷ entries) → HasRoomFor (account_after a entry) entries }
 {}
 
-/// The numbers that the definitions cite by name. The function does nothing: its clauses are what
-/// it is for.
+/// The numbers that the definitions cite by name have these digits.
 pub fn numbers_in_digits()
     ensures names { MOST_NAMES ≡ 200_000 }
     ensures entries { MOST_ENTRIES ≡ 2 ^ 62 }

@@ -1,8 +1,11 @@
 //! What was counted so far: each report once, by its name, with what it says of memory modules and
 //! of pages.
 //!
-//! An account is a function of its history: the entries and the marks that it took. The definitions
-//! in `specs/` say which one, and the contracts of `Account` say that each call keeps it.
+//! An account is a function of its history: the entries and the upgrade markers that it took. The
+//! definitions in `specs/` say which function, and the contracts of `Account` say that each call
+//! keeps to it.
+//!
+//! A public function with an empty body is a law: its clauses are the point.
 #![tactic(auto)]
 
 mod account;

@@ -2,7 +2,7 @@
 
 use page_policy::Limit;
 
-/// The most names that an account holds.
+/// The most names in an account.
 pub const MOST_NAMES: usize = 200_000;
 
 /// The most entries that an account counts.

@@ -1,4 +1,4 @@
-//! The rows of memory modules, the held ones first and after them those of labels that wait.
+//! The rows of memory modules, and after them the labels that wait for a row.
 ghost use Rattle.std.specs.Prelude.{◌≡◌, ◌↔◌, ◌+◌, ◌<◌, ◌≤◌, ◌++◌, [], ◌∷◌, IsTrue, None, Some, Err, OnOk, OnErr, ◌&&◌, not, false, if◌then◌else◌, length, map, sum, slice_get};
 ghost use Rattle.std.specs.List.{list_any};
 ghost use Rattle.std.specs.Map.{keys_of};
@@ -27,13 +27,13 @@ use std::marker::Model;
 /// What was counted of a memory module.
 #[derive(Clone, Copy, Debug, PartialEq, Eq)]
 pub struct ModuleRow {
-    /// The module's label, or none.
+    /// The module's label, or `Label::none()`.
     pub label: Label,
     /// The weights of its items by class, in the order of the class numbers.
     pub sums: [u64; CLASS_COUNT],
-    /// The bucket of its corrected errors since the last mark, if there is one.
+    /// The bucket of its corrected errors since the last upgrade marker, if it had any.
     pub bucket: Option<Bucket>,
-    /// Whether it is to be replaced: the bucket has tripped since the last mark.
+    /// Whether it is to be replaced: its bucket has tripped since the last upgrade marker.
     pub replace: bool,
 }
 
@@ -51,7 +51,7 @@ impl ModuleRow {
         }
     }
 
-    // The row after an item of the module that came at this time, while this limit is in force for
+    // The row after an item of the module that came at this time, with this limit in force for
     // modules.
     fn after(self, item: &Item, seconds: u64, limit: Limit) -> ModuleRow
         requires counting { IsCounting self }
@@ -78,7 +78,7 @@ impl ModuleRow {
         }
     }
 
-    // The row without its bucket, which nothing asks to replace.
+    // The row without its bucket, and not to be replaced.
     fn without_bucket(&self) -> ModuleRow
         ensures { result ≡ record self.now { bucket = None; replace = false } }
     {
@@ -106,7 +106,7 @@ fn fills_bucket(item: &Item) -> bool
     is_corrected(item.class) && Label::none() != item.label
 }
 
-// The order to replace the module at a place, if nothing asked for it before.
+// The order to replace the module at an index, if it wasn't ordered before.
 fn order_for(place: usize, before: bool, after: bool) -> Option<Order>
     ensures { result ≡ (if not before && after then Some (Order.Module place) else None) }
 {
@@ -116,8 +116,8 @@ fn order_for(place: usize, before: bool, after: bool) -> Option<Order>
     None
 }
 
-// The modules that items named, in first-seen order, each with its row. Labels can wait after
-// them, so that their items can be counted with no memory.
+// The modules that items named, in first-seen order, each with its row. Labels can wait after them,
+// so that their items can be counted without allocating memory.
 #[derive(Drop)]
 pub(crate) struct Modules {
     table: RowTable<Label, ModuleRow>,
@@ -145,8 +145,8 @@ impl Modules {
         }
     }
 
-    // Counts an item that came at this time, while this limit is in force for modules. The answer
-    // is the order to replace its module, if the item is the one that asks for it.
+    // Counts an item that came at this time, with this limit in force for modules. Returns the
+    // order to replace its module, if this item gives it.
     pub(crate) fn count(&mut self, item: &Item, seconds: u64, limit: Limit) -> Option<Order>
         requires next { IsTrue (is_next_label self.old item.now.label) }
         requires limit { IsLimit limit }
@@ -166,7 +166,7 @@ impl Modules {
         order_for(place, was_asked, is_asked)
     }
 
-    // Lets no label wait any longer.
+    // Removes all labels that wait.
     pub(crate) fn give_up(&mut self)
         ensures rows { self.new.rows ≡ self.old.rows }
         ensures waiting { self.new.waiting ≡ [] }
@@ -184,7 +184,7 @@ impl Modules {
         Ok(())
     }
 
-    // Takes each module's bucket away, and asks for none to be replaced.
+    // Removes the bucket of each module, and no module is to be replaced.
     pub(crate) fn mark(&mut self)
         ensures rows { self.new.rows
             ≡ map {B = Bytes × Module} (λ row. (row.0, without_bucket row.1)) self.old.rows }
@@ -196,7 +196,7 @@ impl Modules {
         }
     }
 
-    // Puts a row after the others. No label waits. After a refusal the rows stay.
+    // Appends a row. Requires that no label waits. After an error the rows are unchanged.
     pub(crate) fn push(&mut self, row: ModuleRow) -> Result<(), RowRefused>
         requires waiting { self.old.waiting ≡ [] }
         requires counting { IsCounting row }
@@ -223,7 +223,7 @@ impl Modules {
         self.table.holds(label)
     }
 
-    // The row at a place.
+    // The row at an index.
     pub(crate) fn row(&self, i: usize) -> &ModuleRow
         requires { i < length self.now.rows }
         ensures { slice_get self.now.rows i ≡ Some (row_of result.now) }

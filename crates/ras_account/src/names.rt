@@ -1,4 +1,4 @@
-//! The names that are counted, and after them those that wait.
+//! The names that are counted, and after them the names that wait.
 ghost use Rattle.std.specs.Prelude.{◌≡◌, ◌↔◌, ◌<◌, ◌++◌, [], ◌∷◌, not, IsTrue, Some, Err, IfOk, OnOk, OnErr, length, take, drop, slice_get};
 ghost use Rattle.std.specs.Bool.{IsFalse, OnTrue};
 ghost use Rattle.std.specs.List.{list_any};
@@ -18,7 +18,7 @@ use std::alloc::Global;
 use std::marker::Model;
 
 // Names in the order in which they came. Names can wait after those that are counted, so that they
-// can be counted with no memory.
+// can be counted without allocating memory.
 #[derive(Drop)]
 pub(crate) struct Names {
     table: RowTable<Name, ()>,
@@ -104,7 +104,7 @@ impl Names {
         self.table.begin_next(());
     }
 
-    // Lets no name wait any longer.
+    // Removes all names that wait.
     pub(crate) fn give_up(&mut self)
         ensures held { self.new.held ≡ self.old.held }
         ensures waiting { self.new.waiting ≡ [] }
@@ -112,7 +112,7 @@ impl Names {
         self.table.give_up();
     }
 
-    // Lets a name wait that is neither counted nor waits yet: then the answer is true.
+    // Lets a name wait unless it is counted or waits already, and returns whether it was new.
     pub(crate) fn let_wait(&mut self, name: Name) -> Result<bool, NoMemory>
         ensures held { self.new.held ≡ self.old.held }
         ensures ok { OnOk result (self.new.waiting
@@ -135,7 +135,7 @@ impl Names {
         false
     }
 
-    // Drops the counted names of boots below a floor. What waits stays.
+    // Removes the counted names of boots below a floor. Names that wait stay.
     pub(crate) fn retire(&mut self, floor: u64)
         ensures held { self.new.held ≡ kept_names floor self.old.held }
         ensures waiting { self.new.waiting ≡ self.old.waiting }
@@ -143,14 +143,14 @@ impl Names {
         self.table.retain(&NotRetired { floor });
     }
 
-    // Takes room for this many names more at once. What is counted and what waits stays.
+    // Reserves memory for this many more names at once. The names don't change.
     pub(crate) fn make_room(&mut self, additional: usize) -> Result<(), NoMemory>
         ensures { self.new ≡ self.old }
     {
         self.table.make_room(additional)
     }
 
-    // Counts a name after the others. None waits. After a refusal the names stay.
+    // Appends a counted name. Requires that no name waits. After an error the names are unchanged.
     pub(crate) fn push(&mut self, name: Name) -> Result<(), RowRefused>
         requires { self.old.waiting ≡ [] }
         ensures ok { OnOk result (self.new.held ≡ self.old.held ++ name ∷ []) }

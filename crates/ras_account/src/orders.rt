@@ -7,7 +7,8 @@ use ras_base::NoMemory;
 use std::alloc::Global;
 use std::marker::Model;
 
-/// Orders in the order in which they were given, with room for more, which was taken beforehand.
+/// Orders in the order in which they were given, with memory for more that was allocated
+/// beforehand.
 ///
 /// Contracts see the orders, and how many more there is room for.
 #[derive(Debug, Drop)]
@@ -28,33 +29,33 @@ impl Model for Orders {
 }
 
 impl Orders {
-    /// No orders, and room for `n`.
+    /// Returns an empty list with room for `n` orders.
     pub fn new(alloc: Global, n: usize) -> Result<Orders, NoMemory>
         ensures orders { IfOk result (λ list. list.orders ≡ []) }
         ensures room { IfOk result (λ list. list.room ≡ n) }
     {
-        // What stands at a place before an order is given there is never told.
+        // An element is never read before an order is put there, so its first value doesn't matter.
         Ok(Orders {
             places: vec![in alloc; Order::Soft(0); n]?,
             given: 0,
         })
     }
 
-    /// How many orders were given.
+    /// Returns how many orders were given.
     pub fn len(&self) -> usize
         ensures { result ≡ length self.now.orders }
     {
         self.given
     }
 
-    /// Whether no order was given.
+    /// Returns whether no order was given.
     pub fn is_empty(&self) -> bool
         ensures { IsTrue result ↔ (self.now.orders ≡ []) }
     {
         self.given == 0
     }
 
-    /// The order at a place, from 0.
+    /// Returns an order by its index, from 0, which has to be below `len`.
     pub fn get(&self, i: usize) -> Order
         requires { i < length self.now.orders }
         ensures { slice_get self.now.orders i ≡ Some result }
@@ -62,7 +63,7 @@ impl Orders {
         self.places[i]
     }
 
-    // Puts an order after the others.
+    // Appends an order.
     pub(crate) fn push(&mut self, order: Order)
         requires { 0 < self.old.room }
         ensures orders { self.new.orders ≡ self.old.orders ++ order ∷ [] }
@@ -72,7 +73,7 @@ impl Orders {
         self.given += 1;
     }
 
-    // Puts an order after the others, if there is one.
+    // Appends an order, if there is one.
     pub(crate) fn push_some(&mut self, order: Option<Order>)
         requires { length (option_to_list order) ≤ self.old.room }
         ensures { GivesOrders self.old self.new (option_to_list order) }

@@ -27,10 +27,10 @@ use std::alloc::Global;
 use std::marker::Model;
 use thiserror::Error;
 
-/// Why a name or a module's row can't be put after the others.
+/// Why a name or a module's row can't be added.
 #[derive(Clone, Copy, Debug, PartialEq, Eq, Drop, Error)]
 pub enum PushRefused {
-    /// The name is held, or the label has a row.
+    /// The name or the label is there already.
     #[error("the account holds this already")]
     Repeated,
     /// The account would pass `MOST_NAMES` or `MOST_TOTAL`.
@@ -54,7 +54,7 @@ impl From<RowRefused> for PushRefused {
     }
 }
 
-/// An account that is made again. Nothing waits in it.
+/// An account that is made again from its rows. Nothing waits in it.
 #[derive(Drop)]
 pub struct Rebuilt {
     account: Account,
@@ -73,8 +73,8 @@ impl Model for Rebuilt {
 }
 
 impl Rebuilt {
-    /// An account with these limits for pages and modules in force and this number of entries, at
-    /// most `MOST_ENTRIES`, that has no floor, no names and no rows yet.
+    /// Returns an account with these limits in force for pages and modules, this number of entries,
+    /// and no floor, names or rows yet. Requires at most `MOST_ENTRIES` entries.
     pub fn new(alloc: Global, limit: Limit, module_limit: Limit, entries: u64) -> Rebuilt
         requires limit { IsLimit limit }
         requires module_limit { IsLimit module_limit }
@@ -92,8 +92,8 @@ impl Rebuilt {
         Rebuilt { account }
     }
 
-    /// Sets the floor unless a name is held that it retires: then all stays, and the answer is
-    /// false.
+    /// Sets the floor, and returns true, unless some name in the account is of a boot below it. It
+    /// then returns false and changes nothing.
     pub fn set_floor(&mut self, floor: u64) -> bool
         ensures exact { result ≡ not (has_retired floor self.old.names) }
         ensures set { OnTrue result (self.new ≡ record self.old { floor = floor }) }
@@ -106,17 +106,19 @@ impl Rebuilt {
         true
     }
 
-    /// Takes room at once for this many names more, and for no more than `MOST_NAMES`. All stays.
+    /// Reserves memory for this many more names at once, but for no more than `MOST_NAMES`. The
+    /// account doesn't change.
     pub fn make_room_for_names(&mut self, additional: usize) -> Result<(), NoMemory>
         ensures { self.new ≡ self.old }
     {
         self.account.names.make_room(additional.min(MOST_NAMES))
     }
 
-    /// Puts a name after the others, whose boot isn't retired. After a refusal all stays.
+    /// Appends a name. Requires that its boot isn't retired. After an error the account is
+    /// unchanged.
     ///
-    /// `Repeated` comes exactly if the name is held, and else `Full` exactly if `MOST_NAMES`
-    /// names are.
+    /// `Repeated`: if and only if the name is there already. `Full`: if it isn't and there are
+    /// `MOST_NAMES` names, unless memory runs out; never otherwise.
     pub fn push_name(&mut self, name: Name) -> Result<(), PushRefused>
         requires { IsFalse (is_retired self.old.floor name) }
         ensures ok { OnOk result (self.new ≡ with_name self.old name) }
@@ -137,12 +139,12 @@ impl Rebuilt {
         }
     }
 
-    /// Puts the row of a module after the others, and adds its ten sums to the total weight. The
-    /// bucket has to hold at most 999,999 errors; a row without a bucket can't be to be replaced,
-    /// and a row without a label has no bucket. After a refusal all stays.
+    /// Appends the row of a module, and adds its ten sums to the total weight. Requires a bucket of
+    /// at most 999,999 errors, no bucket in a row without a label, and nothing to replace in a row
+    /// without a bucket. After an error the account is unchanged.
     ///
-    /// `Repeated` comes exactly if the label has a row, and else `Full` exactly if the total
-    /// weight would pass `MOST_TOTAL`.
+    /// `Repeated`: if and only if the label has a row. `Full`: if it hasn't and the total weight
+    /// would exceed `MOST_TOTAL`, unless memory runs out; never otherwise.
     pub fn push_module(&mut self, row: ModuleRow) -> Result<(), PushRefused>
         requires count { IfSome row.bucket (λ bucket. bucket.count ≤ most_count) }
         requires replace { row.bucket ≡ None → IsFalse row.replace }
@@ -166,10 +168,10 @@ impl Rebuilt {
         }
     }
 
-    /// Puts the row of a page after the others: a page below 2^52, with a bucket of at most
-    /// 999,999 errors. After a refusal all stays.
+    /// Appends the row of a page. Requires a page below 2^52 and a bucket of at most 999,999
+    /// errors. After an error the account is unchanged.
     ///
-    /// `Repeated` comes exactly if the page has a row.
+    /// `Repeated`: if and only if the page has a row.
     pub fn push_page(
         &mut self,
         page: u64,
@@ -187,7 +189,7 @@ impl Rebuilt {
         self.account.pages.push_row(page, bucket, state)
     }
 
-    /// The account, in which nothing waits.
+    /// Returns the account that was made again. Nothing waits in it.
     pub fn into_account(self) -> Account
         ensures state { result.state ≡ self }
         ensures waiting { result.waiting ≡ nothing }
@@ -198,7 +200,7 @@ impl Rebuilt {
     }
 }
 
-// So that a clause can tell that each number of a name fits its field.
+// The types of a name's fields give the clause that each number fits its field.
 fn tell_valid_name(name: &Name)
     ensures { IsValidName name.now }
 {
@@ -219,7 +221,7 @@ fn tell_valid_name(name: &Name)
     }
 }
 
-// And numbers of these types.
+// The types of these numbers give the clause that each fits its field.
 fn tell_ranges(boot: u64, cpu: u16, bank: u8, tsc: u64)
     ensures boot { boot < 2 ^ 64 }
     ensures cpu { cpu < 2 ^ 16 }
@@ -229,14 +231,14 @@ fn tell_ranges(boot: u64, cpu: u16, bank: u8, tsc: u64)
     let _ = (boot, cpu, bank, tsc);
 }
 
-// And the time of a bucket.
+// The type of a bucket's time gives the clause that it fits its field.
 fn tell_valid_bucket(bucket: Bucket)
     ensures { bucket.stamp < 2 ^ 64 }
 {
     let _ = bucket.stamp;
 }
 
-// And a row's label, its ten sums and the time of its bucket.
+// The types of a row's label, sums and time give the clause that they fit their fields.
 fn tell_valid_row(row: &ModuleRow)
     ensures label { IsTrue (is_label_or_none row.now.label) }
     ensures ten { length row.now.sums ≡ CLASS_COUNT }
@@ -249,7 +251,7 @@ fn tell_valid_row(row: &ModuleRow)
     }
 }
 
-// The total weight with ten sums more; None if it passes `MOST_TOTAL`.
+// The total weight with ten more sums, or `None` if it exceeds `MOST_TOTAL`.
 fn weight_with(total: u64, sums: &[u64; CLASS_COUNT]) -> Option<u64>
     requires { total ≤ MOST_TOTAL }
     ensures some { IfSome result (λ more. more ≡ total + sum sums.now) }

@@ -1,4 +1,4 @@
-//! What a list of entries adds to an account, noted before any of them is taken.
+//! What a list of entries adds to an account, reserved before any of them is taken.
 ghost use Rattle.std.specs.Prelude.{◌≡◌, List, [], ◌∷◌, ◌++◌, Err, IfOk, OnOk, OnErr};
 ghost use Rattle.ras_account.specs.declared.reserve.ReserveRefused.TheVariants.{NoMemory as NoMemoryForEntries, Full};
 ghost use Rattle.ras_facts.specs.declared.entry.Entry.{Entry};
@@ -15,11 +15,11 @@ use ras_base::NoMemory;
 use ras_facts::{Entry, Item};
 use thiserror::Error;
 
-/// Why entries can't be let wait.
+/// Why nothing can be reserved for a list of entries.
 #[derive(Clone, Copy, Debug, PartialEq, Eq, Drop, Error)]
 pub enum ReserveRefused {
-    /// With those of the entries that are fresh the account would pass `MOST_NAMES`, `MOST_ENTRIES`
-    /// or `MOST_TOTAL`.
+    /// With the new entries of the list the account would exceed `MOST_NAMES`, `MOST_ENTRIES` or
+    /// `MOST_TOTAL`.
     #[error("the account is full")]
     Full,
     /// Memory ran out.
@@ -36,13 +36,13 @@ impl From<NoMemory> for ReserveRefused {
 }
 
 impl Account {
-    /// Lets what these entries add wait, so that each entry can be taken in turn with no memory:
-    /// the names, the labels and the pages that they bring first. What waited before is given up.
-    /// What is counted stays, and after a refusal nothing waits.
+    /// Reserves what these entries add, so that each can be taken in turn without allocating
+    /// memory: the names, labels and pages that they bring first then wait. What waited before no
+    /// longer does. What is counted doesn't change, and after an error nothing waits.
     ///
-    /// `Full` comes exactly if the names held, the entries or the total weight, with all that is
-    /// fresh of the list, pass `MOST_NAMES`, `MOST_ENTRIES` or `MOST_TOTAL`, unless memory runs
-    /// out first.
+    /// `Full`: if and only if the number of names, the number of entries or the total weight, with
+    /// all new entries of the list, would exceed `MOST_NAMES`, `MOST_ENTRIES` or `MOST_TOTAL`,
+    /// unless memory runs out first.
     pub fn reserve(&mut self, entries: &[Entry]) -> Result<(), ReserveRefused>
         ensures state { self.new.state ≡ self.old.state }
         ensures ok { OnOk result (self.new.waiting ≡ added_by self.old.state entries.now) }
@@ -59,7 +59,7 @@ impl Account {
         }
     }
 
-    // Lets what these entries add wait, in the place of what waited before.
+    // Reserves what these entries add, instead of what waited before.
     fn let_wait(&mut self, entries: &[Entry]) -> Result<(), ReserveRefused>
         ensures { Reserves result self.old.state self.new entries.now }
     {
@@ -70,7 +70,7 @@ impl Account {
         self.end_tally(&tally)
     }
 
-    /// Lets nothing wait any longer.
+    /// Removes all names, labels and pages that wait.
     pub fn give_up(&mut self)
         ensures { self.new ≡ record self.old { waiting = nothing } }
     {
@@ -79,7 +79,7 @@ impl Account {
         self.pages.give_up();
     }
 
-    /// A tally of no entries. What waited before is given up.
+    /// Returns an empty tally of entries. What waited before no longer does.
     pub fn begin_tally(&mut self) -> Tally
         ensures state { self.new.state ≡ self.old.state }
         ensures tally { IsTallyOf self.new result [] }
@@ -93,12 +93,12 @@ impl Account {
         }
     }
 
-    /// Puts an entry after those of a tally, if it is fresh behind them: the answer says whether it
+    /// Appends an entry to a tally if it is new after the tally's entries, and returns whether it
     /// is. Its name and its labels then wait, and its pages are in the tally.
     ///
     /// # Errors
     ///
-    /// `NoMemory` comes only if memory runs out.
+    /// `NoMemory`: only if memory runs out.
     pub fn wait_if_fresh(&mut self, tally: &mut Tally, entry: &Entry) -> Result<bool, NoMemory>
         ensures state { self.new.state ≡ self.old.state }
         ensures fresh { (before : List Entry) → IsTallyOf self.old tally.old before
@@ -121,10 +121,11 @@ impl Account {
         Ok(true)
     }
 
-    /// Lets the pages of a tally wait too, so that its entries can be taken in turn with no memory.
+    /// Reserves the pages of a tally too, so that its entries can be taken in turn without
+    /// allocating memory.
     ///
-    /// `Full` comes exactly if the names held, the entries or the total weight, with all that is
-    /// fresh of them, pass `MOST_NAMES`, `MOST_ENTRIES` or `MOST_TOTAL`.
+    /// `Full`: if and only if the number of names, the number of entries or the total weight, with
+    /// the tally's entries, would exceed `MOST_NAMES`, `MOST_ENTRIES` or `MOST_TOTAL`.
     pub fn end_tally(&mut self, tally: &Tally) -> Result<(), ReserveRefused>
         ensures { (entries : List Entry) → IsTallyOf self.old tally.now entries
             → Reserves result self.old.state self.new entries }

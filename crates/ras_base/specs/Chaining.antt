@@ -1,7 +1,8 @@
--- One reading after another; the first error is the answer.
+-- One reading after another; the first error is returned.
 use Rattle.std.specs.Prelude.{Result, Ok, Err}
 
 infixl 10 ◌>>=◌
+-- the second reading applied to what the first one gave
 abbrev pub ◌>>=◌ : {A B E : Type 0} → Result A E → (A → Result B E) → Result B E
 (Ok x) >>= f = f x
 (Err why) >>= f = Err why

@@ -1,11 +1,11 @@
--- The elements of a list at their places.
+-- Each element of a list with the elements before it.
 use Rattle.std.specs.Prelude.{List, [], ◌∷◌, ◌++◌}
 
--- each element of a list with all that stands before it, where another list stands before the whole
+-- each element of a list with all elements before it, where another list comes before the whole
 abbrev pub places_behind : {X : Type 0} → List X → List X → List (List X × X)
 places_behind before [] = []
 places_behind before (x ∷ xs) = (before, x) ∷ places_behind (before ++ x ∷ []) xs
 
--- each element of a list with all that stands before it
+-- each element of a list with all elements before it
 abbrev pub places : {X : Type 0} → List X → List (List X × X)
 places xs = places_behind [] xs

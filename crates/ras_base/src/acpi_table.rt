@@ -3,8 +3,8 @@
 ghost use Rattle.std.specs.Prelude.{◌≡◌};
 ghost use Rattle.ras_base.specs.AcpiTable.{has_sum};
 
-/// Whether the bytes of a table sum to 0 modulo 256, as its checksum byte makes them: ACPI 6.5,
-/// section 5.2.6.
+/// Returns whether the bytes of a table sum to 0 modulo 256, as its checksum byte makes them: ACPI
+/// 6.5, section 5.2.6.
 pub fn has_sum(table: &[u8]) -> bool
     ensures { result ≡ has_sum table.now }
 {

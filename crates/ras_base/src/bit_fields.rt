@@ -3,7 +3,7 @@
 ghost use Rattle.std.specs.Prelude.{◌≡◌, ◌<◌, ◌+◌, ◌≤◌, ◌^◌};
 ghost use Rattle.ras_base.specs.Bits.{is_set, bits};
 
-/// Whether a bit of a field is 1.
+/// Returns whether a bit of a field is 1.
 pub fn is_set(bit: u32, field: u64) -> bool
     requires { bit < 64 }
     ensures { result ≡ is_set bit field }
@@ -11,7 +11,7 @@ pub fn is_set(bit: u32, field: u64) -> bool
     field >> bit & 1 == 1
 }
 
-/// The number in `width` bits of a field from bit `low` on.
+/// Returns the number in `width` bits of a field from bit `low` on.
 #[tactic(auto, using(crate::proofs::BitLemmas::mask_of_ones))]
 pub fn bits(low: u32, width: u32, field: u64) -> u64
     requires place { low < 64 }

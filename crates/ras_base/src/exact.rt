@@ -3,7 +3,8 @@
 ghost use Rattle.std.specs.Prelude.{◌≡◌, true};
 ghost use Rattle.ras_base.specs.Steps.ExactLemmas.{nat_exact};
 
-/// A type at which `==` holds of no two values that differ, so that one stands for the other.
+/// A type whose `==` holds only of equal values, so that either of two such values can replace the
+/// other.
 pub trait ExactEq: Eq {
     ghost exact: { (one other : Self) → Self.eq one other ≡ true → one ≡ other };
 }

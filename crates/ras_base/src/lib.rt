@@ -1,5 +1,5 @@
-//! What several crates share: want of memory, bits and little-endian numbers, the sum of a table,
-//! numbers in printed text, and words that their contracts cite.
+//! What several crates share: running out of memory, bits and little-endian numbers, the sum of a
+//! table, numbers in printed text, and words that their contracts cite.
 #![tactic(auto)]
 
 ghost use Rattle.std.specs.Prelude.{◌≡◌};
@@ -16,7 +16,7 @@ pub use exact::ExactEq;
 use std::alloc::{AllocError, AllocFailed};
 pub use text::push_number;
 
-/// Memory ran out. It is the one answer that no contract ties to a cause.
+/// Memory ran out: the only error for which no contract says when it is returned.
 #[derive(Clone, Copy, Debug, PartialEq, Eq)]
 pub struct NoMemory;
 

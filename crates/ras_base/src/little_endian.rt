@@ -5,7 +5,7 @@ ghost use Rattle.ras_base.specs.LittleEndian.{u16_bytes, u32_bytes, u64_bytes, n
 
 use crate::NoMemory;
 
-/// The number of two bytes from a place on.
+/// Returns the number in the two bytes from `place` on, which have to be there.
 #[tactic(auto, unfolding(crate::specs::LittleEndian::number_at))]
 pub fn u16_at(bytes: &[u8], place: usize) -> u16
     requires { place + 2 ≤ length bytes.now }
@@ -14,7 +14,7 @@ pub fn u16_at(bytes: &[u8], place: usize) -> u16
     u16::from_le_bytes([bytes[place], bytes[place + 1]])
 }
 
-/// The number of four bytes from a place on.
+/// Returns the number in the four bytes from `place` on, which have to be there.
 #[tactic(auto, unfolding(crate::specs::LittleEndian::number_at))]
 pub fn u32_at(bytes: &[u8], place: usize) -> u32
     requires { place + 4 ≤ length bytes.now }
@@ -28,7 +28,7 @@ pub fn u32_at(bytes: &[u8], place: usize) -> u32
     ])
 }
 
-/// The number of eight bytes from a place on.
+/// Returns the number in the eight bytes from `place` on, which have to be there.
 #[tactic(auto, unfolding(crate::specs::LittleEndian::number_at))]
 pub fn u64_at(bytes: &[u8], place: usize) -> u64
     requires { place + 8 ≤ length bytes.now }
@@ -46,7 +46,7 @@ pub fn u64_at(bytes: &[u8], place: usize) -> u64
     ])
 }
 
-/// Adds a number of two bytes.
+/// Appends a number as two bytes. If memory runs out, nothing is added.
 #[tactic(auto, unfolding(crate::specs::LittleEndian::u16_bytes))]
 pub fn push_u16(out: &mut Vec<u8>, number: u16) -> Result<(), NoMemory>
     ensures ok { OnOk result (out.new.items ≡ out.old.items ++ u16_bytes number) }
@@ -56,7 +56,7 @@ pub fn push_u16(out: &mut Vec<u8>, number: u16) -> Result<(), NoMemory>
     Ok(())
 }
 
-/// Adds a number of four bytes.
+/// Appends a number as four bytes. If memory runs out, nothing is added.
 #[tactic(auto, unfolding(crate::specs::LittleEndian::u32_bytes))]
 pub fn push_u32(out: &mut Vec<u8>, number: u32) -> Result<(), NoMemory>
     ensures ok { OnOk result (out.new.items ≡ out.old.items ++ u32_bytes number) }
@@ -66,7 +66,7 @@ pub fn push_u32(out: &mut Vec<u8>, number: u32) -> Result<(), NoMemory>
     Ok(())
 }
 
-/// Adds a number of eight bytes.
+/// Appends a number as eight bytes. If memory runs out, nothing is added.
 #[tactic(auto, unfolding(crate::specs::LittleEndian::u64_bytes))]
 pub fn push_u64(out: &mut Vec<u8>, number: u64) -> Result<(), NoMemory>
     ensures ok { OnOk result (out.new.items ≡ out.old.items ++ u64_bytes number) }

@@ -5,16 +5,16 @@ ghost use Rattle.std.specs.Prelude.{◌≡◌, ◌++◌, decimal, OnOk};
 use crate::NoMemory;
 use itoa::Buffer;
 
-/// Adds a number in decimal.
+/// Appends a number in decimal.
 ///
 /// # Errors
 ///
-/// `NoMemory` comes only if memory runs out.
+/// `NoMemory`: only if memory runs out.
 #[tactic(auto, using(std::proofs::lemmas::Fmt::decimal_digit))]
 pub fn push_number(text: &mut Vec<u8>, number: u64) -> Result<(), NoMemory>
     ensures { OnOk result (text.new.items ≡ text.old.items ++ decimal number) }
 {
-    // Most numbers of a name are one digit.
+    // Most numbers that are printed have one digit, and these need no buffer.
     if number < 10 {
         text.push(b'0' + number as u8)?;
         return Ok(());

@@ -1,2 +1,3 @@
+pub mod CauseLemmas
 pub mod FolderLemmas
 pub mod OverLemmas

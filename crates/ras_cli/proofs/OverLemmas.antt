@@ -23,7 +23,7 @@ use Rattle.ras_daemon.specs.RunOutput.{run_output}
 use Rattle.ras_daemon.specs.RunStatus.{start_of}
 use Rattle.ras_daemon.specs.StoreDuring.{store_at_end}
 use Rattle.ras_daemon.specs.declared.word.Task.{Task}
-use Rattle.ras_daemon.specs.declared.word.Task.TheVariants.{Run, Report, Load, Pcie, Klog, TraceLines, KlogLines, Help, Version}
+use Rattle.ras_daemon.specs.declared.word.Task.TheVariants.{Run, Report, Load, Pcie, Klog, TraceLines, KlogLines, GhesLines, Help, Version}
 use Rattle.ras_exit.specs.Endings.{CallEnding, OnAnswer, UnlessFaulted, answered, starved, faulted, source_failed, ending_of}
 use Rattle.ras_exit.specs.StopLine.{stop_line}
 use Rattle.ras_exit.specs.Telling.{OnlyText, PrintsPart}
@@ -51,6 +51,7 @@ over_folder P (Some Pcie) left past gives = tt
 over_folder P (Some (Klog boot cap)) left past gives = tt
 over_folder P (Some (TraceLines boot)) left past gives = tt
 over_folder P (Some (KlogLines boot cap)) left past gives = tt
+over_folder P (Some (GhesLines boot began)) left past gives = tt
 over_folder P (Some Help) left past gives = tt
 over_folder P (Some Version) left past gives = tt
 over_folder P None left past gives = tt
@@ -66,6 +67,7 @@ over_damaged P (Some Pcie) past gives = tt
 over_damaged P (Some (Klog boot cap)) past gives = tt
 over_damaged P (Some (TraceLines boot)) past gives = tt
 over_damaged P (Some (KlogLines boot cap)) past gives = tt
+over_damaged P (Some (GhesLines boot began)) past gives = tt
 over_damaged P (Some Help) past gives = tt
 over_damaged P (Some Version) past gives = tt
 over_damaged P None past gives = tt
@@ -279,6 +281,7 @@ over_report P (Some Pcie) past gives = tt
 over_report P (Some (Klog boot cap)) past gives = tt
 over_report P (Some (TraceLines boot)) past gives = tt
 over_report P (Some (KlogLines boot cap)) past gives = tt
+over_report P (Some (GhesLines boot began)) past gives = tt
 over_report P (Some Help) past gives = tt
 over_report P (Some Version) past gives = tt
 over_report P None past gives = tt
@@ -337,6 +340,7 @@ over_other P (Some Pcie) past gives = if_told P past (λ p is. gives p tt is)
 over_other P (Some (Klog boot cap)) past gives = if_told P past (λ p is. gives p tt is)
 over_other P (Some (TraceLines boot)) past gives = if_told P past (λ p is. gives p tt is)
 over_other P (Some (KlogLines boot cap)) past gives = if_told P past (λ p is. gives p tt is)
+over_other P (Some (GhesLines boot began)) past gives = if_told P past (λ p is. gives p tt is)
 over_other P (Some Help) past gives = if_told P past (λ p is. gives p tt is)
 over_other P (Some Version) past gives = if_told P past (λ p is. gives p tt is)
 
@@ -384,10 +388,13 @@ module _ (exit : Exit) (rest : Option (List ℕ)) (p q : FolderPast) (clock : Cl
       as_begun (Some (TraceLines boot)) (Some script) t here (only_filtered _ exit script rest (begun_over p) t did.tells) did
   by_other (Some (KlogLines boot cap)) (Some script) t other here did =
       as_begun (Some (KlogLines boot cap)) (Some script) t here (only_filtered _ exit script rest (begun_over p) t did.tells) did
+  by_other (Some (GhesLines boot began)) (Some script) t other here did =
+      as_begun (Some (GhesLines boot began)) (Some script) t here (only_filtered _ exit script rest (begun_over p) t did.tells) did
   by_other (Some Pcie) None t other here did = record { tells = tt; stops = tt; device = device_as t here did.device }
   by_other (Some (Klog boot cap)) None t other here did = record { tells = tt; stops = tt; device = device_as t here did.device }
   by_other (Some (TraceLines boot)) None t other here did = record { tells = tt; stops = tt; device = device_as t here did.device }
   by_other (Some (KlogLines boot cap)) None t other here did = record { tells = tt; stops = tt; device = device_as t here did.device }
+  by_other (Some (GhesLines boot began)) None t other here did = record { tells = tt; stops = tt; device = device_as t here did.device }
 
 -- such a command goes on telling
 still_told : (exit : Exit) (task : Option Task) (left rest : Option (List ℕ)) (before : Told) (now : Option Told) (old new : Clock)
@@ -400,12 +407,13 @@ still_told exit (Some Pcie) left rest before now old new other did = did.device.
 still_told exit (Some (Klog boot cap)) left rest before now old new other did = did.device.0
 still_told exit (Some (TraceLines boot)) left rest before now old new other did = did.device.0
 still_told exit (Some (KlogLines boot cap)) left rest before now old new other did = did.device.0
+still_told exit (Some (GhesLines boot began)) left rest before now old new other did = did.device.0
 still_told exit (Some Help) left rest before now old new other did = did.device.0
 still_told exit (Some Version) left rest before now old new other did = did.device.0
 
 module _ (exit : Exit) (task : Option Task) (left rest : Option (List ℕ)) (past now : Option FolderPast) (old new : BoardState) (begun : Begun past old) (over : new.past ≡ now)
     (did : ByTask exit task left rest (told_of old) (told_of new) (clock_of old) (clock_of new)) where
-  prints : (p : FolderPast) → IsOther task → past ≡ Some p → IsSomeAnd now (PrintsAlone exit task left p)
+  prints : (p : FolderPast) → IsOther task → past ≡ Some p → IsSomeAnd now (PrintsAlone exit task left rest p)
   prints p other is_past = by (told_of new) refl from_p
     where
       from_p : ByTask exit task left rest (Some (begun_over p)) (told_of new) (clock_over (Some p)) (clock_of new)
@@ -413,18 +421,17 @@ module _ (exit : Exit) (task : Option Task) (left rest : Option (List ℕ)) (pas
           subst (λ (o : Option FolderPast). ByTask exit task left rest (Some (begun_over p)) (told_of new) (clock_over o) (clock_of new)) (past_begun past old p begun is_past)
           (subst (λ (o : Option Told). ByTask exit task left rest o (told_of new) (clock_of old) (clock_of new)) (told_begun past old p begun is_past) did)
 
-      by : (told : Option Told) → told_of new ≡ told → ByTask exit task left rest (Some (begun_over p)) told (clock_over (Some p)) (clock_of new) → IsSomeAnd now (PrintsAlone exit task left p)
+      by : (told : Option Told) → told_of new ≡ told → ByTask exit task left rest (Some (begun_over p)) told (clock_over (Some p)) (clock_of new) → IsSomeAnd now (PrintsAlone exit task left rest p)
       by None is from = absurd (still_told exit task left rest (begun_over p) None (clock_over (Some p)) (clock_of new) other from)
       by (Some t) is from =
           let the_end : Ended new t = ended new t is in
-          subst (λ (o : Option FolderPast). IsSomeAnd o (PrintsAlone exit task left p)) (sym the_end.over ∙ over) (
-            rest,
-            subst (λ (o : Option FolderPast). ByTask exit task left rest (Some (begun_over p)) (Some (begun_over the_end.now)) (clock_over (Some p)) (clock_over o)) the_end.over
-                (by_other exit rest p the_end.now (clock_of new) task left t other the_end.here from),
-          )
+          subst (λ (o : Option FolderPast). IsSomeAnd o (PrintsAlone exit task left rest p)) (sym the_end.over ∙ over)
+          (subst (λ (o : Option FolderPast). ByTask exit task left rest (Some (begun_over p)) (Some (begun_over the_end.now)) (clock_over (Some p)) (clock_over o)) the_end.over
+          (by_other exit rest p the_end.now (clock_of new) task left t other the_end.here from))
 
-  -- by what an input had left, of which the board's source was made
-  pub commands : (input : Option (List ℕ)) → left ≡ input → OverOther (λ p. IsSomeAnd now (PrintsAlone exit task input p)) task past
-  commands input is =
-      subst (λ (script : Option (List ℕ)). OverOther (λ p. IsSomeAnd now (PrintsAlone exit task script p)) task past) is
-      (over_other (λ p. IsSomeAnd now (PrintsAlone exit task left p)) task past prints)
+  -- by what the input had left at the start and has at the end, which the source was made of and gives back
+  pub commands : (first last : Option (List ℕ)) → left ≡ first → last ≡ rest → OverOther (λ p. IsSomeAnd now (PrintsAlone exit task first last p)) task past
+  commands first last is_first is_last =
+      subst (λ (script : Option (List ℕ)). OverOther (λ p. IsSomeAnd now (PrintsAlone exit task script last p)) task past) is_first
+      (subst (λ (script : Option (List ℕ)). OverOther (λ p. IsSomeAnd now (PrintsAlone exit task left script p)) task past) (sym is_last)
+      (over_other (λ p. IsSomeAnd now (PrintsAlone exit task left rest p)) task past prints))

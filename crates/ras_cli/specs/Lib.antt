@@ -1,2 +1,3 @@
 pub mod FolderEras
+pub mod OverCauses
 pub mod OverFolder

@@ -1,5 +1,4 @@
--- The commands over a folder of files: what they promise, in the terms of what a crash of the machine
--- leaves of the folder.
+-- What the commands promise over a folder of files, by what a crash of the machine leaves of the folder.
 use Rattle.std.specs.Prelude.{◌≡◌, ℕ, ◌≤◌, ◌⊎◌, List, [], ◌++◌, Option, Some, IfSome, ⊤}
 use Rattle.board_core.specs.Clock.{Adds, Always, LeftNow}
 use Rattle.board_core.specs.Told.{Told}
@@ -26,7 +25,7 @@ use Rattle.ras_daemon.specs.RunStatus.{run_exit, start_of}
 use Rattle.ras_daemon.specs.declared.word.Task.{Task}
 use Rattle.ras_daemon.specs.declared.word.Task.TheVariants as tasks
 
--- what a board tells that is over a folder, before its first call
+-- what the model of a board over a folder says before its first call
 abbrev pub begun_over : FolderPast → Told
 begun_over past = record {
   here = seen_now past;
@@ -35,23 +34,23 @@ begun_over past = record {
   accesses = [];
 }
 
--- if the words ask for a run, folder and input tell, and the folder's files hold an account
+-- if the words ask for a run, folder and input are modelled, and the folder's files give an account
 abbrev pub OverFolder : (Start → List ℕ → FolderPast → Type 0) → Option Task → Option (List ℕ) → Option FolderPast → Type 0
 OverFolder P (Some tasks.Run) (Some script) (Some past) =
     (account : State) → Recovers account (seen_now past) → P (start_of account (begun_over past)) script past
 OverFolder P task script past = ⊤
 
--- What a crash of the machine at any moment of a run leaves of the folder.
+-- What a crash of the machine at any point of a run leaves of the folder.
 pub record Outlives (start : Start) (script : List ℕ) (past now : FolderPast) : Type 0 where
-  -- Time goes on. So what the folder holds at the end is among what a crash since the start may leave.
+  -- The number of calls never falls. So what the folder contains at the end is among what a crash since the
+  -- start may leave.
   pub later : (clock_over (Some past)).now ≤ (clock_over (Some now)).now
-  -- The premise is that a crash at the run's start leaves files that give its account and its record store
-  -- too.
+  -- Provided that a crash at the run's start leaves files that give the run's account and its record store.
   pub once : StopsRecover start (clock_over (Some past)) → Always (clock_over (Some now)) (clock_over (Some past)).now (Headline (run_of start script) (seen_now past))
 
--- Without that premise the headline holds from the moment on at which the journal was open. A stop before
--- that leaves what one at the start may have left, or the account at the start with store and text as
--- they were.
+-- Without that premise the headline holds from the point at which the journal was open. A crash before that
+-- leaves what a crash at the start may have left, or the account at the start with store and text as they
+-- were.
 pub record OutlivesOpened (start : Start) (script : List ℕ) (past now : FolderPast) : Type 0 where
   pub opened : FolderPast
   pub before : Adds (λ left. LeftNow (clock_over (Some past)) left ⊎ AtOpening start (seen_now past).out left) (clock_over (Some past)) (clock_over (Some opened))
@@ -63,37 +62,37 @@ pub record NeverOpened (exit : Exit) (start : Start) (past now : FolderPast) : T
   pub cut : (exit ≡ DiskFault) ⊎ (exit ≡ NoMemory)
   pub always : Always (clock_over (Some now)) (clock_over (Some past)).now (λ left. LeftNow (clock_over (Some past)) left ⊎ AtOpening start (seen_now past).out left)
 
--- How a run ends and what it prints, and what is there then.
+-- How a run ends, what it prints, and what the folder contains then.
 pub record Ends (exit : Exit) (start : Start) (script : List ℕ) (past now : FolderPast) : Type 0 where
   pub status : OnAnswer exit (exit ≡ run_exit start script)
   pub output : OnAnswer exit ((seen_now now).out ≡ (seen_now past).out ++ run_output start script)
   pub begun : PrintsPart (run_output start script) (seen_now past).out (seen_now now).out
   pub whole : OnWhole exit (IsWhole (run_of start script) exit (begun_over past) (begun_over now))
 
--- if the words ask for a run, the folder tells, and its files are damaged or too long
+-- if the words ask for a run, the folder is modelled, and its files are damaged or too long
 abbrev pub OverDamaged : (Exit → FolderPast → Type 0) → Option Task → Option FolderPast → Type 0
 OverDamaged P (Some tasks.Run) (Some past) = IfSome (files_refusal (seen_now past)) (λ why. P why past)
 OverDamaged P task past = ⊤
 
--- A run says so, and leaves the files as they are.
+-- The run reports the damage or the length, and leaves the files as they are.
 pub record Refuses (exit why : Exit) (past now : FolderPast) : Type 0 where
   pub ends : EndsRefused why exit
   pub says : OnAnswer exit ((seen_now now).out ≡ (seen_now past).out ++ stop_line why)
   pub file0 : (seen_now now).file0 ≡ (seen_now past).file0
   pub file1 : (seen_now now).file1 ≡ (seen_now past).file1
   pub store : (seen_now now).store ≡ (seen_now past).store
-  -- A crash at any moment leaves what one at the start may have left, or all that was there with a
+  -- A crash at any point leaves what a crash at the start may have left, or everything as it was with a
   -- beginning of that line printed.
   pub stops : Adds (ReportMoment (clock_over (Some past)) (stop_line why) (seen_now past)) (clock_over (Some past)) (clock_over (Some now))
 
--- if the words ask for a report and the folder tells
+-- if the words ask for a report and the folder is modelled
 abbrev pub OverReport : (Listing → FolderPast → Type 0) → Option Task → Option FolderPast → Type 0
 OverReport P (Some (tasks.Report listing)) (Some past) = P listing past
 OverReport P task past = ⊤
 
--- A report prints what the files hold, and leaves files and store as they are. A stop of the machine at
--- any moment of it leaves what one before it may have left, or all that was there with a beginning of
--- that text.
+-- A report prints what the files contain, and leaves files and store as they are. A crash of the machine at
+-- any point leaves what a crash before the report may have left, or everything as it was with a beginning of
+-- that text printed.
 pub record Reported (exit : Exit) (listing : Listing) (past now : FolderPast) : Type 0 where
   pub status : OnAnswer exit (exit ≡ report_exit (seen_now past))
   pub output : OnAnswer exit ((seen_now now).out ≡ (seen_now past).out ++ report_output listing (seen_now past))
@@ -103,15 +102,15 @@ pub record Reported (exit : Exit) (listing : Listing) (past now : FolderPast) : 
   pub store : (seen_now now).store ≡ (seen_now past).store
   pub stops : Adds (ReportMoment (clock_over (Some past)) (report_output listing (seen_now past)) (seen_now past)) (clock_over (Some past)) (clock_over (Some now))
 
--- if the words ask for neither a run nor a report, and the folder tells
+-- if the words ask for neither a run nor a report, and the folder is modelled
 abbrev pub OverOther : (FolderPast → Type 0) → Option Task → Option FolderPast → Type 0
 OverOther P (Some tasks.Run) past = ⊤
 OverOther P (Some (tasks.Report listing)) past = ⊤
 OverOther P task past = IfSome past P
 
--- Such a command, or words that are none, print the text that `ByTask` names, by what was left of the
--- input before and after. Of the folder nothing else changes, and a crash at any moment leaves no more
--- than one at the start, with a beginning of that text printed.
-abbrev pub PrintsAlone : Exit → Option Task → Option (List ℕ) → FolderPast → FolderPast → Type 0
-PrintsAlone exit task script past now =
-    (left : Option (List ℕ)) × ByTask exit task script left (Some (begun_over past)) (Some (begun_over now)) (clock_over (Some past)) (clock_over (Some now))
+-- Such a command, and unrecognized arguments, print the text that `ByTask` names, by what was left of the
+-- input before and after. Nothing else of the folder changes. A crash at any point leaves what a crash at the
+-- start may have left, with a beginning of that text printed.
+abbrev pub PrintsAlone : Exit → Option Task → Option (List ℕ) → Option (List ℕ) → FolderPast → FolderPast → Type 0
+PrintsAlone exit task script left past now =
+    ByTask exit task script left (Some (begun_over past)) (Some (begun_over now)) (clock_over (Some past)) (clock_over (Some now))

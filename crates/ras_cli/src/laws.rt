@@ -19,20 +19,19 @@ ghost use Rattle.ras_journal.specs.Recovered.{Recovers};
 
 use era_laws::era_laws;
 
-/// What `rasd_over` promises of a run over a folder makes an era of it, so `era_laws` speaks of the
-/// folder's files. An era is a run up to a crash of the machine at any moment of it, or up to its
-/// end.
+/// What holds of runs over a folder: `rasd_over` makes an era of each, so `era_laws` speaks of the
+/// folder's files. An era is a run up to its end, or up to a crash of the machine at any point.
 ///
-/// The function does nothing: its clauses are what it is for.
+/// A law: the clauses are the point.
 pub fn folder_eras()
-    // After a start of the machine all of the files is on the disk, so a crash leaves just them.
+    // After the machine starts, all of the files is durable, so a crash leaves exactly these files.
     ensures rests { (files : Stopped) (account : State)
         → let past = started_over files in
         Recovers account (seen_now past)
         → StopsRecover (start_of account (begun_over past)) (clock_over (Some past)) }
 
-    // Then what a crash at any moment of the run leaves makes an era of it, by `rasd_over/headline`;
-    // and so does what the folder holds where the run ends.
+    // Whatever a crash at any point of the run leaves is then the end of an era, by
+    // `rasd_over/headline`. So is what the folder contains when the run ends.
     ensures stopped { (account : State) (script : List ℕ) (past now : FolderPast) (left : Left)
         → let start = start_of account (begun_over past) in
         Recovers account (seen_now past) → StopsRecover start (clock_over (Some past))
@@ -45,9 +44,9 @@ pub fn folder_eras()
         → Outlives start script past now
         → IsEra (era_of account (begun_over past) script (seen_now now)) }
 
-    // A process may die and the machine go on, with writes under way. What a crash during the next
-    // run leaves makes an era of that one, or is what a crash at its very start might have left, by
-    // `rasd_over/settled`.
+    // After a process is killed the machine goes on, and writes may not be durable yet. A crash
+    // during the next run then leaves the end of an era of that run, or what a crash at its very
+    // start might have left, by `rasd_over/settled`.
     ensures went_on { (exit : Exit) (account : State) (script : List ℕ) (past now : FolderPast)
         (left : Left)
         → let start = start_of account (begun_over past) in
@@ -57,13 +56,13 @@ pub fn folder_eras()
         → LeftNow (clock_over (Some past)) left
         ⊎ IsEra (era_of account (begun_over past) script left) }
 
-    // A run may begin over whatever files a crash has left.
+    // A run may begin over any files that a crash has left, if the store's file consists of bytes.
     ensures next { (files : Stopped) → AreBytes (bytes_or files.store)
         → MayBegin (started_over files) }
 
-    // So runs one after another, each over what a crash left of the one before it, are eras. After
-    // all of them the files give the first account with what the events of each run report whose
-    // done lines it printed, or one event more of each, in order.
+    // So runs one after another, each over what a crash left of the run before it, are eras. After
+    // all of them the files give the first account followed by what each run reported, in order:
+    // the events whose done lines it printed, and at most one more.
     ensures eras { (files : Stopped) (runs : List FolderRun) → AreRuns files runs
         → AreEras (seen_as files) (eras_over files runs) }
     ensures accounts { (account : State) (files : Stopped) (runs : List FolderRun)

@@ -1,32 +1,32 @@
-//! The program: the daemon over standard input, standard output and the working folder's files.
+//! The program: runs a command over standard input, standard output and the working folder's files.
 #![tactic(auto)]
 
 mod laws;
 mod over_folder;
 
 pub use laws::folder_eras;
-pub use over_folder::rasd_over;
+pub use over_folder::{Ended, rasd_over};
 use ras_base::NoMemory;
 use ras_daemon::{Exit, RasWord};
 use ras_host::{RealInput, RealSystem};
 use std::env::{Env, FillError};
 use std::process::ExitCode;
 
-// No word of a form of a call is longer.
+// Every word of a command is shorter than this.
 const LONGEST_WORD: usize = 64;
 
 fn main(rt: HostRuntime) -> ExitCode {
     let exit = match words_of(rt) {
         Ok(words) => {
             let (input, system) = (RealInput::new(rt), RealSystem::new(rt));
-            rasd_over(rt.alloc(), &words, input, system).0
+            rasd_over(rt.alloc(), &words, input, system).exit
         }
         Err(NoMemory) => Exit::NoMemory,
     };
     ExitCode::from(exit.status())
 }
 
-// The program's words without its name.
+// Returns the program's arguments without its name.
 fn words_of(rt: HostRuntime) -> Result<Vec<RasWord>, NoMemory> {
     let mut words = Vec::new(rt.alloc());
     for place in 1..usize::MAX {
@@ -38,8 +38,8 @@ fn words_of(rt: HostRuntime) -> Result<Vec<RasWord>, NoMemory> {
     Ok(words)
 }
 
-// The word at a place of the command line, if there is one. A word longer than `LONGEST_WORD`
-// is cut; no command has a word that long, so the cut one matches none either.
+// Returns the argument at this index of the command line, if there is one. An argument longer than
+// `LONGEST_WORD` is cut. No command has a word that long, so the cut argument matches none either.
 fn word_at(rt: HostRuntime, place: usize) -> Result<Option<RasWord>, NoMemory> {
     let mut bytes = [0; LONGEST_WORD];
     let length = match rt.arg(place, &mut bytes) {

@@ -1,69 +1,105 @@
-//! The daemon over a folder of files.
-ghost use Rattle.std.specs.Prelude.{◌≡◌, ◌⊎◌, Some, IfSome, IsSomeAnd};
+//! Runs commands over a folder of files.
+ghost use Rattle.std.specs.Prelude.{◌≡◌, ◌⊎◌, Some, IfSome, IsSomeAnd, true};
 ghost use Rattle.host_system.specs.View.{MayBegin};
+ghost use Rattle.ras_cli.specs.OverCauses.{OverCaused};
 ghost use Rattle.ras_cli.specs.OverFolder.{Ends, NeverOpened, Outlives, OutlivesOpened, OverDamaged, OverFolder, OverOther, OverReport, PrintsAlone, Refuses, Reported};
+ghost use Rattle.ras_daemon.specs.Ahead.{TakesBy};
 ghost use Rattle.ras_daemon.specs.Commands.{MayEnd};
-ghost use Rattle.ras_daemon.specs.Task.{task_of};
+ghost use Rattle.ras_daemon.specs.Task.{ReadsBy, task_of};
 
 use host_system::{Input, System};
 use ras_daemon::{Exit, RasWord, Task, rasd, task_of};
-use ras_host::{FileBoard, FileSource, Use};
+use ras_host::{Alone, FileBoard, FileSource, Reading};
 use std::alloc::Global;
 
-/// Does what the words ask for over a system and an input, and answers how that ended, and the
-/// system as it then is.
+/// How a command ended, with its input and its system as they are afterwards.
+#[derive(Drop)]
+pub struct Ended<I: Input + Drop, S: System + Drop> {
+    pub exit: Exit,
+    pub input: I,
+    pub system: S,
+}
+
+/// Runs the command given by `words` over a system and an input, and returns how it ended, with the
+/// input and the system. Requires a system none of whose calls has failed yet; if the system is
+/// modelled, its folder must be one that a run may begin over.
 ///
-/// The clauses speak of a run over a system that tells what was done to its folder: what a stop of
-/// the machine at any moment leaves of the folder's files, whatever names and bytes are on their way
-/// to the disk.
+/// `causes`, `exits` and `reads` hold over every system and input, the real ones too. The other
+/// clauses hold for a modelled system. They say what a crash of the machine at any point leaves of
+/// the folder's files, even while names and bytes aren't durable yet.
 pub fn rasd_over<S: System + Drop, I: Input + Drop>(
     alloc: Global,
     words: &[RasWord],
     input: I,
     system: S,
-) -> (Exit, S)
-    requires { IfSome (S.told system) MayBegin }
-    // A stop at any moment leaves the account at the start with each event whose done line is
-    // printed, and at most one more.
-    ensures headline { OverFolder (λ start script past. IsSomeAnd (S.told result.1)
+) -> Ended<I, S>
+    requires begins { IfSome (S.told system) MayBegin }
+    requires quiet { S.faults system ≡ 0 }
+    // A crash at any point of a run leaves the account at the start with each event whose done line
+    // is printed, and at most one more.
+    ensures headline { OverFolder (λ start script past. IsSomeAnd (S.told result.system)
         (Outlives start script past))
         (task_of words.now) (I.left input) (S.told system) }
-    // Where the machine didn't stop before this run this holds from the moment on at which the
-    // journal is open.
-    ensures settled { OverFolder (λ start script past. IsSomeAnd (S.told result.1)
-        (λ now. OutlivesOpened start script past now ⊎ NeverOpened result.0 start past now))
+    // Even if the files aren't durable at the start, for example after a process was killed, the
+    // same holds from the point at which the journal is open.
+    ensures settled { OverFolder (λ start script past. IsSomeAnd (S.told result.system)
+        (λ now. OutlivesOpened start script past now ⊎ NeverOpened result.exit start past now))
         (task_of words.now) (I.left input) (S.told system) }
-    // The status and the text are functions of the script and of what the files hold.
-    ensures ends { OverFolder (λ start script past. IsSomeAnd (S.told result.1)
-        (Ends result.0 start script past))
+    // What a run prints and its status are functions of the script and of what the files contain.
+    ensures ends { OverFolder (λ start script past. IsSomeAnd (S.told result.system)
+        (Ends result.exit start script past))
         (task_of words.now) (I.left input) (S.told system) }
-    // Files that are damaged or too long are left as they are.
-    ensures refused { OverDamaged (λ why past. IsSomeAnd (S.told result.1)
-        (Refuses result.0 why past))
+    // If a file is damaged or too long, a run reports it and leaves the files as they are.
+    ensures refused { OverDamaged (λ why past. IsSomeAnd (S.told result.system)
+        (Refuses result.exit why past))
         (task_of words.now) (S.told system) }
-    // A report prints what the files hold, and leaves all else as it is.
-    ensures reported { OverReport (λ listing past. IsSomeAnd (S.told result.1)
-        (Reported result.0 listing past))
+    // A report prints what the files contain, and changes nothing else.
+    ensures reported { OverReport (λ listing past. IsSomeAnd (S.told result.system)
+        (Reported result.exit listing past))
         (task_of words.now) (S.told system) }
-    // Every other command prints, and so do words that are none; nothing else of the folder changes.
-    ensures commands { OverOther (λ past. IsSomeAnd (S.told result.1)
-        (PrintsAlone result.0 (task_of words.now) (I.left input) past))
+    // Every other command only prints, and so do unrecognized arguments. Nothing else of the folder
+    // changes.
+    ensures commands { OverOther (λ past. IsSomeAnd (S.told result.system)
+        (PrintsAlone result.exit (task_of words.now) (I.left input) (I.left result.input) past))
         (task_of words.now) (S.told system) }
+    // A command ends with a fault only if a call of the input or of the system failed, and then no
+    // other call did. `OverCaused` has the few faults that may also come from lack of memory or
+    // from damaged files.
+    ensures causes { OverCaused (task_of words.now) result.exit (I.faults input)
+        (I.faults result.input) (S.faults result.system) }
     // Each command has its own exits.
-    ensures exits { MayEnd (task_of words.now) result.0 }
+    ensures exits { MayEnd (task_of words.now) result.exit }
+    // A command that reads the input takes at most 67,108,865 bytes of it, and all of them if it
+    // ends as done. Every other command leaves the input alone.
+    ensures reads { ReadsBy (task_of words.now)
+        (TakesBy result.exit (I.left input) (I.left result.input))
+        (I.left result.input ≡ I.left input) }
 {
     let mut source = FileSource::new(input);
-    let mut board = FileBoard::new(alloc, use_for(words), system);
-    let exit = rasd(alloc, words, &mut source, &mut board);
-    (exit, board.into_system())
+    if is_run(words) {
+        let mut board: FileBoard<S, Alone> = FileBoard::new(alloc, system);
+        let exit = rasd(alloc, words, &mut source, &mut board);
+        let (input, system) = (source.into_input(), board.into_system());
+        Ended {
+            exit,
+            input,
+            system,
+        }
+    } else {
+        let mut reader: FileBoard<S, Reading> = FileBoard::new(alloc, system);
+        let exit = rasd(alloc, words, &mut source, &mut reader);
+        let (input, system) = (source.into_input(), reader.into_system());
+        Ended {
+            exit,
+            input,
+            system,
+        }
+    }
 }
 
-// What a board is to do with the journal's files: a run is to be the only one in its folder.
-fn use_for(words: &[RasWord]) -> Use
-    ensures { task_of words.now ≡ Some Task.Run → result ≡ Use.Alone }
+// Returns whether the words ask for a run. Only one run at a time may work in a folder.
+fn is_run(words: &[RasWord]) -> bool
+    ensures { task_of words.now ≡ Some Task.Run → result ≡ true }
 {
-    match task_of(words) {
-        Some(Task::Run) => Use::Alone,
-        _ => Use::Reading,
-    }
+    matches!(task_of(words), Some(Task::Run))
 }

@@ -3,8 +3,6 @@ use Rattle.std.proofs.Common.{◌≡◌, ℕ, ◌+◌, Bool, true, false, List, 
 use Rattle.std.specs.Prelude.{filter, if◌then◌else◌}
 use Rattle.std.specs.List.{cons_option, enumerate_from, filter_map, flat_map}
 use Rattle.std.specs.Option.{option_map}
-use Rattle.std.proofs.lemmas.List.{map-append}
-use Rattle.std.proofs.lemmas.List.Elements.{filter-append}
 use Rattle.ras_base.specs.Places.{places, places_behind}
 use Rattle.bank_lines.specs.Texts.{asks_in, is_asking}
 use Rattle.dimm_topology.specs.declared.row.Row.{Row}
@@ -74,17 +72,8 @@ asked-along before k (read ∷ reads) =
     by true false same rest = absurd cc
     by false true same rest = absurd cc
 
-asks-append : (one other : List (List ℕ)) → asks_in (one ++ other) ≡ asks_in one ++ asks_in other
-asks-append one other = ap (filter is_asking) (map-append line_of one other) ∙ filter-append is_asking (map line_of one) (map line_of other)
-
-pub fed-events : (start : Start) (rows : List (List ℕ)) (banks : List BankReport) (script : List ℕ) → IsFed start.store rows banks script → IsTakenWhole start script
-    → asked_by (events_of start script) ≡ asks_in rows ++ map asks_bank banks
-fed-events start rows banks script fed taken =
-    ap asked_by (taken-events start script taken)
-    ∙ asked-along [] 1 (map line_of (script_lines script).whole)
-    ∙ ap asks_in fed.lines
-    ∙ asks-append rows fed.fed
-    ∙ ap (λ (xs : List ReadLine). asks_in rows ++ xs) fed.asks
+pub taken-asks : (start : Start) (script : List ℕ) → IsTakenWhole start script → asked_by (events_of start script) ≡ asks_in (script_lines script).whole
+taken-asks start script taken = ap asked_by (taken-events start script taken) ∙ asked-along [] 1 (map line_of (script_lines script).whole)
 
 -- ---- what they report
 

@@ -11,12 +11,12 @@ use Rattle.ras_exit.specs.declared.exit.Exit.{Exit}
 use Rattle.ras_exit.specs.declared.exit.Exit.TheVariants.{SourceFault}
 use Rattle.ras_daemon.specs.Script.{is_event}
 
--- whether a line is an event, wherever it stands
+-- whether a line is an event, whichever lines are before it
 abbrev pub is_event_line : List ℕ → Bool
 is_event_line line = is_event ([], (1, line_of line))
 
--- how far lines reach to the end of the event that has n events before it, each line with its line
--- feed: to no end if there is no such event
+-- the number of bytes up to the end of the event that has n events before it, each line with its line feed;
+-- nothing if there is no such event
 abbrev pub end_of_event : ℕ → List (List ℕ) → Option ℕ
 end_of_event n [] = None
 end_of_event n (line ∷ lines) =
@@ -27,9 +27,9 @@ end_of_event n (line ∷ lines) =
 abbrev pub events_in : List (List ℕ) → ℕ
 events_in lines = length (filter is_event_line lines)
 
--- What was taken of a script, of which this is left, reaches at most 40,001 bytes past the end of
--- the first event that isn't done by what was printed. If the source failed, every event is done
--- whose line was taken with its line feed.
+-- What was taken of a script, of which `left` remains, reaches at most 40,001 bytes past the end of the first
+-- event that isn't done by what was printed. If the source failed, every event whose line was taken with its
+-- line feed is done.
 pub record TakesAhead (exit : Exit) (script left : List ℕ) (before now : Told) : Type 0 where
   pub taken : List ℕ
   pub splits : taken ++ left ≡ script
@@ -40,7 +40,7 @@ pub record TakesAhead (exit : Exit) (script left : List ℕ) (before now : Told)
       (λ end. length taken ≤ end + (LONGEST_LINE + 1))
   pub done : exit ≡ SourceFault → events_in (ended_lines taken) ≤ done_count printed
 
--- What a call that ends so takes of its source, if that tells: at most 67,108,865 bytes, and all of it
--- if it is done.
+-- What a command that ends with this exit takes of its source, if the source is modelled: at most 67,108,865
+-- bytes, and all of it if the command is done.
 abbrev pub TakesBy : Exit → Option (List ℕ) → Option (List ℕ) → Type 0
 TakesBy exit first now = IfSome first (λ script. IsSomeAnd now (TakesOf exit script))

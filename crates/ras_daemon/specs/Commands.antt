@@ -1,4 +1,4 @@
--- What each command tells, and how it may end.
+-- What each command prints, and how it may end.
 use Rattle.std.specs.Prelude.{◌≡◌, ◌≢◌, ℕ, ◌⊎◌, List, Option, None, Some, IfSome, ⊤}
 use Rattle.board_core.specs.Clock.{Adds, Clock}
 use Rattle.board_core.specs.Device.{LeavesDevice}
@@ -9,6 +9,7 @@ use Rattle.ras_exit.specs.StopLine.{stop_line}
 use Rattle.ras_exit.specs.Telling.{OnlyText, PrintMoment, Tells}
 use Rattle.bank_lines.specs.LogFilter.{log_filter}
 use Rattle.bank_lines.specs.Filter.{trace_filter}
+use Rattle.block_lines.specs.Filter.{block_filter}
 use Rattle.cper_pcie.specs.Filter.{pcie_filter}
 use Rattle.line_filters.specs.Filters.{Filters, IsFilterExit, OfBoth, StopsFiltering}
 use Rattle.ras_klog.specs.Klog.{klog_filter}
@@ -16,23 +17,23 @@ use Rattle.ras_listing.specs.Reporting.{IsReportExit, ReportMoment, Reports, rep
 use Rattle.ras_daemon.specs.Help.{help_text, version_line}
 use Rattle.ras_daemon.specs.Loading.{load_output}
 use Rattle.ras_daemon.specs.declared.word.Task.{Task}
-use Rattle.ras_daemon.specs.declared.word.Task.TheVariants.{Run, Report, Load, Pcie, Klog, TraceLines, KlogLines, Help, Version}
+use Rattle.ras_daemon.specs.declared.word.Task.TheVariants.{Run, Report, Load, Pcie, Klog, TraceLines, KlogLines, GhesLines, Help, Version}
 
--- A call that only prints tells this exit and this text, and nothing else that is told changes.
+-- A command that only prints ends with this exit and this text. Nothing else in the model changes.
 pub record OnlyTells (exit : Exit) (text : List ℕ) (result : Exit) (before now : Told) : Type 0 where
   pub tells : Tells exit text result before now
   pub only : OnlyText before now
 
--- So much is told by a command that is no run, and so much is left by a stop of the machine at any moment
--- of it. It leaves the device alone.
+-- What a command other than a run does, and what a crash of the machine at any point of it leaves. The
+-- command leaves the device alone.
 pub record Leaves (Tells Stops : Type 0) (before now : Option Told) (old new : Clock) : Type 0 where
   pub tells : Tells
   pub stops : Stops
   pub device : LeavesDevice before now old new
 
--- What a command tells by what its source has left and its board tells, before and now, and what stops
--- leave of it: only a beginning of its text is new. Of a run clauses of their own tell. Words of no form
--- print the usage line.
+-- What a command does, by what was left of its source and what the board's model said, before and now, and
+-- what a crash leaves: only a beginning of its text is new. Runs have clauses of their own. Unrecognized
+-- arguments print the usage line.
 abbrev pub ByTask : Exit → Option Task
     → Option (List ℕ) → Option (List ℕ) → Option Told → Option Told → Clock → Clock → Type 0
 ByTask exit None script left before now old new =
@@ -57,6 +58,9 @@ ByTask exit (Some (TraceLines boot)) script left before now old new =
 ByTask exit (Some (KlogLines boot cap)) script left before now old new =
     Leaves (OfBoth (Filters (log_filter boot cap) exit) script left before now)
     (StopsFiltering (log_filter boot cap) script before old new) before now old new
+ByTask exit (Some (GhesLines boot began)) script left before now old new =
+    Leaves (OfBoth (Filters (block_filter boot began) exit) script left before now)
+    (StopsFiltering (block_filter boot began) script before old new) before now old new
 ByTask exit (Some Help) script left before now old new =
     Leaves (Relates (OnlyTells Done help_text exit) before now)
     (Adds (PrintMoment old help_text) old new) before now old new
@@ -64,11 +68,11 @@ ByTask exit (Some Version) script left before now old new =
     Leaves (Relates (OnlyTells Done version_line exit) before now)
     (Adds (PrintMoment old version_line) old new) before now old new
 
--- how a run over a script that is made up may end
+-- how a run over a made-up script may end
 abbrev pub IsLoadExit : Exit → Type 0
 IsLoadExit exit = (exit ≡ Done) ⊎ ((exit ≡ PrintFault) ⊎ (exit ≡ NoMemory))
 
--- how a run may end: with no usage line, and at a status of its device only if that isn't 0
+-- how a run may end: never with the usage line, and with a status of its device only if that isn't 0
 abbrev pub IsRunExit : Exit → Type 0
 IsRunExit Usage = ⊥
 IsRunExit (ErstStatus code) = code ≢ 0
@@ -84,5 +88,6 @@ MayEnd (Some Pcie) exit = IsFilterExit exit
 MayEnd (Some (Klog boot cap)) exit = IsFilterExit exit
 MayEnd (Some (TraceLines boot)) exit = IsFilterExit exit
 MayEnd (Some (KlogLines boot cap)) exit = IsFilterExit exit
+MayEnd (Some (GhesLines boot began)) exit = IsFilterExit exit
 MayEnd (Some Help) exit = (exit ≡ Done) ⊎ (exit ≡ PrintFault)
 MayEnd (Some Version) exit = (exit ≡ Done) ⊎ (exit ≡ PrintFault)

@@ -1,4 +1,4 @@
--- A script of what the kernel told: the rows of the machine, and then what `lines` prints.
+-- A script made from what the kernel reported: the machine description, and then what `lines` prints.
 use Rattle.std.specs.Prelude.{◌≡◌, List, [], ◌++◌, ℕ, map, Result, Ok}
 use Rattle.std.specs.List.{filter_map}
 use Rattle.bank_lines.specs.Texts.{asks_in}
@@ -20,8 +20,8 @@ use Rattle.ras_daemon.specs.Script.{reads_in}
 abbrev pub asks_bank : BankReport → Result Line LineRefused
 asks_bank bank = Ok (Report (Bank bank))
 
--- Such a script has first lines that report nothing, as the rows of a machine, and then lines that ask
--- for what these banks report, and for nothing else.
+-- Such a script first has lines that report nothing, such as a machine description, and then lines that ask
+-- for exactly the reports of these banks.
 pub record IsFed (store : List Stored) (rows : List (List ℕ)) (banks : List BankReport) (script : List ℕ) : Type 0 where
   pub fed : List (List ℕ)
   pub lines : (script_lines script).whole ≡ rows ++ fed
@@ -32,6 +32,6 @@ pub record IsFed (store : List Stored) (rows : List (List ℕ)) (banks : List Ba
 abbrev pub asked_by : List Place → List (Result Line LineRefused)
 asked_by places = map (λ (place : Place). place.1.1) places
 
--- what banks report by the rows of a machine: an entry each, but for a bank that holds no error
+-- what banks report under a machine description: one entry each, except for a bank that holds no error
 abbrev pub bank_entries : List Row → List BankReport → List Entry
 bank_entries rows banks = map Fact (filter_map (λ bank. bank_fact bank rows) banks)

@@ -1,4 +1,4 @@
--- What a stop at any moment of a run leaves, and what a run leaves where it ends.
+-- What a crash at any point of a run leaves, and what a run leaves when it ends.
 use Rattle.std.specs.Prelude.{◌≡◌, ℕ, ◌+◌, ◌<◌, ◌⊎◌, List, ◌++◌, length, map, take, Option, Some, Ok, ⊤}
 use Rattle.std.specs.List.{flat_map}
 use Rattle.board_core.specs.Clock.{Adds, Always, Clock, LeftNow, Rests}
@@ -28,7 +28,7 @@ use Rattle.ras_daemon.specs.StoreDuring.{KnownBy, KnowsReadable, PutsUnder, Stor
 use Rattle.ras_daemon.specs.declared.word.Task.{Task}
 use Rattle.ras_daemon.specs.declared.word.Task.TheVariants as tasks
 
--- what the first n events of a script report, and the account at the start with it
+-- what the first n events of a script report, and the account at the start with these reports
 abbrev pub reported : Start → List ℕ → ℕ → List Entry
 reported start script n = flat_map (entries_at start.store) (take n (events_of start script))
 
@@ -42,36 +42,36 @@ lines_with start script n = map (λ (place : Place). place.1) (take n (events_of
 abbrev pub laid_with : Start → List ℕ → ℕ → List Stored
 laid_with start script n = laid start.store (lines_with start script n)
 
--- What a stop leaves of a run.
+-- What a crash leaves of a run.
 pub record Headline (run : Run) (here left : Left) : Type 0 where
-  -- The text that was printed before it, and a beginning of what the run prints. By that so many of its
-  -- events are done.
+  -- The text is what was printed before the run, and then a beginning of what the run prints. By this text,
+  -- `done` events are done.
   pub printed : List ℕ
   pub text : left.out ≡ here.out ++ printed
   pub begins : IsPrefixOf printed (text_of run)
   pub done : ℕ
   pub counted : done_count printed ≡ done
-  -- The files recover the account at the start with what these events report, or with what the next one
-  -- reports too. Once a byte of what the next one prints is printed, it is the latter.
+  -- The files give the account at the start with what these events report, or with what the next event
+  -- reports too. Once a byte of the next event's text is printed, it is the latter.
   pub account : State
   pub recovers : Recovers account left
   pub whole : (account ≡ account_upto run done) ⊎ (account ≡ account_upto run (done + 1))
   pub acknowledged : length (text_upto run done) < length printed → account ≡ account_upto run (done + 1)
-  -- The record store is what these events left, or one on the way of what the next one does to it. No
-  -- record is cleared before the account knows the name of each that can be read.
+  -- The record store is what these events left, or a state while the next event changes it. No record is
+  -- cleared before the account knows the name of each readable record.
   pub store : StoreDuring (change_next run done) (store_upto run done) left.store
   pub cleared :
       change_next run done ≡ clears → ¬ (left.store ≡ store_upto run done)
       → KnowsReadable (store_upto run done) (KnownBy account)
-  -- Each record that was last put, or was there at the start, and that can be read is in the store, or the
-  -- account knows its name; but for one under the identifier under which the next event puts a record.
+  -- Each readable record that was last put, or was there at the start, is in the store, or the account knows
+  -- its name. The exception is a record under the identifier under which the next event puts one.
   pub kept :
       (id : ℕ) (bytes own : List ℕ) → last_upto run done id ≡ Some bytes → read_under id (filled bytes) ≡ Ok own
       → ¬ PutsUnder (change_next run done) id
       → (bytes_under id left.store ≡ Some bytes) ⊎ KnownBy account (stored_name own)
 
--- What is told if no call of the board failed: whole events, those that are done by what was printed,
--- by how the run ended.
+-- What a run leaves if no call of the board failed: only whole events, exactly those that are done by what
+-- was printed. The store also depends on how the run ended.
 pub record IsWhole (run : Run) (exit : Exit) (before now : Told) : Type 0 where
   pub printed : List ℕ
   pub text : now.here.out ≡ before.here.out ++ printed
@@ -80,33 +80,33 @@ pub record IsWhole (run : Run) (exit : Exit) (before now : Told) : Type 0 where
   pub recovers : Recovers (account_upto run done) now.here
   pub store : now.here.store ≡ store_at_end exit (change_next run done) (store_upto run done)
 
--- what stands while the journal is opened: the files recover the account at the start, and store and
+-- what a crash leaves while the journal is opened: the files give the account at the start, and store and
 -- text are as they were
 pub record AtOpening (start : Start) (out : List ℕ) (left : Left) : Type 0 where
   pub recovers : Recovers start.account left
   pub store : left.store ≡ start.store
   pub text : left.out ≡ out
 
--- The journal was never open: a call of the disk failed, or memory ran out. The source is left alone,
--- and a stop leaves what one at the start may have left, or what stands while the journal is opened.
+-- The journal was never open: a disk call failed, or memory ran out. The source is left alone, and a crash
+-- leaves what a crash at the start may have left, or what a crash leaves while the journal is opened.
 pub record NeverOpens (exit : Exit) (Same : Type 0) (start : Start) (here : Left) (old new : Clock) : Type 0 where
   pub cut : (exit ≡ DiskFault) ⊎ (exit ≡ NoMemory)
   pub unread : Same
   pub always : Always new old.now (λ left. LeftNow old left ⊎ AtOpening start here.out left)
 
--- The opening of a journal was answered just now, over what was told before it: both files are synced.
--- Just the acts of an opening are done, and a stop leaves just what is told.
+-- The journal's opening has just ended, over what the model said before it: both files are synced. Exactly
+-- the acts of an opening are done, and a crash leaves exactly what the model says.
 pub record IsJustOpen (before : Told) (told : Option Told) (clock : Clock) : Type 0 where
   pub acts : List Act
   pub are : AreOpeningActs before.here acts
   pub rests : Rests (after_acts acts before) told clock
 
--- A run opened its journal, over what was told at its start. A stop before the opening was answered leaves
--- what one at the start may have left, or what stands while the journal is opened. From that moment on the
--- headline holds, whatever a stop at the start may leave; and no file that stands has more than 256 links,
--- if none had that was told at the start.
+-- A run opened its journal, over what the model said at its start. A crash before the opening ended leaves
+-- what a crash at the start may have left, or what a crash leaves while the journal is opened. From then on
+-- the headline holds, whatever a crash at the start may leave. From then on, too, no file has more than 256
+-- links, if none had at the start.
 pub record Settles {X : Type 0} (told : X → Option Told) (clock : X → Clock) (start : Start) (script : List ℕ) (t : Told) (old new : X) : Type 0 where
-  -- the board at that moment
+  -- the board when the journal was open
   pub opened : X
   pub just : IsJustOpen t (told opened) (clock opened)
   pub before : Adds (λ left. LeftNow (clock old) left ⊎ AtOpening start t.here.out left) (clock old) (clock opened)
@@ -114,16 +114,16 @@ pub record Settles {X : Type 0} (told : X → Option Told) (clock : X → Clock)
   pub from : Always (clock new) (clock opened).now (Headline (run_of start script) t.here)
   pub few : HasFewLinks t.here → Always (clock new) (clock opened).now HasFewLinks
 
--- what is left has the account at the start of a run, and its record store
+-- a crash left the account at the start of a run, and its record store
 pub record GivesStart (start : Start) (left : Left) : Type 0 where
   pub recovers : Recovers start.account left
   pub store : left.store ≡ start.store
 
--- so has whatever a stop at the start of a run may leave
+-- whatever a crash at the start of a run may leave has both
 abbrev pub StopsRecover : Start → Clock → Type 0
 StopsRecover start clock = (left : Left) → LeftNow clock left → GivesStart start left
 
--- if the words ask for a run, source and board tell, and the files hold an account
+-- if the words ask for a run, source and board are modelled, and the files give an account
 abbrev pub OverRun : (Start → List ℕ → Told → Type 0) → Option Task → Option (List ℕ) → Option Told → Type 0
 OverRun P (Some tasks.Run) (Some script) (Some t) =
     (account : State) → Recovers account t.here → P (start_of account t) script t

@@ -1,5 +1,5 @@
--- What is printed of a run over a script that is made up from a number: the line that sums up its
--- account. The run has files of its own, which are empty at first.
+-- What is printed of a run over a made-up script of a number of reports: the line that sums up its account.
+-- The run has files of its own, which are empty at first.
 use Rattle.std.specs.Prelude.{ℕ, List, []}
 use Rattle.board_core.specs.Stop.{Left}
 use Rattle.ras_account.specs.Account.{State, account_of}
@@ -14,12 +14,14 @@ use Rattle.ras_daemon.specs.Script.{reads_of}
 abbrev pub nothing_there : Left
 nothing_there = record { file0 = []; file1 = []; store = []; out = [] }
 
+-- where the run starts: with the empty account, over a device that is never busy
 abbrev pub load_start : Start
 load_start = record { account = account_of empty; standing = standing_opened [] []; store = []; slow = 0 }
 
--- the account of all the lines of the script of a number
+-- the account after all lines of the made-up script of n reports
 abbrev pub load_account : ℕ → State
 load_account n = account_at load_start (reads_of (load_script n))
 
+-- the line that sums up the run of n reports
 abbrev pub load_output : ℕ → List ℕ
 load_output n = load_line n (load_account n)

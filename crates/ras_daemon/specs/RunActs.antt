@@ -1,4 +1,4 @@
--- What a run does to the board, as a list of acts, and how much of it was done.
+-- What a run does to the board, as a list of acts, and how many of these were done.
 use Rattle.std.specs.List.{AllByRecursion}
 use Rattle.std.specs.Prelude.{◌≡◌, ℕ, List, [], ◌∷◌, ◌++◌, if◌then◌else◌, is_some}
 use Rattle.board_core.specs.declared.board.DiskCall.{DiskCall}
@@ -20,7 +20,7 @@ use Rattle.ras_daemon.specs.RunOutput.{closing_line}
 use Rattle.ras_daemon.specs.RunStatus.{run_exit}
 use Rattle.ras_daemon.specs.Script.{reads_of}
 
--- the acts of lines at their places, one line after another, each over what is told once those
+-- the acts of lines at their places, one line after another, each over what the model says once the lines
 -- before it are done
 abbrev pub AreActsAlong : Start → List Place → Told → List Act → Type 0
 AreActsAlong start [] t acts = acts ≡ []
@@ -28,22 +28,22 @@ AreActsAlong start (place ∷ places) t acts =
     (here : List Act) × (rest : List Act) × (acts ≡ here ++ rest)
     × AreLineActs start place t here × AreActsAlong start places (after_acts here t) rest
 
--- The acts of lines that are done, each over what is told by then, which its calls of the device showed to
--- be a device.
+-- The acts of lines that are done, each over what the model says by then. The line's calls of the device
+-- showed the model's device to be one.
 abbrev pub AreDoneAlong : Start → List Place → Told → List Act → Type 0
 AreDoneAlong start [] t acts = acts ≡ []
 AreDoneAlong start (place ∷ places) t acts =
     (here : List Act) × (rest : List Act) × (acts ≡ here ++ rest)
     × (CanAsk (event_at place) t × AreLineActs start place t here) × AreDoneAlong start places (after_acts here t) rest
 
--- the print of the orders that stand at the start, and of the last line after these lines
+-- the print of the outstanding orders at the start, and the print of the last line after these lines
 abbrev pub orders_acts : Start → List Act
 orders_acts start = print_acts (standing_lines start.account)
 
 abbrev pub last_acts : Start → List NumberedLine → Exit → List Act
 last_acts start before exit = print_acts (closing_line (account_at start before) exit)
 
--- what the first refused line does, over what is told by then: it asks the record store, if it is of a
+-- what the first refused line does, over what the model says by then: it asks the record store, if it is of a
 -- kind that does
 abbrev pub asked_acts : Start → List Place → Told → List Act
 asked_acts start [] t = []
@@ -53,8 +53,8 @@ asked_acts start (place ∷ places) t =
 abbrev pub script_asked : Start → List ℕ → Told → List Act
 script_asked start script t = asked_acts start (places (reads_of script)) t
 
--- Once the journal is open: the orders are printed, then the lines before the first refused one are
--- taken, then that one asks and is refused, and then the last line is printed.
+-- The acts after the journal is open: the orders are printed, the lines before the first refused one are
+-- processed, the refused line asks the store, and the last line is printed.
 pub record AreScriptActs (start : Start) (script : List ℕ) (t : Told) (acts : List Act) : Type 0 where
   pub along : List Act
   pub lines : AreActsAlong start (places_before_refusal start (places (reads_of script))) (after_acts (orders_acts start) t) along
@@ -65,7 +65,7 @@ pub record AreScriptActs (start : Start) (script : List ℕ) (t : Told) (acts : 
       ++ (script_asked start script (after_acts along (after_acts (orders_acts start) t))
       ++ last_acts start (reads_of script) (run_exit start script)))
 
--- the acts of a run over a board that tells this
+-- the acts of a run over a board whose model says this
 pub record AreRunActs (start : Start) (script : List ℕ) (t : Told) (acts : List Act) : Type 0 where
   pub first : List Act
   pub rest : List Act
@@ -73,19 +73,19 @@ pub record AreRunActs (start : Start) (script : List ℕ) (t : Told) (acts : Lis
   pub takes : AreScriptActs start script (after_acts first t) rest
   pub is : acts ≡ first ++ rest
 
--- the disk calls of a run, once all of them are made
+-- the disk calls of a run that made all of them
 abbrev pub AreRunCalls : Start → List ℕ → Told → List DiskCall → Type 0
 AreRunCalls start script t made = (acts : List Act) × AreRunActs start script t acts × (made ≡ calls_of acts)
 
--- Of these acts all were done if a run came to an answer. If a call of the board failed it is one of
--- them, those before it were done, and none after it. Else some first ones were done.
+-- If a run wasn't cut short, all of these acts were done. If a call of the board failed, it is one of them:
+-- those before it were done, and none after it. Otherwise the first few were done.
 abbrev pub DidOf : List Act → CallEnding → Told → Told → Type 0
 DidOf acts answered old now = now ≡ after_acts acts old
 DidOf acts (faulted kind) old now = FailsActs kind acts old now
 DidOf acts ending old now = (done : List Act) × IsPrefixOf done acts × (now ≡ after_acts done old)
 
--- A run that came to an answer took all lines before the first refused one, over a journal that was
--- open: each was accepted at its place, and its calls of the device showed that to be one.
+-- A run that wasn't cut short took all lines before the first refused one, over an open journal. Each was
+-- accepted at its place, and its calls of the device showed the model's device to be one.
 pub record TookAll (start : Start) (script : List ℕ) (t now : Told) : Type 0 where
   pub before : List NumberedLine
   pub rest : List NumberedLine
@@ -102,7 +102,7 @@ pub record TookAll (start : Start) (script : List ℕ) (t now : Told) : Type 0 w
       ++ (script_asked start script (after_acts along (after_acts (orders_acts start) t))
       ++ last_acts start (reads_of script) (run_exit start script)))) t
 
--- Before that the journal was opened, and held the account. So the laws of lines hold of each line.
+-- Before that the journal was opened and gave the account. So the laws of lines hold of each line.
 pub record DidAll (start : Start) (script : List ℕ) (old now : Told) : Type 0 where
   pub first : List Act
   pub opens : AreOpeningActs old.here first
@@ -114,7 +114,7 @@ abbrev pub DidRun : Start → List ℕ → CallEnding → Told → Told → Type
 DidRun start script answered old now = DidAll start script old now
 DidRun start script ending old now = (acts : List Act) × AreRunActs start script old acts × DidOf acts ending old now
 
--- what is told lists the accesses of the run's acts after those before it, and no others
+-- the model lists the accesses of the run's acts after those before it, and no others
 pub record ListsAccesses (start : Start) (script : List ℕ) (old now : Told) : Type 0 where
   pub acts : List Act
   pub are : AreRunActs start script old acts

@@ -1,4 +1,4 @@
--- The run of a script, by if it starts.
+-- The run of a script from where it starts, as events.
 use Rattle.std.specs.Prelude.{List, ℕ, map, Ok, Err}
 use Rattle.std.specs.Option.{option_map_or}
 use Rattle.ras_script.specs.declared.line.Line.{Line}
@@ -13,7 +13,7 @@ use Rattle.ras_daemon.specs.RunOutput.{closing_line}
 use Rattle.ras_daemon.specs.RunStatus.{run_exit}
 use Rattle.ras_daemon.specs.Script.{begun_of, events_of, reads_of}
 
--- what a line does to the record store, as the event that it asks for: a poll clears it
+-- what a line does to the record store, if the line is an event: a poll clears the store
 abbrev pub change_of : Line → StoreChange
 change_of (Poll seconds) = clears
 change_of line = option_map_or puts (put_by line) keeps
@@ -30,8 +30,8 @@ run_event_at start place = record {
   prints = output_at start place;
 }
 
--- It prints the orders that stand in the account first, then what the events of the script print, and
--- then the last line.
+-- The run prints the outstanding orders first, then what the events of the script print, and then the last
+-- line.
 abbrev pub run_of : Start → List ℕ → Run
 run_of start script = record {
   account = start.account;

@@ -20,19 +20,19 @@ abbrev pub closing_line : State → Exit → List ℕ
 closing_line account Done = end_line account
 closing_line account exit = stop_line exit
 
--- what lines print up to the first refused one
+-- what lines print, up to the first refused one
 abbrev pub lines_output : Start → List NumberedLine → List ℕ
 lines_output start reads = flat_map (output_at start) (places_before_refusal start (places reads))
 
--- What a run over a script prints: the orders that stand in the account at its start, what each
--- event prints, and the last line.
+-- What a run over a script prints: the outstanding orders at its start, what each event prints, and the last
+-- line.
 abbrev pub run_output : Start → List ℕ → List ℕ
 run_output start script =
     standing_lines start.account
     ++ (lines_output start (reads_of script)
     ++ closing_line (account_at start (reads_of script)) (run_exit start script))
 
--- what it has printed once the first n events are done
+-- what a run has printed once its first n events are done
 abbrev pub output_upto : Start → List ℕ → ℕ → List ℕ
 output_upto start script n =
     standing_lines start.account ++ flat_map (output_at start) (take n (events_of start script))

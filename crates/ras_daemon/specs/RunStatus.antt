@@ -12,7 +12,7 @@ use Rattle.ras_run.specs.Places.{Start}
 use Rattle.ras_run.specs.Status.{refusal_at}
 use Rattle.ras_daemon.specs.Script.{reads_of}
 
--- where a run begins over files that hold an account, on a board that tells this
+-- where a run starts over files that give an account, on a board whose model says this
 abbrev pub start_of : State → Told → Start
 start_of account t = record {
   account = account;
@@ -30,6 +30,6 @@ first_among (x ∷ xs) = Some x
 abbrev pub refusal_among : Start → List Place → Option Exit
 refusal_among start places = first_among (filter_map (refusal_at start) places)
 
--- how a run over a script ends: with its first refused line, or as the list of its lines does
+-- how a run over a script ends: as its first refused line says, or as the end of its list of lines does
 abbrev pub run_exit : Start → List ℕ → Exit
 run_exit start script = unwrap_or (refusal_among start (places (reads_of script))) (script_exit script)

@@ -1,4 +1,4 @@
--- What the laws of runs speak of: what runs log and order, one run after the other.
+-- What runs log and order, one run after the other: the words of the laws of runs.
 use Rattle.std.specs.Prelude.{◌≡◌, ℕ, List, [], ◌∷◌, ◌++◌, length, take, All, Ok, ⊤}
 use Rattle.std.specs.List.{flat_map}
 use Rattle.page_policy.specs.declared.rows.Order.{Order}
@@ -24,11 +24,11 @@ use Rattle.ras_daemon.specs.Script.{events_of, reads_in, reads_of}
 abbrev pub BeginsWith : History → Start → Type 0
 BeginsWith history start = start.account ≡ account_of history
 
--- the history that a run leaves behind it once its first n events are done
+-- the history that a run leaves once its first n events are done
 abbrev pub history_after : History → Start → List ℕ → ℕ → History
 history_after history start script n = with_entries history (reported start script n)
 
--- what these events log: of the entries that they report those that are news, each at its place
+-- what the first n events log: the new entries among those that they report, each at its place
 abbrev pub logged : Start → List ℕ → ℕ → List Entry
 logged start script n = fresh_entries_in start.account (reported start script n)
 
@@ -38,12 +38,12 @@ facts_of [] = []
 facts_of (Fact fact ∷ entries) = fact ∷ facts_of entries
 facts_of (other ∷ entries) = facts_of entries
 
--- the orders that these events give, each after all that was reported before it
+-- the orders that the first n events give, each after everything that was reported before it
 abbrev pub ordered : Start → List ℕ → ℕ → List Order
 ordered start script n =
     flat_map (λ place. orders_along_entries (account_at start place.0) (entries_at start.store place)) (take n (events_of start script))
 
--- how many events a run has that isn't stopped
+-- how many events an uninterrupted run has
 abbrev pub event_count : Start → List ℕ → ℕ
 event_count start script = length (events_of start script)
 
@@ -51,15 +51,15 @@ event_count start script = length (events_of start script)
 abbrev pub IsTakenWhole : Start → List ℕ → Type 0
 IsTakenWhole start script = run_exit start script ≡ Done
 
--- a run begins with the account that another one left once its first n events were done
+-- a run begins with the account that another run left once its first n events were done
 abbrev pub Follows : Start → List ℕ → ℕ → Start → Type 0
 Follows start script n next = next.account ≡ account_with start script n
 
--- a run reports facts alone, and sets no limit and retires no boot
+-- a run reports only facts: it sets no limit and retires no boot
 abbrev pub ReportsFacts : Start → List ℕ → Type 0
 ReportsFacts start script = All IsFact (reported start script (event_count start script))
 
--- No line of a script polls the record store: what it reports hangs on its own lines alone.
+-- No line of a script polls the record store, so what the script reports depends only on its own lines.
 abbrev pub IsNoPoll : NumberedLine → Type 0
 IsNoPoll (number, Ok (Poll seconds)) = ⊥
 IsNoPoll read = ⊤
@@ -67,13 +67,13 @@ IsNoPoll read = ⊤
 abbrev pub PollsNothing : List ℕ → Type 0
 PollsNothing script = All IsNoPoll (reads_of script)
 
--- two accounts are the same but for the number of their entries
+-- two accounts are equal except for the number of their entries
 abbrev pub CountTheSame : State → State → Type 0
 CountTheSame one other = record one { entries = 0 } ≡ record other { entries = 0 }
 
--- Two scripts begin with the same lines, which report nothing: they tell of the machine. The other
--- lines of the first script tell nothing of it. A third script has these first lines once, and then
--- the others of both.
+-- Two scripts begin with the same lines, which describe the machine and report nothing. The other lines of
+-- the first script don't describe the machine. A third script has these first lines once, and then the other
+-- lines of both.
 pub record AreJoined (one other both : List ℕ) : Type 0 where
   pub rows : List (List ℕ)
   pub first : List (List ℕ)

@@ -16,12 +16,11 @@ use Rattle.ras_run.specs.Status.{places_before_refusal, refusal_at}
 abbrev pub reads_in : List (List ℕ) → List NumberedLine
 reads_in lines = enumerate_from 1 (map line_of lines)
 
--- the lines of a script, up to where their list ends
+-- the lines of a script, up to where its list of lines ends
 abbrev pub reads_of : List ℕ → List NumberedLine
 reads_of script = reads_in (script_lines script).whole
 
--- A line without words and a comment are no event. A line that can't be read is one that ends the
--- run.
+-- An empty line and a comment aren't events. A line that can't be parsed is an event that ends the run.
 abbrev pub is_event : Place → Bool
 is_event (before, (number, Ok asks.Nothing)) = false
 is_event place = true
@@ -30,8 +29,8 @@ is_event place = true
 abbrev pub events_of : Start → List ℕ → List Place
 events_of start script = filter is_event (places_before_refusal start (places (reads_of script)))
 
--- The events that a run begins: those, and then the refused one. A line that is refused by what it
--- asks for is none of them.
+-- The events that a run begins: all before the first refused line, and then the refused one, unless it is
+-- refused for what it asks for.
 abbrev pub begun_with : Option Exit → Place → List Place → List Place
 begun_with None place places = place ∷ places
 begun_with (Some (BadLine number why)) place places = []

@@ -1,4 +1,5 @@
--- What a run leaves of the record store beside the journal, while an event is taken and where it ends.
+-- What a run leaves of the record store beside the journal, while an event is processed and when the run
+-- ends.
 use Rattle.std.specs.Prelude.{◌≡◌, ℕ, ◌⊎◌, List, Option, Some, Ok, IsTrue}
 use Rattle.board_core.specs.Stop.{Becomes}
 use Rattle.cper_records.specs.Readable.{filled, read_under}
@@ -12,18 +13,18 @@ use Rattle.ras_exit.specs.declared.exit.Exit.TheVariants.{ErstBusy}
 use Rattle.ras_panic.specs.Reading.{stored_name}
 use Rattle.ras_daemon.specs.Machine.{StoreChange, clears, puts, store_changed}
 
--- a store less its first records that can be read, as many as were cleared
+-- a store without its first readable records, as many as were cleared
 pub record ClearsFirst (store left : List Stored) : Type 0 where
   pub count : ℕ
   pub is : left ≡ without_first count store
 
--- The store on the way of a change: if that clears it, less the first of its records that can be read;
--- else as before or with the change.
+-- The store during a change: if the change clears the store, without the first of its readable records;
+-- otherwise as before, or with the change.
 abbrev pub StoreDuring : StoreChange → List Stored → List Stored → Type 0
 StoreDuring clears store left = ClearsFirst store left
 StoreDuring change store left = Becomes (store_changed store change) store left
 
--- it puts a record under this identifier
+-- a change puts a record under this identifier
 abbrev pub PutsUnder : StoreChange → ℕ → Type 0
 PutsUnder (puts r) id = r.id ≡ id
 PutsUnder change id = ⊥
@@ -32,21 +33,21 @@ PutsUnder change id = ⊥
 abbrev pub KnownBy : State → Name → Type 0
 KnownBy account name = IsTrue (knows account name)
 
--- the name of each record of a store that can be read is known
+-- the name of each readable record of a store is known
 abbrev pub KnowsReadable : List Stored → (Name → Type 0) → Type 0
 KnowsReadable store Known =
     (id : ℕ) (bytes own : List ℕ) → bytes_under id store ≡ Some bytes → read_under id (filled bytes) ≡ Ok own
     → Known (stored_name own)
 
--- Under each identifier the bytes that were last laid, if they are a record that can be read, are in
--- the store, or the name of the record is known.
+-- Under each identifier the bytes that were last stored, if they are a readable record, are in the store, or
+-- the record's name is known.
 abbrev pub KeepsRecords : (ℕ → Option (List ℕ)) → (Name → Type 0) → List Stored → Type 0
 KeepsRecords last Known store =
     (id : ℕ) (bytes own : List ℕ) → last id ≡ Some bytes → read_under id (filled bytes) ≡ Ok own
     → (bytes_under id store ≡ Some bytes) ⊎ Known (stored_name own)
 
--- The store that a run leaves where it ends: a device that was busy for too long has the record that the
--- next event was to save even so.
+-- The store when a run ends. A device that was busy for too long has the record that the next event was to
+-- save anyway.
 abbrev pub store_at_end : Exit → StoreChange → List Stored → List Stored
 store_at_end ErstBusy (puts r) store = store_changed store (puts r)
 store_at_end exit next store = store

@@ -1,13 +1,14 @@
--- What the words of a call ask for.
+-- What the arguments of the program ask for.
 use Rattle.std.specs.Prelude.{ℕ, ◌-◌, ◌^◌, ◌==◌, ◌&&◌, ◌≤◌, List, [], ◌∷◌, codes, Option, None, Some, if◌then◌else◌, ⊤}
 use Rattle.std.specs.Option.{option_and_then, option_map}
 use Rattle.std.specs.Str.{bytes_eq}
+use Rattle.bank_lines.specs.declared.log_line.TheConstants.{LAST_SECOND}
 use Rattle.ras_load.specs.declared.script.TheConstants.{MOST_LINES}
 use Rattle.ras_script.specs.Number.{decimal_of, hexadecimal_of}
 use Rattle.listing_texts.specs.declared.listing.Listing.{Listing}
 use Rattle.listing_texts.specs.declared.listing.Listing.TheVariants.{Counts, Pages, Names, Modules, Metrics}
 use Rattle.ras_daemon.specs.declared.word.Task.{Task}
-use Rattle.ras_daemon.specs.declared.word.Task.TheVariants.{Run, Report, Load, Pcie, Klog, TraceLines, KlogLines, Help, Version}
+use Rattle.ras_daemon.specs.declared.word.Task.TheVariants.{Run, Report, Load, Pcie, Klog, TraceLines, KlogLines, GhesLines, Help, Version}
 
 -- the listings by their words
 abbrev pub listing_of : List ℕ → Option Listing
@@ -19,13 +20,13 @@ listing_of word =
     else if bytes_eq word (codes "metrics") then Some Metrics
     else None
 
--- a boot's number in decimal digits and IA32_MCG_CAP in hexadecimal ones, as a script writes them
+-- a boot's number in decimal digits and IA32_MCG_CAP in hexadecimal digits, as a script writes them
 abbrev pub klog_of : List ℕ → List ℕ → Option Task
 klog_of one other =
     option_and_then (λ boot. option_map (λ cap. Klog boot cap) (hexadecimal_of other))
     (decimal_of (2 ^ 64 - 1) one)
 
--- the same for the lines that are made of a trace or of a log
+-- the numbers for the lines made from a trace, and from a log
 abbrev pub trace_lines_of : List ℕ → Option Task
 trace_lines_of boot = option_map (λ number. TraceLines number) (decimal_of (2 ^ 64 - 1) boot)
 
@@ -34,14 +35,20 @@ klog_lines_of boot cap =
     option_and_then (λ number. option_map (λ mask. KlogLines number mask) (hexadecimal_of cap))
     (decimal_of (2 ^ 64 - 1) boot)
 
--- a number from 1 to the most reports that a script may be made up of
+-- a boot's number and the second at which it began, in decimal digits
+abbrev pub ghes_lines_of : List ℕ → List ℕ → Option Task
+ghes_lines_of boot began =
+    option_and_then (λ number. option_map (λ second. GhesLines number second) (decimal_of LAST_SECOND began))
+    (decimal_of (2 ^ 64 - 1) boot)
+
+-- a number from 1 to the most reports that a made-up script may have
 abbrev pub load_of : List ℕ → Option Task
 load_of word =
     option_and_then (λ n. if n == 0 then None else Some (Load n)) (decimal_of MOST_LINES word)
 
--- The forms of a call: `run`; `pcie`; `report` with a listing; `load` with a number; `klog` with a
--- boot and IA32_MCG_CAP; `lines trace` with a boot, and `lines klog` with both; `--help`; `--version`.
--- Other words are no form.
+-- The commands: `run`; `pcie`; `report` with a listing; `load` with a number; `klog` with a boot and
+-- IA32_MCG_CAP; `lines trace` with a boot, `lines klog` with both, and `lines ghes` with a boot and the
+-- second at which it began; `--help`; `--version`. Other arguments aren't a command.
 abbrev pub task_of : List (List ℕ) → Option Task
 task_of [] = None
 task_of (word ∷ []) =
@@ -60,20 +67,23 @@ task_of (word ∷ one ∷ other ∷ []) =
     else None
 task_of (word ∷ form ∷ boot ∷ cap ∷ []) =
     if bytes_eq word (codes "lines") && bytes_eq form (codes "klog") then klog_lines_of boot cap
+    else if bytes_eq word (codes "lines") && bytes_eq form (codes "ghes") then ghes_lines_of boot cap
     else None
 task_of (word ∷ form ∷ boot ∷ cap ∷ more ∷ words) = None
 
--- the number of a script that is made up is in its range
+-- the number of made-up reports, and the second of a boot, are in their ranges
 abbrev pub IsTask : Task → Type 0
 IsTask (Load n) = n ≤ MOST_LINES
+IsTask (GhesLines boot began) = began ≤ LAST_SECOND
 IsTask task = ⊤
 
--- What holds of the source, by what the words ask for: what reads it takes of it, and all else leaves it
--- as it was.
+-- What a command does to its source: `Takes` if the command reads the source, and `Same`, which says that
+-- the source is as it was, if it doesn't.
 abbrev pub ReadsBy : Option Task → Type 0 → Type 0 → Type 0
 ReadsBy (Some Run) Takes Same = Takes
 ReadsBy (Some Pcie) Takes Same = Takes
 ReadsBy (Some (Klog boot cap)) Takes Same = Takes
 ReadsBy (Some (TraceLines boot)) Takes Same = Takes
 ReadsBy (Some (KlogLines boot cap)) Takes Same = Takes
+ReadsBy (Some (GhesLines boot began)) Takes Same = Takes
 ReadsBy task Takes Same = Same

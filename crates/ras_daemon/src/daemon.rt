@@ -1,4 +1,4 @@
-//! The top call.
+//! The program's call: runs one command.
 
 ghost use Rattle.std.specs.Prelude.{◌≡◌, ◌≢◌, ◌⊎◌, ℕ, List, Option, Some, length};
 ghost use Rattle.board_core.specs.Cause.{Faults};
@@ -27,6 +27,7 @@ use crate::load::load;
 use crate::running::run;
 use crate::{RasWord, Task, task_of};
 use bank_lines::{LogFilter, TraceFilter};
+use block_lines::BlockFilter;
 use board_core::{Board, Source};
 use cper_pcie::PcieFilter;
 use line_filters::filter_lines;
@@ -35,47 +36,49 @@ use ras_klog::KlogFilter;
 use ras_listing::report;
 use std::alloc::Global;
 
-/// Does what the words ask for, over a source that gives the script and a board that keeps the
-/// account in its journal.
+/// Runs the command given by `words`, reading its input from `source` and keeping the account on
+/// `board`. Returns how the command ended.
 pub fn rasd<S: Source, B: Board>(
     alloc: Global,
     words: &[RasWord],
     source: &mut S,
     board: &mut B,
 ) -> Exit
-    // What a run does, if the files hold an account: how it ends, what it prints, which events are
-    // done, which acts it does, in order, and how far it reads.
+    // A run over files that give an account: how it ends, what it prints, which events are done,
+    // which acts it does, in order, and how far it reads.
     ensures ran { OverRun (λ start script told.
         StillTell (Ran result (source.new ≡ source.old) start script told)
         (S.left source.new) (B.told board.new))
         (task_of words.now) (S.left source.old) (B.told board.old) }
 
-    // What a stop of the machine at any moment of it leaves.
+    // What a crash of the machine at any point of a run leaves.
     ensures stops { OverRun (λ start script told.
         RunStops B.told B.clock result (source.new ≡ source.old) start script told
         board.old board.new)
         (task_of words.now) (S.left source.old) (B.told board.old) }
 
-    // If the files are damaged or too long, a run says so, and leaves them and all else.
+    // If a journal file is damaged or too long, a run reports it, and changes neither the files nor
+    // anything else.
     ensures refused { OverRefused
         (Refuses result (source.new ≡ source.old) (B.clock board.old) (B.clock board.new))
         (task_of words.now) (B.told board.old) (B.told board.new) }
 
-    // What every other command tells, by what the source and the files hold, and words of no form.
+    // What every other command prints, and unrecognized arguments too, by what the source and the
+    // files contain.
     ensures commands { ByTask result (task_of words.now) (S.left source.old) (S.left source.new)
         (B.told board.old) (B.told board.new) (B.clock board.old) (B.clock board.new) }
 
     // A command that reads the source takes at most 67,108,865 bytes of it, and all of them if it
-    // is done. All else leaves it alone.
+    // ends as done. Every other command leaves the source alone.
     ensures reads { ReadsBy (task_of words.now)
         (TakesBy result (S.left source.old) (S.left source.new)) (source.new ≡ source.old) }
 
-    // A fault is the exit if and only if a call failed, and then no other did.
+    // A command ends with a fault if and only if a call failed, and then no other call failed.
     ensures causes { Caused result (S.faults source.old) (S.faults source.new)
         (B.faults board.old) (B.faults board.new) }
 
-    // Each command has its own exits. Words of no form end with the usage line; these, `--help` and
-    // `--version` take no memory.
+    // Each command has its own exits. Unrecognized arguments end with the usage line. Printing it,
+    // `--help` and `--version` allocate nothing.
     ensures exits { MayEnd (task_of words.now) result }
 {
     match task_of(words) {
@@ -98,22 +101,25 @@ pub fn rasd<S: Source, B: Board>(
             let mut filter = LogFilter::new(boot, cap);
             filter_lines(alloc, &mut filter, source, board)
         }
+        Some(Task::GhesLines { boot, began }) => {
+            let mut filter = BlockFilter::new(alloc, boot, began);
+            filter_lines(alloc, &mut filter, source, board)
+        }
         Some(Task::Help) => last_line(help_text(), Exit::Done, board),
         Some(Task::Version) => last_line(version_line(), Exit::Done, board),
         None => last_line(usage_line(), Exit::Usage, board),
     }
 }
 
-/// What else holds of a run, by what `rasd` promises of it. The function does nothing: its clauses
-/// are what it is for.
+/// What else follows of a run from the promises of `rasd`.
 pub fn promise_laws<S: Source, B: Board>()
-    // If it comes to an answer its done lines number its events.
+    // If a run ends without a fault, its done lines number its events.
     ensures counted { (exit : Exit) (first last : S) (start : Start) (script left : List ℕ)
         (before now : Told) → Ran exit (last ≡ first) start script before left now
         → OnAnswer exit (done_count (run_output start script) ≡ length (events_of start script)) }
 
-    // Its disk calls are those of its acts, or a beginning of them; at an answer its accesses to the
-    // device are theirs.
+    // A run's disk calls are the disk calls of its acts, or a beginning of them. If the run ends
+    // without a fault, its accesses to the device are those of its acts.
     ensures calls { (exit : Exit) (first last : S) (start : Start) (script left : List ℕ)
         (before now : Told) → Ran exit (last ≡ first) start script before left now
         → Makes (IsBeginning (AreRunCalls start script before)) before now }
@@ -121,20 +127,20 @@ pub fn promise_laws<S: Source, B: Board>()
         (before now : Told) → Ran exit (last ≡ first) start script before left now
         → OnAnswer exit (ListsAccesses start script before now) }
 
-    // Once it is done the record store is what its events left.
+    // Once a run is done, the record store is what its events left.
     ensures stored { (first last : S) (start : Start) (script left : List ℕ) (before now : Told)
         → Ran Exit.Done (last ≡ first) start script before left now
         → now.here.store ≡ laid_with start script (event_count start script) }
 
-    // If no file that a stop at its start may leave has more than 256 links, none has that a stop
-    // at any moment of it may leave.
+    // If no file that a crash at the start may leave has more than 256 links, neither has any file
+    // that a crash at any point of the run may leave.
     ensures few { (exit : Exit) (first last : S) (start : Start) (script : List ℕ) (t : Told)
         (old new : B) → B.told old ≡ Some t
         → RunStops B.told B.clock exit (last ≡ first) start script t old new
         → Always (B.clock old) (B.clock old).now HasFewLinks
         → Always (B.clock new) (B.clock old).now HasFewLinks }
 
-    // If no count of faults rose, a run that is refused nowhere is done, unless memory ran out.
+    // If no count of faults rose, a run that refuses no line is done, unless memory ran out.
     ensures complete { (exit : Exit) (first last : S) (start : Start) (script left : List ℕ)
         (before now : Told) (count after : ℕ) (faults then : Faults)
         → Ran exit (last ≡ first) start script before left now
@@ -142,7 +148,7 @@ pub fn promise_laws<S: Source, B: Board>()
         → IsQuiet count after → IsQuietBoard faults then → run_exit start script ≡ Exit.Done
         → (exit ≡ Exit.Done) ⊎ (exit ≡ Exit.NoMemory) }
 
-    // A status that the device of the record store answered is told only if it isn't 0.
+    // A status of the record store's device is reported only if it isn't 0.
     ensures coded { (task : Option Task) (exit : Exit) (code : ℕ) → MayEnd task exit
         → exit ≡ Exit.ErstStatus code → code ≢ 0 }
 {}

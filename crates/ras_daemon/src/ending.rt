@@ -16,11 +16,12 @@ use ras_exit::{Exit, busy_line, print, stop_line};
 use ras_texts::end_line;
 use std::alloc::Global;
 
-/// The last line of a run: the end line of its account if it is done, and else the stop line of its
-/// refusal.
+/// Returns the last line of a run: the end line of its account if the run is done, otherwise the
+/// stop line of its exit.
 ///
 /// # Errors
 ///
+/// `NoMemory`: only if memory runs out.
 /// `NoMemory` comes only if memory runs out.
 pub fn closing_line(alloc: Global, exit: Exit, account: &Account) -> Result<Vec<u8>, NoMemory>
     ensures { IfOk result (λ line. line.items ≡ closing_line account.now.state exit) }
@@ -31,9 +32,9 @@ pub fn closing_line(alloc: Global, exit: Exit, account: &Account) -> Result<Vec<
     }
 }
 
-/// Prints the last line of a run that ends by this exit, and tells how it ended. If a fault or lack
-/// of memory cut the run short, it has no last line. That of a device that was busy for too long takes
-/// no memory: the record that was to be saved is in the store, and the exit has to say so.
+/// Prints the last line of a run that ends with `exit`, and returns how the run ended. A run that
+/// was cut short by a fault or lack of memory has no last line. The line for a device that was busy
+/// for too long allocates nothing, because its record is in the store and the exit has to say so.
 pub fn end_run<B: Board>(alloc: Global, exit: Exit, account: &Account, board: &mut B) -> Exit
     ensures ends { Ends (looks B.told B.clock B.faults) exit result
         (closing_line account.now.state exit) board.old board.new }
@@ -54,7 +55,9 @@ pub fn end_run<B: Board>(alloc: Global, exit: Exit, account: &Account, board: &m
     }
 }
 
-/// Prints the last line of a call that ends by this exit, and tells how it ended.
+/// Prints the last line of a command that ends with `exit`, and returns how the command ended: with
+/// `exit`, or with `PrintFault` if the print failed. Requires an exit with which no call failed and
+/// memory didn't run out.
 pub fn last_line<B: Board>(line: &[u8], exit: Exit, board: &mut B) -> Exit
     requires { IsAnswer exit }
     ensures says { Says (looks B.told B.clock B.faults) exit result line.now

@@ -3,7 +3,7 @@
 ghost use Rattle.std.specs.Prelude.{◌≡◌};
 ghost use Rattle.ras_daemon.specs.Help.{help_text, version_line};
 
-/// The forms of words, where the account is, and the statuses, a line each.
+/// The text of `--help`: the commands, where the account is, and the statuses, one line each.
 pub const HELP: &[u8] = b"\
     rasd keeps the account of a machine's hardware errors.\n\
     \n\
@@ -15,6 +15,7 @@ pub const HELP: &[u8] = b"\
     rasd report metrics            the account in the text format of Prometheus\n\
     rasd lines trace BOOT < TRACE  make a script of a trace of the kernel\n\
     rasd lines klog BOOT CAP < LOG make a script of a log of the kernel\n\
+    rasd lines ghes BOOT SEC < LOG make a script of what the firmware reported\n\
     rasd klog BOOT CAP < LOG       print the machine checks of a log, decoded\n\
     rasd pcie < SCRIPT             print the PCI Express errors of a script\n\
     rasd load N                    try the machine with N reports, in memory\n\
@@ -22,6 +23,7 @@ pub const HELP: &[u8] = b"\
     rasd --version                 print the version\n\
     \n\
     BOOT is the boot's number, decimal; CAP is IA32_MCG_CAP, hexadecimal.\n\
+    SEC is the second since 1970 at which the boot began, decimal.\n\
     The account is in the working folder: the journal rasd.0 and rasd.1, and the\n\
     record store rasd.store. The installed command goes to /var/lib/rasd, or to\n\
     the folder that RASD_FOLDER names. Only run and report use files.\n\
@@ -43,15 +45,15 @@ pub const HELP: &[u8] = b"\
     13 the input or a journal file has more than 67,108,864 bytes\n\
     man rasd and docs/OPERATOR.md say more, and what to do about each.\n";
 
-/// What `--help` prints. It takes no memory.
+/// Returns the text that `--help` prints. Allocates nothing.
 pub fn help_text() -> &'static [u8]
     ensures { result.now ≡ help_text }
 {
     HELP
 }
 
-/// What `--version` prints: the program's name, and its version as `report metrics` gives it. It
-/// takes no memory.
+/// Returns the line that `--version` prints: the program's name, and its version as in `report
+/// metrics`. Allocates nothing.
 pub fn version_line() -> &'static [u8]
     ensures { result.now ≡ version_line }
 {

@@ -1,6 +1,6 @@
-//! What runs log and order, one after the other on one journal.
+//! What runs on one journal log and order, one run after the other.
 
-ghost use Rattle.std.specs.Prelude.{◌≡◌, ◌++◌, ℕ, List, [], ◌∷◌, Some, map, if◌then◌else◌};
+ghost use Rattle.std.specs.Prelude.{◌≡◌, ◌++◌, ℕ, List, [], ◌∷◌, Some, if◌then◌else◌};
 ghost use Rattle.std.specs.List.{IsDistinct};
 ghost use Rattle.std.specs.Map.{lookup};
 ghost use Rattle.dimm_topology.specs.Labels.{Bytes, same_label};
@@ -15,11 +15,12 @@ ghost use Rattle.ras_account.specs.Fresh.{fresh_entries};
 ghost use Rattle.ras_account.specs.Modules.{Module, has_tripped};
 ghost use Rattle.ras_account.specs.Orders.{orders, orders_since_mark};
 ghost use Rattle.ras_run.specs.Places.{Start};
+ghost use Rattle.ras_script.specs.Lines.{script_lines};
 ghost use Rattle.bank_lines.specs.Texts.{asks_in};
 ghost use Rattle.ras_account.specs.Continued.{account_after_all};
 ghost use Rattle.ras_events.specs.Reports.{rows_told};
 ghost use Rattle.ras_facts.specs.declared.bank.BankReport.{BankReport};
-ghost use Rattle.ras_daemon.specs.Feeding.{IsFed, asked_by, asks_bank, bank_entries};
+ghost use Rattle.ras_daemon.specs.Feeding.{IsFed, asked_by, bank_entries};
 ghost use Rattle.ras_daemon.specs.Headline.{account_with, laid_with};
 ghost use Rattle.ras_daemon.specs.Machine.{account_upto, store_upto, text_of, text_upto};
 ghost use Rattle.ras_daemon.specs.RunOf.{run_of};
@@ -31,10 +32,10 @@ ghost use Rattle.ras_daemon.specs.Runs.{ReportsFacts, event_count, facts_of, his
 ghost use Rattle.ras_daemon.specs.Runs.{logged, ordered};
 ghost use Rattle.ras_daemon.specs.Script.{events_of, reads_in};
 
-/// The laws of runs on one journal. The function does nothing: its clauses are what it is for.
+/// What holds of runs on one journal.
 pub fn run_laws()
-    // What a run prints and how it ends needs of what was before it the account alone, if the
-    // journal stands, the record store, and how slow the store's device is.
+    // What a run prints and how it ends depend, besides its script, only on the account, the
+    // journal's position and the record store at its start, and on how slow the store's device is.
     ensures output { (one other : Start) (script : List ℕ) → one.account ≡ other.account
         → one.standing ≡ other.standing → one.store ≡ other.store → one.slow ≡ other.slow
         → run_output one script ≡ run_output other script }
@@ -42,8 +43,8 @@ pub fn run_laws()
         → one.standing ≡ other.standing → one.store ≡ other.store → one.slow ≡ other.slow
         → run_exit one script ≡ run_exit other script }
 
-    // If the account at its start is that of a history, a run leaves the account of that history
-    // with what its first events report.
+    // A run that begins with the account of a history leaves the account of that history with the
+    // reports of its first events.
     ensures accounts { (history : History) (start : Start) (script : List ℕ) (n : ℕ)
         → BeginsWith history start → account_with start script n
         ≡ account_of (history_after history start script n) }
@@ -57,7 +58,7 @@ pub fn run_laws()
         → IsPrefixOf (lines_output start (reads_in lines))
         (lines_output start (reads_in (lines ++ more))) }
 
-    // What a run logs comes after what the earlier runs logged, and no name is logged twice.
+    // What a run logs follows what the earlier runs logged, and no name is logged twice.
     ensures logged { (history : History) (start : Start) (script : List ℕ) (n : ℕ)
         → BeginsWith history start → fresh_entries (history_after history start script n)
         ≡ fresh_entries history ++ logged start script n }
@@ -65,15 +66,15 @@ pub fn run_laws()
         → BeginsWith history start → IsDistinct same_name
         (names_of (fresh_entries history ++ logged start script n)) }
 
-    // So a script that was taken whole logs no report when it is run again, if it polls nothing.
+    // So a script without polls of which no line was refused logs no report when it is run again.
     ensures again { (history : History) (start next : Start) (script : List ℕ) (n : ℕ)
         → PollsNothing script → BeginsWith history start → IsTakenWhole start script
         → Follows start script (event_count start script) next
         → names_of (logged next script n) ≡ [] }
 
-    // And a script that is run again after a stop at any of its events ends with the account with
-    // which it ends if it isn't stopped, but for the number of entries, since limits are set
-    // again. If it reports facts alone that number is the same too.
+    // A script that is run again after a crash at any of its events ends with the account of an
+    // uninterrupted run, except for the number of entries, because limits are set again. If it
+    // reports only facts, that number is the same too.
     ensures resumed { (history : History) (start next : Start) (script : List ℕ) (n : ℕ)
         → PollsNothing script → BeginsWith history start → IsTakenWhole start script
         → Follows start script n next → IsTakenWhole next script
@@ -85,18 +86,19 @@ pub fn run_laws()
         → account_with next script (event_count next script)
         ≡ account_with start script (event_count start script) }
 
-    // Together such runs log each report of the run that isn't stopped once, in the same order. The
-    // stop can keep a report's lines from being printed only if it comes between the report's
-    // link and its print; what the report ordered stands then at the next start, by the clauses
-    // on what stands.
+    // Together such runs log each report of the uninterrupted run once, in the same order. A crash
+    // can keep a report's lines from being printed only if it comes between appending the report's
+    // link and printing. What the report ordered is then outstanding at the next start, by
+    // `page_stands` and `module_stands`.
     ensures together { (history : History) (start next : Start) (script : List ℕ) (n : ℕ)
         → PollsNothing script → BeginsWith history start → IsTakenWhole start script
         → Follows start script n next → IsTakenWhole next script
         → facts_of (logged start script n ++ logged next script (event_count next script))
         ≡ facts_of (logged start script (event_count start script)) }
 
-    // Two scripts that are run one after the other leave the account of the script that joins them,
-    // if both begin with the same rows of the machine, which the joined script has once.
+    // Two scripts without polls that are run one after the other leave the account of the script
+    // that joins them, if both begin with the same machine description, which the joined script has
+    // once.
     ensures joined { (start next : Start) (one other both : List ℕ) → AreJoined one other both
         → PollsNothing both
         → IsTakenWhole start one → Follows start one (event_count start one) next
@@ -104,8 +106,8 @@ pub fn run_laws()
         → account_with next other (event_count next other)
         ≡ account_with start both (event_count start both) }
 
-    // The orders of a run come after those of the earlier runs, and together they take a page out
-    // of use at most once softly and at most once hard, and never softly after that.
+    // The orders of a run follow the orders of the earlier runs. Together they take a page offline
+    // at most once softly and at most once hard, and never softly after that.
     ensures ordered { (history : History) (start : Start) (script : List ℕ) (n : ℕ)
         → BeginsWith history start → orders (history_after history start script n)
         ≡ orders history ++ ordered start script n }
@@ -113,8 +115,8 @@ pub fn run_laws()
         → BeginsWith history start → AreOnceInOrder page
         (orders_for_page page (orders history ++ ordered start script n)) }
 
-    // Since the last mark they ask for a module to be replaced once if its own corrected errors
-    // have made its bucket trip, and else not at all.
+    // Since the last upgrade marker they ask once for a module to be replaced if its own corrected
+    // errors have tripped its bucket, and otherwise never.
     ensures module { (history : History) (start : Start) (script : List ℕ) (n : ℕ)
         (label : Bytes) → BeginsWith history start
         → let after = history_after history start script n in HasRow after label
@@ -123,9 +125,8 @@ pub fn run_laws()
         ≡ (if has_tripped (module_errors after label)
         then replace_order after label ∷ [] else []) }
 
-    // What stands, and is printed when the next run starts: a page in the highest state that its
-    // orders asked for, and a module that is to be replaced if its own errors made its bucket
-    // trip.
+    // What is outstanding, and is printed when the next run starts: a page in the highest state
+    // that its orders asked for, and a module to be replaced if its own errors tripped its bucket.
     ensures page_stands { (history : History) (start : Start) (script : List ℕ) (n page : ℕ)
         → BeginsWith history start
         → state_in (account_with start script n).pages page
@@ -136,11 +137,10 @@ pub fn run_laws()
         → row.replace ≡ has_tripped (module_errors (history_after history start script n) label) }
 {}
 
-/// What a run is as it looks from outside. The function does nothing: its clauses are what it is
-/// for.
+/// What holds of a run seen from outside, as events.
 pub fn outside_laws()
-    // Once some of its events are done it has the account, the record store and the text that the
-    // first events of its script give.
+    // Once some events are done, the account, the record store and the text are those that the
+    // first events of the script give.
     ensures account { (start : Start) (script : List ℕ) (n : ℕ)
         → account_upto (run_of start script) n ≡ account_with start script n }
     ensures store { (start : Start) (script : List ℕ) (n : ℕ)
@@ -148,21 +148,19 @@ pub fn outside_laws()
     ensures text { (start : Start) (script : List ℕ) (n : ℕ)
         → text_upto (run_of start script) n ≡ output_upto start script n }
 
-    // And all that it prints is the output of its script.
+    // All that the run prints is the output of its script.
     ensures output { (start : Start) (script : List ℕ)
         → text_of (run_of start script) ≡ run_output start script }
 {}
 
-/// What a run makes of the lines that `lines` prints, if it takes all of them. The function does
-/// nothing: its clauses are what it is for.
+/// What holds of a run over lines such as `lines` prints, if no line is refused.
 pub fn feeding_laws()
-    // The events of such a script are those of the machine's rows, and then the reports of the
-    // banks, in order, and nothing else.
-    ensures events { (start : Start) (rows : List (List ℕ)) (banks : List BankReport)
-        (script : List ℕ) → IsFed start.store rows banks script → IsTakenWhole start script
-        → asked_by (events_of start script) ≡ asks_in rows ++ map asks_bank banks }
+    // The events of a script are what its lines ask for, in order, and nothing else.
+    ensures events { (start : Start) (script : List ℕ) → IsTakenWhole start script
+        → asked_by (events_of start script) ≡ asks_in (script_lines script).whole }
 
-    // So its account is the account at its start with these reports.
+    // So if a script has the machine description and then lines that ask for reports of banks, the
+    // run leaves the account at its start with these reports.
     ensures account { (start : Start) (rows : List (List ℕ)) (banks : List BankReport)
         (script : List ℕ) → IsFed start.store rows banks script → IsTakenWhole start script
         → account_with start script (event_count start script) ≡ account_after_all start.account

@@ -1,5 +1,7 @@
-//! The daemon: takes a script of hardware error reports over a journal that outlives a stop at any
-//! moment.
+//! The daemon: runs commands. A run takes a script of hardware error reports over a journal that
+//! survives a crash at any point.
+//!
+//! A public function with an empty body is a law: its clauses are the point.
 #![tactic(auto)]
 
 mod daemon;

@@ -17,12 +17,13 @@ use ras_exit::Exit;
 use ras_run::{Run, take_line};
 use std::alloc::Global;
 
-/// Takes the lines of a source in order, up to the first refused one or to its end.
+/// Processes the lines of a source in order, up to its end or to the first refused line. Requires
+/// lines of which none was read, and a run whose journal is ready.
 ///
 /// # Errors
 ///
-/// Why the run ends among its lines: as `NumberedLines::next` of line_filters, or as `take_line` of
-/// ras_run.
+/// Why the run ends before the source does: an exit of `NumberedLines::next` (line_filters) or of
+/// `take_line` (ras_run).
 pub fn take_lines<S: Source, B: Board>(
     alloc: Global,
     lines: &mut NumberedLines,

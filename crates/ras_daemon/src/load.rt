@@ -1,4 +1,4 @@
-//! A run over a script that is made up, on a board in memory.
+//! A run over a made-up script, on a board in memory.
 
 ghost use Rattle.std.specs.Prelude.{◌≡◌, ◌≤◌, ◌-◌, ◌/◌, ℕ, length, IfOk};
 ghost use Rattle.board_core.specs.Clock.{Adds};
@@ -25,8 +25,8 @@ use ras_recover::recover;
 use ras_script::LONGEST_LINE;
 use std::alloc::Global;
 
-/// Takes the script that is made up of `n` reports, over a journal in memory, and prints the line
-/// that sums up its account. It reads no script, and of the board it only prints.
+/// Runs a made-up script of `n` reports over a journal in memory, and prints the line that sums up
+/// its account. Returns how that ended. Reads no input, and only prints on `board`.
 pub fn load<B: Board>(alloc: Global, n: u64, board: &mut B) -> Exit
     requires { n ≤ MOST_LINES }
     ensures loads { Relates (OnlyTells Exit.Done (load_output n) result)
@@ -44,8 +44,8 @@ pub fn load<B: Board>(alloc: Global, n: u64, board: &mut B) -> Exit
     }
 }
 
-// The line that sums up a run over the script of `n` reports. That run has a board of its own, whose
-// calls fail only for want of memory.
+// Returns the line that sums up a run over the made-up script of `n` reports. The run has a board
+// of its own, whose calls fail only if memory runs out.
 fn loaded_line(alloc: Global, n: u64) -> Result<Vec<u8>, NoMemory>
     requires { n ≤ MOST_LINES }
     ensures { IfOk result (λ line. line.items ≡ load_output n) }
@@ -62,15 +62,15 @@ fn loaded_line(alloc: Global, n: u64) -> Result<Vec<u8>, NoMemory>
     }
 }
 
-/// The laws of a run over a script that is made up. The function does nothing: its clauses are what
-/// it is for.
+/// What holds of a run over a made-up script.
 pub fn loading_laws()
-    // None of its lines is refused: the account and the journal have room for all that they report.
-    // So a run over empty files comes to its end.
+    // No line is refused, because the account and the journal have room for all reports. So a run
+    // over empty files reaches its end.
     ensures taken { (n : ℕ) → n ≤ MOST_LINES
         → run_exit load_start (load_script n) ≡ Exit.Done }
 
-    // Every report counts as one corrected error, but for each tenth, which repeats the one before.
+    // Each report counts as one corrected error, except every tenth, which repeats the report
+    // before it.
     ensures names { (n : ℕ) → n ≤ MOST_LINES
         → length (load_account n).names ≡ n - n / 10 }
     ensures corrected { (n : ℕ) → n ≤ MOST_LINES

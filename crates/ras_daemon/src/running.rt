@@ -1,4 +1,4 @@
-//! A run: the journal is opened, and the script is taken over it.
+//! A run: opens the journal and processes the script.
 
 ghost use Rattle.std.specs.Prelude.{◌≡◌, ℕ, List, [], Some};
 ghost use Rattle.board_core.specs.Doing.{looks};
@@ -28,8 +28,8 @@ use ras_ledger::Ledger;
 use ras_run::{Run, open, print_standing};
 use std::alloc::Global;
 
-/// Opens the journal, prints the orders that stand, and takes the lines of a script; then the run
-/// ends.
+/// Runs a script: opens the journal, prints the outstanding orders, processes the lines of
+/// `source`, and prints the last line. Returns how the run ended.
 pub fn run<S: Source, B: Board>(alloc: Global, source: &mut S, board: &mut B) -> Exit
     ensures comes { OverRun (λ start script told. Comes (looks B.told B.clock B.faults)
         (source.new ≡ source.old) start script result told (S.left source.new) board.old board.new)
@@ -48,14 +48,14 @@ pub fn run<S: Source, B: Board>(alloc: Global, source: &mut S, board: &mut B) ->
     };
     match open(alloc, board) {
         Ok(ledger) => take_script(alloc, &mut lines, ledger, source, board),
-        // No account was made: the last line of a refusal tells nothing of it.
+        // No account was made, and the last line of a refusal says nothing about it.
         Err(exit) => end_run(alloc, exit, &Account::new(alloc), board),
     }
 }
 
-// Takes a script over a journal that was just opened. It owns the run and has one exit, and
-// `take_from` borrows it and has the others: each exit of an owner has to drop what it owns, and
-// costs many seconds of proof.
+// Processes a script over a journal that was just opened. It owns the run and has one exit;
+// `take_from` borrows the run and has the others, because each exit of an owner has to drop what it
+// owns, which costs many seconds of proof.
 fn take_script<S: Source, B: Board>(
     alloc: Global,
     lines: &mut NumberedLines,
@@ -84,7 +84,7 @@ fn take_script<S: Source, B: Board>(
     take_from(alloc, lines, &mut run, source, board)
 }
 
-// Prints the orders that stand in the account, and takes the lines of the script; then the run ends.
+// Prints the outstanding orders, processes the lines of the script, and prints the last line.
 fn take_from<S: Source, B: Board>(
     alloc: Global,
     lines: &mut NumberedLines,

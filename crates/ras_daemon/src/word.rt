@@ -1,9 +1,10 @@
-//! The words of a call.
+//! The arguments of the program.
 
 ghost use Rattle.std.specs.Prelude.{◌≡◌, IfOk, IfSome};
 ghost use Rattle.ras_daemon.specs.Task.{IsTask, klog_lines_of, klog_of, listing_of, load_of, task_of};
-ghost use Rattle.ras_daemon.specs.Task.{trace_lines_of};
+ghost use Rattle.ras_daemon.specs.Task.{ghes_lines_of, trace_lines_of};
 
+use bank_lines::LAST_SECOND;
 use listing_texts::Listing;
 use ras_base::NoMemory;
 use ras_load::MOST_LINES;
@@ -11,7 +12,7 @@ use ras_script::{decimal, hexadecimal};
 use std::alloc::Global;
 use std::marker::Model;
 
-/// A word of a call, as bytes.
+/// An argument, as bytes.
 #[derive(Drop)]
 pub struct RasWord {
     bytes: Vec<u8>,
@@ -26,7 +27,11 @@ impl Model for RasWord {
 }
 
 impl RasWord {
-    /// A word of these bytes.
+    /// Returns the argument with these bytes.
+    ///
+    /// # Errors
+    ///
+    /// `NoMemory`: only if memory runs out.
     pub fn new(alloc: Global, bytes: &[u8]) -> Result<RasWord, NoMemory>
         ensures { IfOk result (λ word. word ≡ bytes.now) }
     {
@@ -35,7 +40,7 @@ impl RasWord {
         })
     }
 
-    /// The word's bytes.
+    /// Returns the argument's bytes.
     pub fn bytes(&self) -> &[u8]
         ensures { result.now ≡ self.now }
     {
@@ -43,14 +48,14 @@ impl RasWord {
     }
 }
 
-/// What the words of a call ask for.
+/// What the arguments ask for.
 #[derive(Clone, Copy, Debug, PartialEq, Eq)]
 pub enum Task {
-    /// Take a script.
+    /// Run a script.
     Run,
-    /// List what the journal's files hold.
+    /// List what the journal's files contain.
     Report(Listing),
-    /// Take a made-up script of this many reports, in memory, and sum up its account.
+    /// Run a made-up script of this many reports, in memory, and sum up its account.
     Load(u64),
     /// Print the PCI Express sections of a script's records and blocks.
     Pcie,
@@ -61,25 +66,33 @@ pub enum Task {
         /// The processors' IA32_MCG_CAP.
         cap: u64,
     },
-    /// Make lines of script of the machine checks that the kernel's trace has.
+    /// Convert the machine checks of a kernel trace to lines of script.
     TraceLines {
         /// The number of the boot.
         boot: u64,
     },
-    /// Make lines of script of the machine checks that a kernel log has.
+    /// Convert the machine checks of a kernel log to lines of script.
     KlogLines {
         /// The number of the boot.
         boot: u64,
         /// The processors' IA32_MCG_CAP.
         cap: u64,
     },
-    /// Print the forms of words.
+    /// Convert the memory errors that the firmware reported, as a kernel log has them, to lines of
+    /// script.
+    GhesLines {
+        /// The number of the boot.
+        boot: u64,
+        /// The second since 1970 at which the boot began.
+        began: u64,
+    },
+    /// Print the commands and statuses.
     Help,
     /// Print the program's version.
     Version,
 }
 
-/// What these words ask for, if they are a form of a call:
+/// Returns what the arguments ask for, if they are a command:
 ///
 /// - `run`
 /// - `pcie`
@@ -88,6 +101,8 @@ pub enum Task {
 /// - `klog` with the number of the boot in decimal digits and IA32_MCG_CAP in hexadecimal ones, as
 ///   a script writes them
 /// - `lines` with `trace` and the number of the boot, or with `klog` and both of these numbers
+/// - `lines` with `ghes`, the number of the boot, and the second at which it began, up to
+///   999,999,999,999
 /// - `--help`, and `--version`
 pub fn task_of(words: &[RasWord]) -> Option<Task>
     ensures task { result ≡ task_of words.now }
@@ -113,11 +128,15 @@ pub fn task_of(words: &[RasWord]) -> Option<Task>
             if word.bytes() == b"lines".as_slice() && form.bytes() == b"klog".as_slice() => {
             klog_lines_of(boot.bytes(), cap.bytes())
         }
+        [word, form, boot, began]
+            if word.bytes() == b"lines".as_slice() && form.bytes() == b"ghes".as_slice() => {
+            ghes_lines_of(boot.bytes(), began.bytes())
+        }
         _ => None,
     }
 }
 
-// The script of this number of reports.
+// Returns the run over this number of made-up reports, from 1 to the most there may be.
 fn load_of(count: &[u8]) -> Option<Task>
     ensures task { result ≡ load_of count.now }
     ensures range { IfSome result IsTask }
@@ -128,7 +147,7 @@ fn load_of(count: &[u8]) -> Option<Task>
     }
 }
 
-// The kernel log of this boot and this IA32_MCG_CAP.
+// Returns the task for the kernel log of this boot and this IA32_MCG_CAP.
 fn klog_of(boot: &[u8], cap: &[u8]) -> Option<Task>
     ensures { result ≡ klog_of boot.now cap.now }
 {
@@ -138,7 +157,7 @@ fn klog_of(boot: &[u8], cap: &[u8]) -> Option<Task>
     })
 }
 
-// The lines of the trace of this boot.
+// Returns the task for the trace of this boot.
 fn trace_lines_of(boot: &[u8]) -> Option<Task>
     ensures { result ≡ trace_lines_of boot.now }
 {
@@ -147,7 +166,7 @@ fn trace_lines_of(boot: &[u8]) -> Option<Task>
     })
 }
 
-// The lines of the kernel log of this boot and this IA32_MCG_CAP.
+// Returns the task for the lines of the kernel log of this boot and this IA32_MCG_CAP.
 fn klog_lines_of(boot: &[u8], cap: &[u8]) -> Option<Task>
     ensures { result ≡ klog_lines_of boot.now cap.now }
 {
@@ -157,7 +176,18 @@ fn klog_lines_of(boot: &[u8], cap: &[u8]) -> Option<Task>
     })
 }
 
-// The listing of this word.
+// Returns the task for the firmware's reports of the boot that began at this second.
+fn ghes_lines_of(boot: &[u8], began: &[u8]) -> Option<Task>
+    ensures task { result ≡ ghes_lines_of boot.now began.now }
+    ensures range { IfSome result IsTask }
+{
+    Some(Task::GhesLines {
+        boot: decimal(boot, u64::MAX)?,
+        began: decimal(began, LAST_SECOND)?,
+    })
+}
+
+// Returns the listing with this name.
 fn listing_of(word: &[u8]) -> Option<Listing>
     ensures { result ≡ listing_of word.now }
 {

@@ -1,5 +1,4 @@
--- What a line asks a run to do, under what the lines before it tell of the machine; or why it is
--- refused.
+-- What a line asks a run to do, given the machine description of the lines before it; or why it is refused.
 use Rattle.std.specs.Prelude.{◌≡◌, ℕ, Bool, false, List, [], ◌∷◌, ◌++◌, take, Option, None, Some, is_some, Result, Ok, Err, if◌then◌else◌, ⊤}
 use Rattle.std.specs.Option.{option_map_or}
 use Rattle.ras_base.specs.Chaining.{◌>>=◌}
@@ -37,16 +36,16 @@ use Rattle.ras_exit.specs.declared.reason.Reason.TheVariants as reason
 use Rattle.ras_events.specs.declared.settings.Settings.{Settings}
 use Rattle.ras_events.specs.Making.{made_by_report, made_of_entry}
 
--- before the first line nothing is told of the machine
+-- the machine description before the first line: empty
 abbrev pub no_settings : Settings
 no_settings = record { topology = []; sources = None; driver = None }
 
--- what was read, or the reason for which the line is refused
+-- what was read, or the reason why the line is refused
 abbrev pub or_reason : {A E : Type 0} → (E → Reason) → Result A E → Result A LineRefusal
 or_reason why (Ok x) = Ok x
 or_reason why (Err refused) = Err (Bad (why refused))
 
--- a row of the machine, which its rows take or refuse
+-- a row of the machine, which the rows before it accept or refuse
 abbrev pub row_event : List Row → Row → Result Event LineRefusal
 row_event rows row = option_map_or (λ why. Err (Bad (reason.Topology why))) (row_refusal rows row) (Ok Settled)
 
@@ -54,7 +53,7 @@ row_event rows row = option_map_or (λ why. Err (Bad (reason.Topology why))) (ro
 abbrev pub hest_event : List ℕ → Result Event LineRefusal
 hest_event bytes = or_reason reason.Hest (hest_of bytes) >>= λ sources. Ok Settled
 
--- what is kept of a table that drives the record store: for each action the list of its entries
+-- what is stored of a table that drives the record store: for each action the list of its entries
 abbrev pub Lists : Type 0
 Lists = List (List InstructionEntry)
 
@@ -63,24 +62,24 @@ abbrev pub erst_event : List ℕ → Result Event LineRefusal
 erst_event bytes =
     or_reason reason.Erst (erst_of bytes) >>= λ lists. if is_admitted lists then Ok Settled else Err NoTable
 
--- an event that wants a table that drives the record store
+-- an event that needs a table that drives the record store
 abbrev pub with_table : Option Lists → Event → Result Event LineRefusal
 with_table None event = Err NoTable
 with_table (Some lists) event = Ok event
 
--- why a bank's report makes no panic record under an identifier, if it makes none
+-- why no panic record can be made of a bank's report under an identifier, if none can
 abbrev pub panic_refusal : ℕ → BankReport → Option PanicRefused
 panic_refusal id bank =
     if is_reserved_identifier id then Some ReservedId
     else (if valid (status_in bank) then None else Some NotValid)
 
--- the report of a bank that is to be saved: as a record, by the table that drives the store
+-- the report of a bank that is to be saved as a record, by the table that drives the store
 abbrev pub panic_event : Option Lists → ℕ → BankReport → Result Event LineRefusal
 panic_event driver id bank =
     option_map_or (λ why. Err (Bad (reason.Panic why))) (panic_refusal id bank)
     (with_table driver (Saved id (panic_bytes id bank)))
 
--- the event of a report, or of none
+-- the event of a report, or of no report
 abbrev pub counts_report : Option Report → Event
 counts_report report = Counted (option_map_or made_by_report report [])
 
@@ -93,8 +92,8 @@ block_event rows name seconds bytes =
 abbrev pub has_source : Option Sources → ℕ → Bool
 has_source sources id = option_map_or (λ listed. is_some (type_with_id id listed)) sources false
 
--- A report. A status block has to come from a source that is known. Of a region of boot errors the
--- block stands in as many bytes as its table says, or in all if there are fewer.
+-- A report. A status block has to come from a source in the table. In a region of boot errors, the block has as many
+-- bytes as its table says, or all bytes if there are fewer.
 abbrev pub report_event : Settings → ErrorReport → Result Event LineRefusal
 report_event settings (Bank bank) = Ok (counts_report (bank_report bank settings.topology))
 report_event settings (Block boot seconds source number bytes) =
@@ -105,7 +104,7 @@ report_event settings (Boot boot seconds table region) =
     or_reason reason.Bert (bert_of table) >>= λ bert.
     block_event settings.topology (names.Boot boot) seconds (take bert.length region)
 
--- What a line asks for. Whether the record store takes a put is asked of the store alone.
+-- What a line asks for. Whether the record store accepts a put depends only on the store.
 abbrev pub event_of : Settings → Line → Result Event LineRefusal
 event_of settings (asks.Row row) = row_event settings.topology row
 event_of settings (asks.Table (Hest bytes)) = hest_event bytes
@@ -118,12 +117,12 @@ event_of settings (asks.Poll seconds) = with_table settings.driver (Polled secon
 event_of settings asks.Restart = Ok Reopened
 event_of settings asks.Nothing = Ok Nothing
 
--- the settings with the sources of a table, if it reads
+-- the settings with the sources of a table, if it can be read
 abbrev pub with_sources : Settings → {E : Type 0} → Result Sources E → Settings
 with_sources settings (Ok sources) = record settings { sources = Some sources }
 with_sources settings (Err why) = settings
 
--- the lists of a table, if it reads and is admitted, and the settings with them
+-- the lists of a table, if it can be read and is admitted, and the settings with them
 abbrev pub admitted_in : {E : Type 0} → Result Lists E → Option Lists
 admitted_in (Ok lists) = if is_admitted lists then Some lists else None
 admitted_in (Err why) = None
@@ -132,14 +131,14 @@ abbrev pub with_driver : Settings → Option Lists → Settings
 with_driver settings (Some lists) = record settings { driver = Some lists }
 with_driver settings None = settings
 
--- what is told of the machine once a line is taken
+-- the machine description after a line
 abbrev pub settings_after : Settings → Line → Settings
 settings_after settings (asks.Row row) = record settings { topology = settings.topology ++ row ∷ [] }
 settings_after settings (asks.Table (Hest bytes)) = with_sources settings (hest_of bytes)
 settings_after settings (asks.Table (Erst bytes)) = with_driver settings (admitted_in (erst_of bytes))
 settings_after settings line = settings
 
--- a call answers this, unless memory runs out
+-- a call returns this, unless memory runs out
 abbrev pub AnswersEvent : Result Event EventRefused → Result Event LineRefusal → Type 0
 AnswersEvent (Ok event) asked = asked ≡ Ok event
 AnswersEvent (Err (Refused why)) asked = asked ≡ Err why

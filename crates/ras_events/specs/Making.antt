@@ -1,4 +1,4 @@
--- What an event makes: pieces in order, each an entry for the account or a record that can't be read.
+-- The pieces of an event, in order: each is an entry for the account or a record that can't be read.
 use Rattle.std.specs.Prelude.{ℕ, List, [], ◌∷◌, map, Option, None, Some, Result, Ok, Err}
 use Rattle.std.specs.List.{filter_map}
 use Rattle.cper_records.specs.declared.refusals.Unreadable.{Unreadable as Why}
@@ -20,22 +20,22 @@ entry_in (Unread id why) = None
 abbrev pub entries_in : List Piece → List Entry
 entries_in pieces = filter_map entry_in pieces
 
--- an entry by itself, of which nothing is told beside it
+-- the piece of an entry without details
 abbrev pub made_of_entry : Entry → List Piece
 made_of_entry entry = Counted entry [] ∷ []
 
--- the piece of a report, and what an event makes of one
+-- the piece of a report, and the pieces of an event with this report
 abbrev pub piece_of_report : Report → Piece
 piece_of_report report = Counted (Fact report.fact) report.details
 
 abbrev pub made_by_report : Report → List Piece
 made_by_report report = piece_of_report report ∷ []
 
--- what a poll makes of what it read under an identifier at this time, by the rows of the machine
+-- the piece that a poll makes of what it read under an identifier at this time, by the rows of the machine
 abbrev pub piece_of : List Row → ℕ → ℕ → Result (List ℕ) Why → Piece
 piece_of rows seconds id (Ok own) = piece_of_report (stored_report rows seconds own)
 piece_of rows seconds id (Err why) = Unread id why
 
--- what a poll makes of the records of a store, in their order
+-- the pieces that a poll makes of the records of a store, in their order
 abbrev pub polled : List Row → ℕ → List Stored → List Piece
 polled rows seconds store = map (λ (r : Stored). piece_of rows seconds r.id (read_stored r)) store

@@ -1,4 +1,4 @@
--- An event that has all its memory, by the account that it is prepared for.
+-- An event for which all memory is allocated, by the account that it is prepared for.
 use Rattle.std.specs.Prelude.{◌≡◌, ℕ, ◌≤◌, List, [], ◌∷◌, ◌++◌, Option, None, Some, IfSome, All, length, if◌then◌else◌}
 use Rattle.std.specs.List.{sum_by}
 use Rattle.page_policy.specs.declared.rows.Order.{Order}
@@ -35,21 +35,20 @@ orders_along_entries account [] = []
 orders_along_entries account (entry ∷ entries) =
     orders_at account entry ++ orders_along_entries (account_after account entry) entries
 
--- the whole text of an event by an account: the lines of its pieces, and then those of the orders
--- that its entries give
+-- the whole text of an event by an account: the lines of its pieces, and then the lines of the orders that its entries
+-- give
 abbrev pub event_text_in : State → List Piece → List ℕ
 event_text_in account made =
     text_along account made
     ++ order_lines (account_after_all account (entries_in made)).modules
     (orders_along_entries account (entries_in made))
 
--- the entries of an event that are news, or none
+-- the new entries of an event; there may be none
 abbrev pub news_entries : Option News → List Entry
 news_entries None = []
 news_entries (Some news) = news.entries.items
 
--- an event is prepared: its news are the fresh entries, its link is theirs, and its texts are those
--- of what it makes
+-- an event is prepared: its news are the new entries, its link is their link, and its texts are the texts of its pieces
 pub record IsPrepared (account : State) (number : ℕ) (made : List Piece) (event : Prepared) : Type 0 where
   pub news : news_entries event.news ≡ fresh_entries_in account (entries_in made)
   pub some : IfSome event.news (λ news. 1 ≤ length news.entries.items)
@@ -57,7 +56,7 @@ pub record IsPrepared (account : State) (number : ℕ) (made : List Piece) (even
   pub text : event.text.items ≡ text_along account made
   pub done : event.done.items ≡ done_line number
 
--- The account can take the news in turn with no memory, and there is room for their orders.
+-- The account can take the new entries in turn without allocating memory, and there is room for their orders.
 pub record CanTake (account : View) (news : News) : Type 0 where
   pub reserved : IsReservedFor account news.entries.items
   pub valid : All IsValidEntry news.entries.items
@@ -65,6 +64,7 @@ pub record CanTake (account : View) (news : News) : Type 0 where
   pub none : news.orders.orders ≡ []
   pub room : sum_by most_orders news.entries.items ≤ news.orders.room
 
+-- the account can take the event's new entries, and its text has room for the lines of their orders
 pub record IsReady (account : View) (event : Prepared) : Type 0 where
   pub news : IfSome event.news (CanTake account)
   pub room : IfSome event.news (λ news. HasOrderRoom news.orders.room event.text)

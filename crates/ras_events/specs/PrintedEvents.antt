@@ -4,7 +4,7 @@ use Rattle.ras_texts.specs.Text.{done_line}
 use Rattle.ras_events.specs.DoneLines.{done_count}
 use Rattle.ras_events.specs.QuietLines.{AreQuietLines}
 
--- an event as it is printed: its lines, and then the one that says that it is done
+-- an event as it is printed: its lines, and then its done line
 pub record PrintedEvent : Type 0 where
   pub text : List ℕ
   pub number : ℕ
@@ -15,11 +15,11 @@ printed_event event = event.text ++ done_line event.number
 abbrev pub printed_events : List PrintedEvent → List ℕ
 printed_events events = flat_map printed_event events
 
--- no line of an event but its last says that an event is done
+-- no line of an event but its last is a done line
 abbrev pub IsPrintedEvent : PrintedEvent → Type 0
 IsPrintedEvent event = AreQuietLines event.text
 
--- a text holds all that is printed of the first of some events, of as many as it says are done
+-- a text contains all that is printed of the first of these events, of as many as it has done lines
 pub record HoldsFirst (events : List PrintedEvent) (text : List ℕ) : Type 0 where
   pub few : done_count text ≤ length events
   pub left : List ℕ

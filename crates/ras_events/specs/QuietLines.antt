@@ -1,4 +1,4 @@
--- Texts of whole lines, and those among them that say of no event that it is done.
+-- Texts of whole lines, and texts of whole lines that aren't done lines.
 use Rattle.std.specs.Prelude.{◌≡◌, ℕ, List, IsFalse, flat_map}
 use Rattle.std.specs.List.{AllByRecursion}
 use Rattle.ras_base.specs.Text.{line_with}
@@ -11,11 +11,11 @@ pub record AreLines (text : List ℕ) : Type 0 where
   pub each : AllByRecursion (Lacks 10) lines
   pub whole : text ≡ flat_map line_with lines
 
--- a line has no line feed, and doesn't begin as the one that an event ends with
+-- a line has no line feed, and doesn't begin as a done line does
 abbrev pub IsQuietLine : List ℕ → Type 0
 IsQuietLine line = Lacks 10 line × IsFalse (is_done_line line)
 
--- a text is such lines, each with one line feed, at its end
+-- a text is quiet lines, each with one line feed, at its end
 pub record AreQuietLines (text : List ℕ) : Type 0 where
   pub lines : List (List ℕ)
   pub each : AllByRecursion IsQuietLine lines

@@ -1,5 +1,5 @@
--- What the lines of a script report, each under what the lines before it tell of the machine and lay
--- into the record store.
+-- What the lines of a script report, each given the machine description of the lines before it and the record store
+-- that they leave.
 use Rattle.std.specs.Prelude.{List, [], ◌∷◌, Option, None, Some, Result, Ok, Err}
 use Rattle.std.specs.List.{filter_map, flat_map}
 use Rattle.ras_base.specs.Places.{places}
@@ -22,7 +22,7 @@ use Rattle.ras_events.specs.Making.{entries_in, polled}
 use Rattle.ras_events.specs.Stores.{laid}
 pub use Rattle.ras_events.specs.Stores.{NumberedLine}
 
--- the row of the machine that a line tells, and the rows that lines tell, in order
+-- the row of the machine that a line gives, and the rows that lines give, in order
 abbrev pub row_by : NumberedLine → Option Row
 row_by (number, Ok (asks.Row row)) = Some row
 row_by read = None
@@ -30,7 +30,7 @@ row_by read = None
 abbrev pub rows_told : List NumberedLine → List Row
 rows_told reads = filter_map row_by reads
 
--- the error sources that a line tells: those of a table that reads
+-- the error sources that a line gives: the sources of a table that can be read
 abbrev pub sources_in_table : {E : Type 0} → Result Sources E → Option Sources
 sources_in_table (Ok sources) = Some sources
 sources_in_table (Err why) = None
@@ -39,8 +39,7 @@ abbrev pub sources_by : NumberedLine → Option Sources
 sources_by (number, Ok (asks.Table (Hest bytes))) = sources_in_table (hest_of bytes)
 sources_by read = None
 
--- the lists that a line tells, by which the record store is driven: those of a table that reads and
--- is admitted
+-- the lists that a line gives for driving the record store: the lists of a table that can be read and is admitted
 abbrev pub driver_by : NumberedLine → Option Lists
 driver_by (number, Ok (asks.Table (Erst bytes))) = admitted_in (erst_of bytes)
 driver_by read = None
@@ -51,8 +50,8 @@ last_of [] = None
 last_of (x ∷ []) = Some x
 last_of (x ∷ y ∷ xs) = last_of (y ∷ xs)
 
--- what lines tell of the machine: their rows, the sources of the last table of them, and the lists of
--- the last table that drives the record store
+-- the machine description that lines give: their rows, the sources of the last table among them, and the lists of the
+-- last table that drives the record store
 abbrev pub settings_told : List NumberedLine → Settings
 settings_told reads = record {
   topology = rows_told reads;
@@ -69,19 +68,20 @@ abbrev pub event_at : Place → Result Event LineRefusal
 event_at (before, (number, Ok line)) = event_of (settings_told before) line
 event_at (before, (number, Err refused)) = Err (Bad (reason.Line refused))
 
--- what an event makes, by the rows of the machine and the records of the store that it finds
+-- the pieces of an event, by the rows of the machine and the records of the store at that time
 abbrev pub made_in : List Row → List Stored → Result Event LineRefusal → List Piece
 made_in rows store (Ok (Counted made)) = made
 made_in rows store (Ok (Polled seconds)) = polled rows seconds store
 made_in rows store event = []
 
--- what a line makes at its place, if the record store was this one before the first line
+-- the pieces of a line at its place, if the record store was this one before the first line
 abbrev pub pieces_at : List Stored → Place → List Piece
 pieces_at store place = made_in (settings_told place.0).topology (laid store place.0) (event_at place)
 
--- the entries that a line makes at its place, and all those that lines make, in order
+-- the entries of a line at its place, and the entries of lines, in order
 abbrev pub entries_at : List Stored → Place → List Entry
 entries_at store place = entries_in (pieces_at store place)
 
+-- the entries that lines report, in order, from this record store on
 abbrev pub reports : List Stored → List NumberedLine → List Entry
 reports store reads = flat_map (entries_at store) (places reads)

@@ -1,4 +1,4 @@
--- Which lines are short, and which events can be done: what they make can be one link.
+-- Which lines are short, and which events can be done: their pieces can be one link.
 use Rattle.std.specs.Prelude.{◌≡◌, ◌<◌, ◌≤◌, ◌⊎◌, ℕ, List, false, length, slice_index, All, ⊤}
 use Rattle.cper_records.specs.Header.{record_id, record_length}
 use Rattle.erst_store.specs.Store.{is_reserved}
@@ -17,7 +17,7 @@ use Rattle.ras_events.specs.declared.event.Event.TheVariants.{Counted, Saved}
 use Rattle.ras_events.specs.declared.made.Piece.{Piece}
 use Rattle.ras_events.specs.Making.{entries_in}
 
--- the bytes that a line tells are no more than a line may have
+-- the bytes in a line are no more than a line may have
 abbrev pub IsShortReport : ErrorReport → Type 0
 IsShortReport (Bank bank) = ⊤
 IsShortReport (Block boot seconds source number bytes) = length bytes ≤ LONGEST_LINE
@@ -32,16 +32,15 @@ abbrev pub IsFact : Entry → Type 0
 IsFact (Fact fact) = ⊤
 IsFact entry = ⊥
 
--- What is made can be one link: valid entries, not too many or too long. They are facts, or one
--- entry alone.
+-- The pieces can be one link: valid entries, not too many or too long. They are facts, or only one entry.
 pub record IsFit (made : List Piece) : Type 0 where
   pub valid : All IsValidEntry (entries_in made)
   pub few : length (entries_in made) ≤ MOST_LINK_ENTRIES
   pub short : length (payload_bytes (entries_in made)) ≤ MOST_PAYLOAD
   pub alike : All IsFact (entries_in made) ⊎ (length (entries_in made) ≤ 1)
 
--- Bytes can be saved as a record under an identifier: they are as long as a panic record and tell so,
--- and the identifier that they tell is this one, which a record may have.
+-- Bytes can be saved as a record under an identifier: they are as long as a panic record and their header says so, and
+-- it has this identifier, which a record may have.
 pub record CanBeSaved (id : ℕ) (bytes : List ℕ) : Type 0 where
   pub size : length bytes ≡ 456
   pub told : record_length bytes ≡ 456

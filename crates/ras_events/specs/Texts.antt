@@ -1,5 +1,5 @@
--- The text of an event: the lines of its pieces in order, each entry judged at its own place in the
--- history, and then the lines of the orders that these entries give.
+-- The text of an event: the lines of its pieces in order, each entry compared with the history at its own place, and
+-- then the lines of the orders that these entries give.
 use Rattle.std.specs.Prelude.{ℕ, List, ◌++◌, if◌then◌else◌}
 use Rattle.std.specs.List.{flat_map}
 use Rattle.page_policy.specs.declared.rows.Order.{Order}
@@ -17,8 +17,8 @@ use Rattle.ras_events.specs.declared.made.Piece.{Piece}
 use Rattle.ras_events.specs.declared.made.Piece.TheVariants.{Counted, Unread}
 use Rattle.ras_events.specs.Making.{entries_in}
 
--- the lines of a piece after a history: of an entry those of news, or the one of what isn't news;
--- of a record that can't be read its own line
+-- the lines of a piece after a history: of a new entry its lines, of another entry the line of a repeat, of a record
+-- that can't be read its own line
 abbrev pub piece_text : History → Piece → List ℕ
 piece_text history (Counted entry details) =
     if is_fresh_behind history entry
@@ -26,12 +26,12 @@ piece_text history (Counted entry details) =
     else repeat_line (account_of history) entry
 piece_text history (Unread id why) = unreadable_line id why
 
--- the lines of pieces, each after the history with the entries of those before it
+-- the lines of pieces, each after the history with the entries of the pieces before it
 abbrev pub pieces_text : History → List Piece → List ℕ
 pieces_text history pieces =
     flat_map (λ p. piece_text (with_entries history (entries_in p.0)) p.1) (places pieces)
 
--- the orders that entries give, each after the history with those before it
+-- the orders that entries give, each after the history with the entries before it
 abbrev pub orders_of_entries : History → List Entry → List Order
 orders_of_entries history entries =
     flat_map (λ p. orders_behind (with_entries history p.0) p.1) (places entries)

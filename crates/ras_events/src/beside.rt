@@ -1,5 +1,5 @@
-//! The pieces of an event beside each other: their lines, and which of their entries are news. The
-//! lines are those by the account before the event.
+//! The pieces of an event together: their lines, and which of their entries are new. The lines
+//! depend on the account before the event.
 
 ghost use Rattle.std.specs.Prelude.{◌≡◌, [], IfOk, OnOk};
 ghost use Rattle.ras_account.specs.Numbers.{fresh_entries_in};
@@ -16,22 +16,22 @@ use ras_reports::Detail;
 use ras_texts::{push_entry, push_repeat, push_unreadable};
 use std::alloc::Global;
 
-// Room for the lines of most events and of their orders, which is taken at once.
+// Memory for the lines of most events and of their orders, which is allocated at once.
 const TEXT_LENGTH: usize = 384;
 
-/// What an event tells: its lines, and its entries that are news, both in order.
+/// The lines of an event and its new entries, both in order.
 #[derive(Drop)]
 pub(crate) struct TextAndNews {
     pub(crate) text: Vec<u8>,
     pub(crate) news: Vec<Entry>,
 }
 
-/// The lines of what an event makes, those of each entry at its own place, and the entries that are
-/// news, which wait in the account. The other entries are dropped.
+/// Returns the lines of an event's pieces, in order, and its new entries, which then wait in the
+/// account. The other entries are dropped.
 ///
 /// # Errors
 ///
-/// `NoMemory` comes only if memory runs out.
+/// `NoMemory`: only if memory runs out.
 pub(crate) fn text_and_news(
     alloc: Global,
     account: &mut Account,
@@ -68,8 +68,9 @@ pub(crate) fn text_and_news(
     Ok(TextAndNews { text, news })
 }
 
-// Adds the lines of an entry, after those of the earlier ones of its event: all that is told of it
-// if it is news, and else that it was told before. News go after the earlier news.
+// Adds the lines of an entry, after the lines of the earlier entries of its event: of a new entry
+// all its lines, otherwise only its `repeat` or `stale` line. A new entry is added after the
+// earlier new entries.
 fn push_counted(
     account: &Account,
     is_news: bool,

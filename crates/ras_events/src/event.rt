@@ -11,37 +11,37 @@ use thiserror::Error;
 /// What a line asks a run to do.
 #[derive(Drop)]
 pub enum Event {
-    /// Nothing: the line has no words, or is a comment. It is no event, and has no done line.
+    /// Nothing: the line has no words, or is a comment. It isn't an event, and has no done line.
     Nothing,
-    /// What the line tells of the machine is taken; there is nothing more to do.
+    /// The line changed the machine description. Nothing more has to be done.
     Settled,
-    /// Pieces are made: entries to be counted, those that are news.
+    /// Pieces to be counted: their new entries.
     Counted(Made),
-    /// A record is to be put into the record store from outside, under an identifier.
+    /// Put a record into the record store from outside, under an identifier.
     Put { id: u64, bytes: Text },
-    /// A panic record is to be written into the record store, under an identifier, by the table
-    /// that drives it.
+    /// Write a panic record into the record store, under an identifier, by the table that drives
+    /// the store.
     Saved { id: u64, bytes: [u8; 456] },
-    /// The records of the record store are to be counted, as read at a time in seconds, by the
-    /// table that drives it.
+    /// Count the records of the record store, as read at a time in seconds, by the table that
+    /// drives the store.
     Polled { seconds: u64 },
-    /// The account is to be made again from its files.
+    /// Make the account again from its files.
     Reopened,
 }
 
-/// Why a line is refused by what it asks for.
+/// Why a line is refused for what it asks for.
 #[derive(Clone, Copy, Debug, Error, PartialEq, Eq)]
 pub enum LineRefusal {
-    /// What it says is bad, for this reason.
+    /// The line's request is invalid, for this reason.
     #[error("{0}")]
     Bad(Reason),
-    /// It asks for the record store, and no table that is admitted was read; or it is itself a
+    /// The line needs the record store, and no admitted table was read before; or it is itself a
     /// table that isn't admitted.
     #[error("no table that is admitted drives the record store")]
     NoTable,
 }
 
-/// Why a line asks for nothing that a run can do.
+/// Why a line gives no event.
 #[derive(Clone, Copy, Debug, Error, PartialEq, Eq)]
 pub enum EventRefused {
     /// The line is refused.

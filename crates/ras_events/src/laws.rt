@@ -1,4 +1,4 @@
-//! What an event is by the history of its account, in other words than its definitions.
+//! What an event does, by the history of its account, in words that don't follow its definitions.
 
 ghost use Rattle.std.specs.Prelude.{◌≡◌, ◌<◌, ◌^◌, ℕ, List, [], ◌∷◌, ◌++◌, Ok, Some, IsTrue, IsFalse};
 ghost use Rattle.std.specs.Option.{option_map_or};
@@ -30,22 +30,22 @@ ghost use Rattle.ras_events.specs.Stores.{found_after, laid, last_laid, unreadab
 ghost use Rattle.ras_events.specs.Preparing.{event_text_in, orders_along_entries, text_along};
 ghost use Rattle.ras_events.specs.Texts.{event_text, orders_of_entries, pieces_text};
 
-/// The laws of events. The function does nothing: its clauses are what it is for.
+/// What holds of events.
 pub fn event_laws()
-    // The news of entries alone count what all entries count, and give the same orders.
+    // The new entries by themselves count what all entries count, and give the same orders.
     ensures news { (a : State) (entries : List Entry)
         → account_after_all a (fresh_entries_in a entries) ≡ account_after_all a entries }
     ensures news_orders { (a : State) (entries : List Entry)
         → orders_along_entries a (fresh_entries_in a entries) ≡ orders_along_entries a entries }
 
-    // In the account of a history the news are the entries that are fresh at their places in the
+    // In the account of a history the new entries are the ones that are new at their places in the
     // history.
     ensures fresh { (history : History) (entries : List Entry)
         → fresh_entries (with_entries history entries)
         ≡ fresh_entries history ++ fresh_entries_in (account_of history) entries }
 
-    // The account after entries, their lines and their orders are those of the history, each entry
-    // at its place.
+    // The account after entries, their lines and their orders are those of the history with each
+    // entry at its place.
     ensures account { (history : History) (entries : List Entry)
         → account_after_all (account_of history) entries
         ≡ account_of (with_entries history entries) }
@@ -54,8 +54,9 @@ pub fn event_laws()
     ensures orders { (history : History) (entries : List Entry)
         → orders_along_entries (account_of history) entries ≡ orders_of_entries history entries }
 
-    // What is prepared of an event, and the lines of the orders that its news give when they are
-    // counted, are the event's text; and that of a history is the one by its account.
+    // What is prepared of an event, followed by the lines of the orders that its new entries give
+    // when they are counted, is the event's text. The text by a history is the text by the
+    // history's account.
     ensures prepared { (a : State) (made : List Piece)
         → text_along a made
         ++ order_lines (account_after_all a (fresh_entries_in a (entries_in made))).modules
@@ -65,42 +66,39 @@ pub fn event_laws()
         → event_text_in (account_of history) made ≡ event_text history made }
 {}
 
-/// The laws of what the lines of a script tell and report. The function does nothing: its clauses
-/// are what it is for.
+/// What holds of the machine description and the reports of a script's lines.
 pub fn report_laws()
-    // What a line tells of the machine counts from the next line on.
+    // What a line says of the machine applies from the next line on.
     ensures settings { (before : List NumberedLine) (number : ℕ) (line : Line)
         → settings_told (before ++ (number, Ok line) ∷ [])
         ≡ settings_after (settings_told before) line }
 
-    // Lines report what the first ones of them report, and then what the others report if these
-    // stand before them.
+    // Lines report what the first of them report, and then what the others report after the first.
     ensures cut { (store : List Stored) (first others : List NumberedLine)
         → reports store (first ++ others)
         ≡ reports store first ++ flat_map (entries_at store) (places_behind first others) }
 {}
 
-/// The laws of what lines do to the record store. The function does nothing: its clauses are what
-/// it is for.
+/// What holds of the record store after lines.
 pub fn store_laws()
-    // The store after lines is the one that the others leave of what the first of them left, and so
-    // is what was last laid under an identifier.
+    // The store after lines is what the later lines leave of what the first lines left. The same
+    // holds of the last record stored under an identifier.
     ensures laid { (store : List Stored) (first others : List NumberedLine)
         → laid store (first ++ others) ≡ laid (laid store first) others }
     ensures last { (store : List Stored) (first others : List NumberedLine) (id : ℕ)
         → last_laid store (first ++ others) id
         ≡ fold (found_after id) (last_laid store first id) others }
 
-    // A poll leaves the bytes that can't be read under their identifier.
+    // A poll leaves bytes that can't be read under their identifier.
     ensures unread { (id : ℕ) (bytes : List ℕ) (store : List Stored)
         → IsFalse (is_ok (read_under id (filled bytes)))
         → bytes_under id store ≡ Some bytes → bytes_under id (unreadable store) ≡ Some bytes }
 {}
 
-/// The laws of polls. The function does nothing: its clauses are what it is for.
+/// What holds of polls.
 pub fn poll_laws()
-    // The record of a panic makes the very piece that the report of its bank makes: an error that
-    // is reported by both has one name, and the same lines.
+    // The record of a panic gives the same piece as the report of its bank: an error that is
+    // reported by both has one name, and the same lines.
     ensures panic { (rows : List Row) (seconds id : ℕ) (bank : BankReport) → id < 2 ^ 64
         → FitsFields bank → IsTrue (valid (status_in bank))
         → polled rows seconds (record { id = id; bytes = panic_bytes id bank } ∷ [])

@@ -1,5 +1,7 @@
-//! Events: what a line asks a run to do, under what the lines before it tell of the machine, and
-//! all that an event prints, counts and appends, made before any of it is done.
+//! Events: what a line asks a run to do, with the machine description of the lines before it, and
+//! all that an event prints, counts and appends, prepared before any of it is done.
+//!
+//! A public function with an empty body is a law: its clauses are the point.
 #![tactic(auto)]
 
 mod beside;

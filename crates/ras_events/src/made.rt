@@ -1,4 +1,4 @@
-//! What an event makes.
+//! The pieces of an event.
 
 ghost use Rattle.std.specs.Prelude.{◌≡◌, [], ◌∷◌, ◌++◌, IfOk, OnOk};
 ghost use Rattle.std.specs.Option.{option_map_or};
@@ -12,16 +12,16 @@ use ras_reports::{Details, Report};
 use std::alloc::Global;
 use std::marker::Model;
 
-/// A piece of what an event makes.
+/// A piece of an event.
 #[derive(Debug, Drop)]
 pub enum Piece {
-    /// An entry for the account, and what is told of each of its items.
+    /// An entry for the account, and the details of its items.
     Counted { entry: Entry, details: Details },
     /// A record of the store, by its identifier, that can't be read, and why.
     Unread { id: u64, why: Unreadable },
 }
 
-/// The pieces that an event makes, in order.
+/// The pieces of an event, in order.
 #[derive(Debug, Drop)]
 pub struct Made {
     pieces: Vec<Piece>,
@@ -37,7 +37,7 @@ impl Model for Made {
 }
 
 impl Made {
-    /// What an event makes that makes nothing.
+    /// Returns no pieces.
     pub fn new(alloc: Global) -> Made
         ensures { result ≡ [] }
     {
@@ -46,11 +46,11 @@ impl Made {
         }
     }
 
-    /// What an event makes of an entry, of which nothing is told beside it.
+    /// Returns one piece, of an entry without details.
     ///
     /// # Errors
     ///
-    /// `NoMemory` comes only if memory runs out.
+    /// `NoMemory`: only if memory runs out.
     pub fn of_entry(alloc: Global, entry: Entry) -> Result<Made, NoMemory>
         ensures { IfOk result (λ made. made ≡ made_of_entry entry) }
     {
@@ -58,11 +58,11 @@ impl Made {
         Made::one(alloc, Piece::Counted { entry, details })
     }
 
-    /// What an event makes of a report, or of none.
+    /// Returns one piece, of a report, or no pieces if there is no report.
     ///
     /// # Errors
     ///
-    /// `NoMemory` comes only if memory runs out.
+    /// `NoMemory`: only if memory runs out.
     pub fn of_report(alloc: Global, report: Option<Report>) -> Result<Made, NoMemory>
         ensures { IfOk result (λ made. made ≡ option_map_or made_by_report report []) }
     {
@@ -72,22 +72,22 @@ impl Made {
         }
     }
 
-    /// Puts the piece of a report after the others: its fact, and what is told of its items.
+    /// Appends the piece of a report: its fact, and the details of its items.
     ///
     /// # Errors
     ///
-    /// `NoMemory` comes only if memory runs out.
+    /// `NoMemory`: only if memory runs out.
     pub fn push_report(&mut self, report: Report) -> Result<(), NoMemory>
         ensures { OnOk result (self.new ≡ self.old ++ piece_of_report report ∷ []) }
     {
         self.push(piece_of_report(report))
     }
 
-    /// Puts a record of the store that can't be read after the other pieces.
+    /// Appends the piece of a record of the store that can't be read: its identifier, and why.
     ///
     /// # Errors
     ///
-    /// `NoMemory` comes only if memory runs out.
+    /// `NoMemory`: only if memory runs out.
     pub fn push_unread(&mut self, id: u64, why: Unreadable) -> Result<(), NoMemory>
         ensures { OnOk result (self.new ≡ self.old ++ PieceFor.Unread id why ∷ []) }
     {
@@ -118,7 +118,7 @@ impl Made {
     }
 }
 
-// The piece of a report: its fact, and what is told of its items.
+// The piece of a report: its fact, and the details of its items.
 fn piece_of_report(report: Report) -> Piece
     ensures { result ≡ piece_of_report report }
 {

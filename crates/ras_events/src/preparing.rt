@@ -1,4 +1,5 @@
-//! An event that counts entries: all that takes memory, before anything is done.
+//! Preparing an event that counts entries: everything that allocates memory, before anything is
+//! done.
 
 ghost use Rattle.std.specs.Prelude.{◌≡◌, ◌+◌, ◌*◌, ◌≤◌, ◌++◌, length, All, Err, IfOk, IfSome, OnOk};
 ghost use Rattle.std.specs.List.{sum_by};
@@ -24,18 +25,18 @@ use ras_texts::{ORDER_LENGTH, done_line, push_orders};
 use std::alloc::Global;
 use thiserror::Error;
 
-/// An event that has all its memory: what it appends and counts, and what it prints.
+/// An event for which all memory is allocated: what it appends and counts, and what it prints.
 #[derive(Drop)]
 pub struct Prepared {
-    /// What is news of the event, if anything is.
+    /// The new entries of the event, if it has any.
     pub news: Option<News>,
-    /// The event's lines but for those of its orders, for which it has room.
+    /// The event's lines except the lines of its orders, for which it has room.
     pub text: Vec<u8>,
-    /// The line that the event ends with.
+    /// The event's done line.
     pub done: Vec<u8>,
 }
 
-/// The entries of an event that are news: at least one, their link, and room for their orders.
+/// The new entries of an event, at least one, with their link and room for their orders.
 #[derive(Drop)]
 pub struct News {
     pub entries: Vec<Entry>,
@@ -46,7 +47,7 @@ pub struct News {
 /// Why an event can't be prepared.
 #[derive(Clone, Copy, Debug, Error, PartialEq, Eq)]
 pub enum PrepareRefused {
-    /// The account has no room for all that is news of the event.
+    /// The account has no room for all new entries of the event.
     #[error("the account is full")]
     Full,
     /// Memory ran out.
@@ -64,13 +65,14 @@ impl From<NoMemory> for PrepareRefused {
     }
 }
 
-/// Takes all the memory of an event: that of its entries in the account, the link of those that are
-/// news, and its texts, which end with the number of its line. What the account counts stays.
+/// Allocates everything that an event needs, and returns it: memory for its entries in the account,
+/// the link of its new entries, and its texts, which end with the done line of its number. The
+/// account doesn't change. Requires pieces that can be one link.
 ///
 /// # Errors
 ///
-/// `Full` comes exactly if the account has no room for all that is news of the entries, and
-/// `NoMemory` only if memory runs out.
+/// `Full`: if the account has no room for all new entries, unless memory runs out; never otherwise.
+/// `NoMemory`: only if memory runs out.
 pub fn prepare(
     alloc: Global,
     number: u64,
@@ -94,7 +96,7 @@ pub fn prepare(
     }
 }
 
-// Takes the memory that an event needs besides its text and the room of its news in the account.
+// Allocates what an event needs besides its text and the room for its new entries in the account.
 fn link_told(alloc: Global, number: u64, told: TextAndNews) -> Result<Prepared, NoMemory>
     requires few { length told.news.items ≤ MOST_LINK_ENTRIES }
     requires valid { All IsValidEntry told.news.items }
@@ -109,7 +111,7 @@ fn link_told(alloc: Global, number: u64, told: TextAndNews) -> Result<Prepared, 
     Ok(Prepared { news, text, done })
 }
 
-// How many orders the entries of a link give at most.
+// The most orders that the entries of a link can give.
 fn orders_len(entries: &[Entry]) -> usize
     requires few { length entries.now ≤ MOST_LINK_ENTRIES }
     requires valid { All IsValidEntry entries.now }
@@ -123,7 +125,8 @@ fn orders_len(entries: &[Entry]) -> usize
     total
 }
 
-// The new entries with their encoded link and room for `orders` orders; none if there are none.
+// The new entries with their encoded link and room for `orders` orders, or `None` if there are no
+// new entries.
 fn link_news(alloc: Global, entries: Vec<Entry>, orders: usize) -> Result<Option<News>, NoMemory>
     requires few { length entries.items ≤ MOST_LINK_ENTRIES }
     requires valid { All IsValidEntry entries.items }
@@ -143,8 +146,8 @@ fn link_news(alloc: Global, entries: Vec<Entry>, orders: usize) -> Result<Option
     }))
 }
 
-/// Counts the news of an event, and puts the lines of the orders that they give after its text. It
-/// takes no memory.
+/// Counts the new entries of an event, and appends the lines of the orders that they give to its
+/// text. Allocates nothing.
 pub fn count(news: News, text: &mut Vec<u8>, account: &mut Account)
     requires can_take { CanTake account.old news }
     requires room { HasOrderRoom news.orders.room text.old }
@@ -162,7 +165,7 @@ pub fn count(news: News, text: &mut Vec<u8>, account: &mut Account)
     push_orders(text, &orders, account);
 }
 
-// Counts entries in turn, and puts the orders that they give after others.
+// Counts entries in turn, and appends the orders that they give.
 fn take_all(entries: Vec<Entry>, orders: &mut Orders, account: &mut Account)
     requires { CanTakeAll account.old orders.old entries.items }
     ensures state { account.new.state ≡ account_after_all account.old.state entries.items }

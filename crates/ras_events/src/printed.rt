@@ -1,4 +1,4 @@
-//! What is printed beside the lines that say that an event is done.
+//! What is printed besides done lines.
 
 ghost use Rattle.ras_account.specs.Account.{State, account_of};
 ghost use Rattle.ras_account.specs.Accounts.{IsAccount};
@@ -11,13 +11,13 @@ ghost use Rattle.ras_events.specs.Sizes.{IsFit};
 ghost use Rattle.ras_events.specs.Texts.{event_text};
 ghost use Rattle.ras_events.specs.QuietLines.{AreQuietLines};
 
-/// The laws of printed texts. The function does nothing: its clauses are what it is for.
+/// What holds of printed texts.
 pub fn printed_lines_are_quiet()
-    // No line of an event says that an event is done, whatever it makes that can be counted.
+    // No line of an event's text is a done line, whatever the event makes that can be counted.
     ensures event { (history : History) (made : List Piece) → IsAccount (account_of history)
         → IsFit made → AreQuietLines (event_text history made) }
 
-    // Nor does one of an account's orders, or the line that a whole run ends with.
+    // Neither is a line of an account's orders, or the line that a whole run ends with.
     ensures standing { (account : State) → IsAccount account
         → AreQuietLines (standing_lines account) }
     ensures end { (account : State) → AreQuietLines (end_line account) }

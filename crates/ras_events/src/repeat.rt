@@ -1,4 +1,4 @@
-//! A report that is no news: nothing is made of it but its line.
+//! Repeated reports, of which only a line is printed.
 
 ghost use Rattle.std.specs.Prelude.{◌≡◌, IfNone, IfSome, IsSome};
 ghost use Rattle.ras_facts.specs.declared.bank.BankReport.{BankReport};
@@ -13,12 +13,12 @@ use ras_facts::{BankReport, Name, name_of_bank};
 use ras_script::{ErrorReport, Line};
 
 impl Settings {
-    /// The name under which a bank's report is no news: it is held, or its boot is retired. The
-    /// line that is printed of the report is the one of this name. It is None of any other line,
-    /// which may also report no news.
+    /// Returns the name of a machine-check report that is already counted or of a retired boot. It
+    /// is the name in the line that is printed of the report. `None` for every other line, although
+    /// that line too may report nothing new.
     ///
-    /// Most reports of a failing module are repeats, so they are told apart before an event is made
-    /// of them. It takes no memory and has no error.
+    /// Most reports of a failing module are repeats, so this is asked before an event is made of
+    /// the line. Allocates nothing.
     pub fn repeat_of(&self, line: &Line, account: &Account) -> Option<Name>
         ensures repeats { IfSome result (λ name. IsRepeat account.now.state self.now line.now
             (known_line account.now.state name)) }
@@ -29,7 +29,7 @@ impl Settings {
         if !account.knows(&name) {
             return None;
         }
-        // So that the clause above can tell that the report's fact is valid.
+        // The topology's invariant gives the clause above that the report's fact is valid.
         self.topology.invariant();
         Some(name)
     }

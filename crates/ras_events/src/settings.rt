@@ -1,4 +1,4 @@
-//! What the lines of a run tell of the machine.
+//! The machine description that the lines of a run give.
 
 ghost use Rattle.std.specs.Prelude.{◌≡◌, false, ℕ, List, [], ◌∷◌, ◌++◌, IfOk, OnErr, OnOk};
 ghost use Rattle.dimm_topology.specs.declared.row.Row.{Row};
@@ -30,9 +30,8 @@ use ras_reports::{report_of_bank, report_of_block};
 use ras_script::{ErrorReport, Line, Table};
 use std::alloc::Global;
 
-/// What the lines of a run have told of the machine: the rows of its topology, the error sources
-/// that the last table of them lists, and the driver of the record store, by the last table that
-/// is admitted.
+/// The machine description so far: the rows of the topology, the error sources of the last table
+/// that lists them, and the driver of the record store, by the last table that was admitted.
 #[derive(Drop)]
 pub struct Settings {
     pub topology: Topology,
@@ -41,7 +40,7 @@ pub struct Settings {
 }
 
 impl Settings {
-    /// Nothing is told yet.
+    /// Returns an empty machine description.
     pub fn new(alloc: Global) -> Settings
         ensures { result ≡ no_settings }
     {
@@ -52,16 +51,17 @@ impl Settings {
         }
     }
 
-    /// Takes a line: what it tells of the machine from now on, and what else it asks for. A later
-    /// table takes the place of the one of its kind before. The settings stay after a refusal.
+    /// Takes a line: changes the machine description if the line is part of it, and returns what
+    /// else the line asks for. A later table replaces the one of its kind before. After an error
+    /// the machine description is unchanged.
     ///
     /// # Errors
     ///
-    /// `Refused` with the first refusal that applies: of a row `Topology`; of a table of error
-    /// sources `Hest`; of a status block first `Source`, and then `Block`; of boot errors first
-    /// `Bert`, and then `Block`; of a table of the record store first `Erst`, and then `NoTable` if
-    /// it isn't admitted; of a panic first `Panic`, and then, as of a poll, `NoTable` if no table
-    /// was admitted. `NoMemory` comes only if memory runs out.
+    /// `Refused`: with the first refusal that applies. For a row, `Topology`. For a table of error
+    /// sources, `Hest`. For a status block `Source`, then `Block`. For boot errors `Bert`, then
+    /// `Block`. For a table of the record store `Erst`, then `NoTable` if it isn't admitted. For a
+    /// panic `Panic`, then `NoTable` if no table was admitted before. For a poll, `NoTable` if none
+    /// was. `NoMemory`: only if memory runs out.
     pub fn take(&mut self, alloc: Global, line: Line) -> Result<Event, EventRefused>
         requires range { IsInRange line }
         requires short { IsShortLine line }
@@ -160,7 +160,7 @@ impl Settings {
         self.event_by_driver(Event::Saved { id, bytes: *bytes })
     }
 
-    // An event that wants a driver of the record store.
+    // An event that needs a driver of the record store.
     fn event_by_driver(&self, event: Event) -> Result<Event, EventRefused>
         requires { IsFitEvent event }
         ensures event { AnswersEvent result (with_table self.now.driver event) }

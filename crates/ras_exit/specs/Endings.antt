@@ -1,4 +1,4 @@
--- How a call ends, by what its exit says of how far it came.
+-- How a call ends, by how far its exit says that it came.
 use Rattle.std.specs.Prelude.{◌≡◌, ◌≢◌, ℕ, Bool, true, false, ⊤}
 use Rattle.board_core.specs.Cause.{Kind, device_call, disk_call, print_call}
 use Rattle.ras_script.specs.declared.line.LineRefused.{LineRefused}
@@ -7,14 +7,15 @@ use Rattle.ras_exit.specs.declared.exit.Exit.{Exit}
 use Rattle.ras_exit.specs.declared.exit.Exit.TheVariants.{Done, Usage, BadLine, SourceFault, DiskFault, RegisterFault, PrintFault, ErstStatus, NoMemory}
 use Rattle.ras_exit.specs.declared.reason.Reason.TheVariants.{Line}
 
--- A call answers: it came to its end, or to a refusal. Or it was cut short: a call of the board
--- failed, of a kind; or the source did; or memory ran out.
+-- A call came to its end or to a refusal; or it was cut short, because a call of the board failed, of a kind, or the
+-- source failed, or memory ran out.
 pub data CallEnding : Type 0 where
   answered : CallEnding
   faulted : Kind → CallEnding
   source_failed : CallEnding
   starved : CallEnding
 
+-- the ending of a call, by its exit
 abbrev pub ending_of : Exit → CallEnding
 ending_of SourceFault = source_failed
 ending_of DiskFault = faulted disk_call
@@ -34,18 +35,18 @@ is_answer exit = is_answered (ending_of exit)
 abbrev pub IsAnswer : Exit → Type 0
 IsAnswer exit = is_answer exit ≡ true
 
--- whether a fault cut it short, or memory ran out
+-- whether a fault cut the call short, or memory ran out
 abbrev pub IsCut : Exit → Type 0
 IsCut exit = is_answer exit ≡ false
 
--- An exit that ends a run among its lines, and one that ends it at a line, if the source isn't
--- read. A status that the device answers is told only if it isn't 0.
+-- An exit that ends a run among its lines. A status of the device is an exit only if it isn't 0.
 abbrev pub IsLineExit : Exit → Type 0
 IsLineExit Done = ⊥
 IsLineExit Usage = ⊥
 IsLineExit (ErstStatus code) = code ≢ 0
 IsLineExit exit = ⊤
 
+-- such an exit of a part of a run that doesn't read the source
 abbrev pub IsStop : Exit → Type 0
 IsStop Done = ⊥
 IsStop Usage = ⊥
@@ -53,7 +54,7 @@ IsStop SourceFault = ⊥
 IsStop (ErstStatus code) = code ≢ 0
 IsStop exit = ⊤
 
--- P holds if the ending is an answer
+-- P holds if the call came to its end or to a refusal
 abbrev pub IfAnswered : CallEnding → Type 0 → Type 0
 IfAnswered answered P = P
 IfAnswered ending P = ⊤
@@ -63,24 +64,23 @@ abbrev pub UnlessFaulted : CallEnding → Type 0 → Type 0
 UnlessFaulted (faulted kind) P = ⊤
 UnlessFaulted ending P = P
 
--- P holds if a call came to its end or to a refusal. A fault cuts a call short, and so does it if
--- memory runs out.
+-- P holds if a call came to its end or to a refusal, and wasn't cut short by a fault or by running out of memory.
 abbrev pub OnAnswer : Exit → Type 0 → Type 0
 OnAnswer exit P = IfAnswered (ending_of exit) P
 
--- P holds if no call of the board failed: also if memory ran out or the source failed
+-- P holds if no call of the board failed, even if memory ran out or the source failed
 abbrev pub OnWhole : Exit → Type 0 → Type 0
 OnWhole exit P = UnlessFaulted (ending_of exit) P
 
--- What holds if a part of a run ends before it is done: at an answer, once memory ran out, and at a
--- fault of the board by its kind. It doesn't read the source.
+-- What holds if a part of a run ends before it is done: at a refusal, when memory runs out, and at a fault of the
+-- board, by its kind. It doesn't read the source.
 abbrev pub EndsBy : Type 0 → Type 0 → (Kind → Type 0) → CallEnding → Type 0
 EndsBy Answered Starved Faulted answered = Answered
 EndsBy Answered Starved Faulted starved = Starved
 EndsBy Answered Starved Faulted (faulted kind) = Faulted kind
 EndsBy Answered Starved Faulted source_failed = ⊥
 
--- of which kind such a fault is: of any, or of one alone
+-- the kind of such a fault: any, or only one
 abbrev pub AnyFault : Kind → Type 0
 AnyFault kind = ⊤
 

@@ -1,4 +1,4 @@
--- The word and the number by which it is printed why a line is refused.
+-- The word and the number by which the reason is printed why a line is refused.
 use Rattle.std.specs.Prelude.{ℕ, List, [], ◌++◌, Option, None, Some, codes, decimal}
 use Rattle.std.specs.Option.{option_map_or}
 use Rattle.apei_sources.specs.Refusals.{block_number, table_number}
@@ -12,7 +12,7 @@ use Rattle.ras_script.specs.Refusals.{line_number}
 use Rattle.ras_exit.specs.declared.reason.Reason.{Reason}
 use Rattle.ras_exit.specs.declared.reason.Reason.TheVariants.{Line, LongLine, Topology, Hest, Bert, Block, Source, Erst, Put, Panic}
 
--- which reader refuses
+-- the word for the reader that refuses
 abbrev pub reason_word : Reason → List ℕ
 reason_word (Line why) = codes "line"
 reason_word LongLine = codes "line"
@@ -25,7 +25,7 @@ reason_word (Erst why) = codes "erst"
 reason_word (Put why) = codes "put"
 reason_word (Panic why) = codes "panic"
 
--- the numbers of refusals by the record store, and to make a panic record; want of memory has none
+-- the numbers of refusals by the record store, and of refusals to make a panic record; running out of memory has none
 abbrev pub put_number : PutRefused → Option ℕ
 put_number put.ReservedId = Some 1
 put_number put.TooLong = Some 2

@@ -9,9 +9,9 @@ use ras_script::LineRefused;
 /// How a call ends.
 #[derive(Clone, Copy, Debug, PartialEq, Eq)]
 pub enum Exit {
-    /// The script was read to its end.
+    /// The call came to its end.
     Done,
-    /// The words are no form of a call.
+    /// The arguments aren't a command.
     Usage,
     /// A line is refused: its number, from 1, and why.
     BadLine { line: u64, reason: Reason },
@@ -23,12 +23,12 @@ pub enum Exit {
     RegisterFault,
     /// Printing failed.
     PrintFault,
-    /// A file isn't as it should be: which file, and from which place in bytes.
+    /// A file is damaged: which file, and from which offset.
     Damaged { file: u8, place: u64 },
-    /// There is no room in the account.
+    /// The account or the journal has no room.
     Full,
-    /// A line wants a table that drives the record store, and none that is admitted was read; or it
-    /// is itself a table that isn't admitted: its number, from 1.
+    /// A line needs a table that drives the record store, and no admitted table was read before; or
+    /// the line is itself a table that isn't admitted. With the line's number, from 1.
     ErstRefused { line: u64 },
     /// The record store's device was busy for too long.
     ErstBusy,
@@ -54,7 +54,7 @@ impl Exit {
     ghost use Rattle.ras_exit.specs.Endings.{is_answer, unread_exit};
     ghost use Rattle.ras_exit.specs.ExitStatus.{exit_number};
 
-    /// The process's exit status.
+    /// Returns the process's exit status for this exit.
     pub fn status(&self) -> u8
         ensures { result ≡ exit_number self.now }
     {
@@ -76,8 +76,8 @@ impl Exit {
         }
     }
 
-    /// Whether a call that ends so came to its end or to a refusal. If it didn't, a fault cut it
-    /// short, or memory ran out.
+    /// Returns whether a call with this exit came to its end or to a refusal. Otherwise a fault cut
+    /// it short, or memory ran out.
     pub fn is_answer(self) -> bool
         ensures { result ≡ is_answer self }
     {
@@ -91,7 +91,7 @@ impl Exit {
         )
     }
 
-    /// How a run ends if its line of this number can't be read.
+    /// Returns how a run ends whose line of this number can't be read.
     pub fn of_unread(line: u64, refused: LineRefused) -> Exit
         ensures { result ≡ unread_exit line refused }
     {

@@ -1,4 +1,4 @@
-//! A text that is printed by one call.
+//! Printing a text by one call of the board.
 
 ghost use Rattle.std.specs.Prelude.{◌≡◌, Err, OnErr, OnOk};
 ghost use Rattle.board_core.specs.Cause.{print_call};
@@ -11,16 +11,17 @@ ghost use Rattle.ras_exit.specs.Acts.{print_acts};
 use crate::Exit;
 use board_core::{Board, Failed};
 
-/// Prints a text by one call, and by none if there is no text.
+/// Prints a text by one call of the board. Makes no call if the text is empty.
 ///
 /// # Errors
 ///
-/// `PrintFault` comes only if printing failed; then a beginning of the text was printed.
+/// `PrintFault`: only if printing failed; a beginning of the text was then printed.
 pub fn print<B: Board>(text: &[u8], board: &mut B) -> Result<(), Exit>
     ensures does { Does (looks B.told B.clock B.faults) (print_acts text.now)
         (one_end print_call result) board.old board.new }
     ensures exit { OnErr result (result ≡ Err Exit.PrintFault) }
-    // The rest holds also if a stop before might have left something else than the board tells.
+    // The clauses that follow hold even if a crash before might have left something other than the
+    // model says.
     ensures stops { Passes (InOut (Begins text.now)) (B.clock board.old) (B.clock board.new) }
     ensures printed { OnOk result
         (Leads (InOut (Appends text.now)) (B.clock board.old) (B.clock board.new)) }

@@ -11,44 +11,44 @@ use ras_panic::PanicRefused;
 use ras_script::LineRefused;
 use thiserror::Error;
 
-/// Why a line of a script is refused: by its reader, or by what it asks for. That memory ran out
-/// is no such reason.
+/// Why a line of a script is refused: by the reader of lines, or by what the line asks for. Running
+/// out of memory isn't one of these reasons.
 #[derive(Clone, Copy, Debug, Error, PartialEq, Eq)]
 pub enum Reason {
-    /// The line itself doesn't read.
+    /// The line can't be read.
     #[error("the line can't be read: {0}")]
     Line(LineRefused),
-    /// The line has more bytes than a line may have, so it isn't read.
+    /// The line has more bytes than a line may have, so it wasn't read.
     #[error("the line has more than 40,000 bytes")]
     LongLine,
-    /// The rows of the machine don't take the line's row.
+    /// The machine description doesn't take the line's row.
     #[error("the machine doesn't take the row: {0}")]
     Topology(TopologyRefused),
-    /// The line's table of error sources doesn't read.
+    /// The line's table of error sources can't be read.
     #[error("the table of error sources can't be read: {0}")]
     Hest(TableRefused),
-    /// The line's table of boot errors doesn't read.
+    /// The line's table of boot errors can't be read.
     #[error("the table of boot errors can't be read: {0}")]
     Bert(TableRefused),
-    /// The line's status block doesn't read.
+    /// The line's status block can't be read.
     #[error("the status block can't be read: {0}")]
     Block(BlockRefused),
-    /// No table of error sources was read, or it has no source of the line's identifier.
+    /// No table of error sources was read before, or it has no source with the line's identifier.
     #[error("no such error source is known")]
     Source,
-    /// The line's error record serialization table doesn't read.
+    /// The line's error record serialization table can't be read.
     #[error("the error record serialization table can't be read: {0}")]
     Erst(ErstTableRefused),
-    /// The record store doesn't take the line's record.
+    /// The record store refuses the line's record.
     #[error("the record store doesn't take the record: {0}")]
     Put(PutRefused),
-    /// The line's report makes no panic record.
+    /// No panic record can be made of the line's report.
     #[error("the report makes no panic record: {0}")]
     Panic(PanicRefused),
 }
 
 impl Reason {
-    /// The word by which it is printed: which reader refuses.
+    /// Returns the word by which the reason is printed: which reader refuses.
     pub fn word(self) -> &'static [u8]
         ensures { result.now ≡ reason_word self }
     {
@@ -65,7 +65,7 @@ impl Reason {
         }
     }
 
-    /// The number that the reader gives its refusal, if it gives one.
+    /// Returns the number that the reader gives its refusal, or `None` if it gives none.
     pub fn number(self) -> Option<u8>
         ensures { result ≡ reason_number self }
     {
@@ -83,7 +83,7 @@ impl Reason {
     }
 }
 
-// The number of a refusal by the record store. Want of memory has none.
+// The number of a refusal by the record store. Running out of memory has none.
 fn put_number(refused: PutRefused) -> Option<u8>
     ensures { result ≡ put_number refused }
 {

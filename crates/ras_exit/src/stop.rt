@@ -8,11 +8,12 @@ use crate::{Exit, Reason};
 use ras_base::{NoMemory, push_number};
 use std::alloc::Global;
 
-/// The line that a refused run ends with. An exit that is no refusal has none.
+/// Returns the `stop` line that a refused run ends with. It is empty for an exit that isn't a
+/// refusal.
 ///
 /// # Errors
 ///
-/// `NoMemory` comes only if memory runs out.
+/// `NoMemory`: only if memory runs out.
 pub fn stop_line(alloc: Global, exit: Exit) -> Result<Vec<u8>, NoMemory>
     ensures { IfOk result (λ text. text.items ≡ stop_line exit) }
 {
@@ -56,14 +57,14 @@ pub fn stop_line(alloc: Global, exit: Exit) -> Result<Vec<u8>, NoMemory>
     Ok(text)
 }
 
-/// The line that a call ends with whose words are no command. It takes no memory.
+/// Returns the line that a call ends with whose arguments aren't a command. Allocates nothing.
 pub fn usage_line() -> &'static [u8]
     ensures { result.now ≡ stop_line Exit.Usage }
 {
     b"stop 1 usage\n"
 }
 
-/// The line that a run ends with whose device was busy for too long. It takes no memory.
+/// Returns the line that a run ends with whose device was busy for too long. Allocates nothing.
 pub fn busy_line() -> &'static [u8]
     ensures { result.now ≡ stop_line Exit.ErstBusy }
 {

@@ -1,4 +1,4 @@
--- Which entries are valid, and what one has.
+-- Which entries are valid, and what they contain.
 use Rattle.std.specs.Prelude.{ℕ, ◌*◌, ◌<◌, ◌^◌, List, [], length}
 use Rattle.page_policy.specs.Buckets.{IsLimit}
 use Rattle.ras_facts.specs.declared.items.Item.{Item}
@@ -20,6 +20,6 @@ items_in (Limit limit) = []
 items_in (Retire boot) = []
 items_in (ModuleLimit limit) = []
 
--- how many orders an entry gives at most: two an item, one of its page and one of its module
+-- the most orders that an entry can give: two an item, one for its page and one for its module
 abbrev pub most_orders : Entry → ℕ
 most_orders entry = 2 * length (items_in entry)

@@ -33,8 +33,7 @@ misc_in bank = record { 0 = bank.misc }
 abbrev pub bank_name : BankReport → Name
 bank_name bank = Bank bank.boot bank.cpu bank.bank bank.tsc
 
--- the label of the module that owns the error of a snapshot, by the rows of a topology; the empty
--- one is none
+-- the label of the module that owns the error of a snapshot, by the rows of a topology; empty for no label
 abbrev pub bank_label : BankReport → List Row → Bytes
 bank_label bank rows =
     unwrap_or
@@ -51,7 +50,7 @@ bank_item bank rows class = record {
   weight = weight_of (cap_in bank) (status_in bank);
 }
 
--- the fact of a snapshot, if the bank holds an error: it has the one item
+-- the fact of a snapshot, if the bank has an error: it has one item
 abbrev pub bank_fact : BankReport → List Row → Option Fact
 bank_fact bank rows =
     option_map (λ class. record { name = bank_name bank; seconds = bank.seconds; items = bank_item bank rows class ∷ [] })

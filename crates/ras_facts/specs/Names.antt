@@ -1,4 +1,4 @@
--- When two names are the same, the boot that a name tells, and whether that is retired.
+-- When two names are the same, which boot a name has, and whether that boot is retired.
 use Rattle.std.specs.Prelude.{ℕ, ◌==◌, nat_lt, Bool, false, ◌&&◌, Option, Some, None}
 use Rattle.std.specs.Option.{option_map_or}
 use Rattle.ras_facts.specs.declared.name.Name.{Name}

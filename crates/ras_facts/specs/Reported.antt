@@ -29,8 +29,8 @@ severity_class severity = slice_index_or (Recoverable ∷ Fatal ∷ Corrected �
 abbrev pub Read : Type 0
 Read = Result Section SectionRefused
 
--- the label of the module that owns the error of a memory section, by the rows of a topology; the
--- empty one is none, as of every other section
+-- the label of the module that owns the error of a memory section, by the rows of a topology; empty for no label, as
+-- for every other section
 abbrev pub section_label : List Row → Read → Bytes
 section_label rows (Ok (Memory section)) = unwrap_or (owner_by_rows rows section.physical (section_location section)) []
 section_label rows _ = []
@@ -40,7 +40,7 @@ abbrev pub section_page : Read → Option ℕ
 section_page (Ok (Memory section)) = option_map page_of_address section.physical
 section_page _ = None
 
--- the item of a section of this severity; it stands for one error
+-- the item of a section of this severity; it counts for one error
 abbrev pub section_item : List Row → ℕ → Read → Item
 section_item rows severity section = record {
   class = severity_class severity;

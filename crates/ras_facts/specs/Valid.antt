@@ -1,4 +1,4 @@
--- Which items and facts are valid: each number fits its field, and the journal can hold them.
+-- Which items and facts are valid: each number fits its field, so the journal can store them.
 use Rattle.std.specs.Prelude.{ℕ, ◌<◌, ◌≤◌, ◌^◌, length, All, IfSome, IsTrue}
 use Rattle.dimm_topology.specs.Labels.{is_label_or_none}
 use Rattle.ras_facts.specs.declared.name.Name.{Name}
@@ -11,7 +11,7 @@ use Rattle.ras_facts.specs.declared.fact.Fact.{Fact}
 abbrev pub IsPage : ℕ → Type 0
 IsPage page = page < PAGES
 
--- an item stands for 1 to 32,767 errors, and its label is one or none
+-- an item counts for 1 to 32,767 errors, and its label is a label or none
 pub record IsValidItem (item : Item) : Type 0 where
   pub label : IsTrue (is_label_or_none item.label)
   pub page : IfSome item.page IsPage

@@ -22,7 +22,7 @@ use std::alloc::Global;
 pub struct BankReport {
     /// The boot in which the bank was read.
     pub boot: u64,
-    /// When it was read, in seconds.
+    /// When the bank was read, in seconds.
     pub seconds: u64,
     /// The processor's number.
     pub cpu: u16,
@@ -55,8 +55,8 @@ impl BankReport {
         }
     }
 
-    // The label of the module that the error belongs to, by its address or else by the memory
-    // channel of its code.
+    // The label of the module that the error belongs to: by the error's address, or else by the
+    // memory channel of its code.
     fn label(&self, alloc: Global, topology: &Topology) -> Result<Label, NoMemory>
         ensures label { IfOk result (λ label. label ≡ bank_label self.now topology.now) }
         ensures valid { IfOk result (λ label. IsTrue (is_label_or_none label)) }
@@ -85,8 +85,8 @@ impl BankReport {
     }
 }
 
-/// The name of the fact that a bank's snapshot gives, whatever the topology is. It is None exactly
-/// if the bank holds no error, and takes no memory.
+/// Returns the name of the fact that a bank's snapshot gives, whatever the topology is. It is
+/// `None` if and only if the bank has no error (VAL is 0). Allocates nothing.
 pub fn name_of_bank(bank: BankReport) -> Option<Name>
     ensures name { (rows : List Row)
         → result ≡ option_map (λ fact. fact.name) (bank_fact bank rows) }
@@ -101,9 +101,12 @@ pub fn name_of_bank(bank: BankReport) -> Option<Name>
     }
 }
 
-/// The fact that a bank's snapshot gives: one item with the class, the owner by the topology, the
-/// usable page and the weight of the error. It is None exactly if the bank holds no error (VAL
-/// is 0), which takes no memory. (Intel SDM, volume 3, chapter "Machine-Check Architecture".)
+/// Returns the fact that a bank's snapshot gives: one item with the class of the error, the label
+/// of its module by the topology, its usable page and its weight. It is `None` if and only if the
+/// bank has no error (VAL is 0), and then nothing is allocated. (Intel SDM, volume 3, chapter
+/// "Machine-Check Architecture".)
+///
+/// `NoMemory`: only if memory runs out.
 pub fn fact_of_bank(
     alloc: Global,
     bank: &BankReport,

@@ -12,9 +12,12 @@ use dimm_topology::Topology;
 use ras_base::NoMemory;
 use std::alloc::Global;
 
-/// The fact that a status block gives, read at this time and named so: an item for each entry in
-/// order, as `fact_of_record` gives one for each section. It is None exactly if the block status
-/// is 0, which takes no memory. (ACPI 6.5, section 18.3.2.7.1, "Generic Error Data".)
+/// Returns the fact that a status block gives, read at this time and with this name: an item for
+/// each entry in order, as `fact_of_record` makes one of each section. It is `None` if and only if
+/// the block status is 0, and then nothing is allocated. (ACPI 6.5, section 18.3.2.7.1, "Generic
+/// Error Data".)
+///
+/// `NoMemory`: only if memory runs out.
 pub fn fact_of_block(
     alloc: Global,
     name: Name,
@@ -25,7 +28,7 @@ pub fn fact_of_block(
     ensures fact { IfOk result (λ fact. fact ≡ block_fact topology.now name seconds block.now) }
     ensures none { (result ≡ Ok None) ↔ (block.now.status ≡ 0) }
 
-    // The entries of a block can be more than a valid fact has items.
+    // A block can have more entries than a valid fact has items.
     ensures valid { length block.now.entries ≤ MOST_ITEMS
         → IfOk result (λ fact. IfSome fact IsValidFact) }
 {

@@ -1,13 +1,13 @@
-//! What an account takes.
+//! The entries of an account.
 ghost use Rattle.std.specs.Prelude.{◌≡◌};
 
 use crate::Fact;
 use page_policy::Limit;
 
-/// What an account takes.
+/// An entry: what an account counts, or puts in force.
 #[derive(Debug, Drop)]
 pub enum Entry {
-    /// What a report tells.
+    /// A report, with its errors.
     Fact(Fact),
     /// From now on this limit is in force for pages.
     Limit(Limit),
@@ -21,7 +21,8 @@ pub enum Entry {
 impl Entry {
     ghost use Rattle.ras_facts.specs.Entries.{IsValidEntry, most_orders};
 
-    /// How many orders the entry gives at most: two an item, one of its page and one of its module.
+    /// Returns the most orders that the entry can give: two an item, one for its page and one for
+    /// its module.
     pub fn most_orders(&self) -> usize
         requires { IsValidEntry self.now }
         ensures { result ≡ most_orders self.now }

@@ -1,14 +1,14 @@
-//! What a report tells.
+//! A report, as an account counts it.
 
 use crate::{Items, Name};
 
-/// What a report tells.
+/// A report, as an account counts it: its name, its time and its items.
 #[derive(Debug, Drop)]
 pub struct Fact {
     /// The report's name.
     pub name: Name,
-    /// When it came, in seconds.
+    /// When the report was made, in seconds.
     pub seconds: u64,
-    /// What it lists.
+    /// The errors that the report lists.
     pub items: Items,
 }

@@ -11,22 +11,22 @@ use std::marker::Model;
 /// The most items that a valid fact has.
 pub const MOST_ITEMS: usize = 65_535;
 
-/// The most errors that a valid item stands for.
+/// The most errors that a valid item counts for.
 pub const MOST_WEIGHT: u16 = 32_767;
 
-/// How many pages of 4,096 bytes 64 bits address: the numbers of pages are below this.
+/// The number of pages of 4,096 bytes that 64 bits address: page numbers are below it.
 pub const PAGES: u64 = 1 << 52;
 
-/// One of the things that a report tells.
+/// One error of a report, or several of one kind at one place.
 #[derive(Debug, Drop, PartialEq, Eq)]
 pub struct Item {
     /// The class of the error.
     pub class: ItemClass,
-    /// The memory module that the error belongs to, or none.
+    /// The label of the memory module that the error belongs to, or `Label::none()`.
     pub label: Label,
-    /// The number of the page of 4,096 bytes that the error lies in, if it is known.
+    /// The number of the page of 4,096 bytes with the error, if it is known.
     pub page: Option<u64>,
-    /// How many errors the item stands for.
+    /// How many errors the item counts for.
     pub weight: u16,
 }
 
@@ -46,7 +46,7 @@ impl Model for Items {
 }
 
 impl Items {
-    /// No items.
+    /// Returns an empty list.
     pub fn new(alloc: Global) -> Items
         ensures { result ≡ [] }
     {
@@ -55,7 +55,7 @@ impl Items {
         }
     }
 
-    /// One item, with room for no other.
+    /// Returns a list of one item, with room for no other.
     pub fn one(alloc: Global, item: Item) -> Result<Items, NoMemory>
         ensures { IfOk result (λ items. items ≡ item ∷ []) }
     {
@@ -63,8 +63,7 @@ impl Items {
         Ok(Items { list })
     }
 
-    /// Puts an item after the others. If memory runs out the list stays, and the item is given
-    /// up.
+    /// Appends an item. If memory runs out the list is unchanged and the item is dropped.
     pub fn push(&mut self, item: Item) -> Result<(), NoMemory>
         ensures ok { OnOk result (self.new ≡ self.old ++ item ∷ []) }
         ensures err { OnErr result (self.new ≡ self.old) }
@@ -73,14 +72,14 @@ impl Items {
         Ok(())
     }
 
-    /// The items in order.
+    /// Returns the items in order.
     pub fn as_slice(&self) -> &[Item]
         ensures { result.now ≡ self.now }
     {
         self.list.as_slice()
     }
 
-    /// The items in order, in a vector. It takes no memory.
+    /// Returns the items in order, in a vector. Allocates nothing.
     pub fn into_vec(self) -> Vec<Item>
         ensures { result.items ≡ self }
     {

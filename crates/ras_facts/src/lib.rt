@@ -1,6 +1,8 @@
-//! What a report tells: its name, when it came, and the items that it lists.
+//! Reports: the name of each, when it was made, and the errors that it lists.
 //!
 //! The definitions in `specs/` say which fact a report gives, and what a valid fact is.
+//!
+//! A public function with an empty body is a law: its clauses are the point.
 #![tactic(auto)]
 
 mod bank;

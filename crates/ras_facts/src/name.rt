@@ -2,7 +2,7 @@
 ghost use Rattle.std.specs.Prelude.{◌≡◌};
 ghost use Rattle.ras_facts.specs.Names.{boot_of, is_retired};
 
-/// The name of a report. Two reports with one name tell of one error, which is counted once.
+/// The name of a report. Two reports with one name are reports of one error, which is counted once.
 #[derive(Clone, Copy, Debug, PartialEq, Eq, Hash)]
 pub enum Name {
     /// An error in a machine-check bank: the boot in which it was found, the processor's number,
@@ -13,7 +13,8 @@ pub enum Name {
         bank: u8,
         tsc: u64,
     },
-    /// A record of the record store, by its identifier. It is used once in the life of a store.
+    /// A record of the record store, by its identifier. A store uses each identifier once in its
+    /// life.
     Record {
         id: u64,
     },
@@ -31,7 +32,8 @@ pub enum Name {
 }
 
 impl Name {
-    /// The boot in which the report was made; None for a record, which outlives boots.
+    /// Returns the boot in which the report was made. It is `None` for a record, which persists
+    /// across boots.
     pub fn boot(&self) -> Option<u64>
         ensures { result ≡ boot_of self.now }
     {
@@ -41,8 +43,8 @@ impl Name {
         }
     }
 
-    /// Whether the report's boot is retired by this floor: it is below it. A record has no boot, so
-    /// that it never is.
+    /// Returns whether the report's boot is below `floor`, and so retired. A record has no boot, so
+    /// it is never retired.
     pub fn is_retired(&self, floor: u64) -> bool
         ensures { result ≡ is_retired floor self.now }
     {

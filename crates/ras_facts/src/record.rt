@@ -11,9 +11,11 @@ use dimm_topology::Topology;
 use ras_base::NoMemory;
 use std::alloc::Global;
 
-/// The fact that a record gives, read at this time: an item for each section in order, with the
-/// class of the section's own severity, and for a memory section the owner by the topology and the
-/// page of its physical address. (UEFI, appendix N, "Section Descriptor".)
+/// Returns the fact that a record gives, read at this time: an item for each section in order, with
+/// the class of the section's own severity and, for a memory section, the label by the topology and
+/// the page of its physical address. (UEFI, appendix N, "Section Descriptor".)
+///
+/// `NoMemory`: only if memory runs out.
 pub fn fact_of_record(
     alloc: Global,
     seconds: u64,

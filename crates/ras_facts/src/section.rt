@@ -15,8 +15,11 @@ use std::alloc::Global;
 // A page of memory has 2 ^ 12 bytes.
 const PAGE_BITS: u32 = 12;
 
-/// The item of a section, which stands for one error: it has the class of the section's severity,
-/// and for a memory section the owner by the topology and the page of its physical address.
+/// Returns the item of a section, which counts for one error. It has the class of the section's
+/// severity and, for a memory section, the label by the topology and the page of its physical
+/// address.
+///
+/// `NoMemory`: only if memory runs out.
 pub fn section_item(
     alloc: Global,
     read: &Descriptor<'_>,
@@ -34,7 +37,7 @@ pub fn section_item(
     })
 }
 
-/// The class of a section of this severity: 0 is recoverable, 1 fatal, 2 corrected and 3
+/// Returns the class of a section of this severity: 0 is recoverable, 1 fatal, 2 corrected and 3
 /// informational. (UEFI, appendix N, "Section Descriptor".)
 pub fn severity_class(severity: u32) -> ItemClass
     ensures { result ≡ severity_class severity }

@@ -1,6 +1,6 @@
 -- The device that is kept and the folder go together, however a call on it ended.
 use Rattle.std.proofs.Common.{◌≡◌, ℕ, ◌≤◌, List, [], length, take, Some, refl, sym, ap, subst, ◌∙◌, arith, inl, inr}
-use Rattle.std.specs.Prelude.{◌⊎◌, ◌≢◌, Bool, true, false, ◌&&◌, nat_eq, if◌then◌else◌, Option, None, IfSome, IfOk, Result, Ok, Err, OnOk, OnErr}
+use Rattle.std.specs.Prelude.{◌⊎◌, ◌≢◌, Bool, true, false, ◌&&◌, nat_eq, ◌==◌, if◌then◌else◌, Option, None, IfSome, IfOk, Result, Ok, Err, OnOk, OnErr}
 use Rattle.std.specs.Bool.{Decides}
 use Rattle.std.specs.Cmp.{unsigned_Decides}
 use Rattle.std.specs.Cmp.Lexicographic.{pointwise, pointwise_decides, bytes_decides}
@@ -35,8 +35,8 @@ use Rattle.ras_host.specs.JournalFiles.{AreHeld, files_for}
 use Rattle.ras_host.specs.Steps.KeptDevice.{Acts, BecomesBy, IsInStep, IsSaved, IsUsed, Keeps, KeepsOrLoses, MayTurn, Settles, Turned, Turns, device_in, is_same_record, is_same_store, volatile_in}
 use Rattle.ras_host.specs.Steps.Settled.{IsSettledBy}
 use Rattle.ras_host.specs.Steps.Written.{Writes}
-use Rattle.ras_host.specs.declared.journal.Use.{Use}
-use Rattle.ras_host.specs.declared.journal.Use.TheVariants.{Alone, Reading}
+use Rattle.ras_host.specs.declared.journal.JournalFiles.{JournalFiles}
+use Rattle.ras_host.specs.declared.journal.JournalFiles.TheVariants.{Shut, Unread as NotRead}
 use Rattle.ras_host.specs.declared.kept.Kept.{Kept}
 use Rattle.ras_host.specs.declared.kept.Kept.TheVariants.{Unread, Here, Lost, Unreadable}
 use Rattle.ras_host.specs.declared.saved.Saved.{Saved}
@@ -435,12 +435,15 @@ in_step_begun law (Some p) may = record {
   whole = may.whole;
 }
 
-pub held_begun : (how : Use) (told : Option FolderPast) → IfSome told MayBegin → IfSome told (AreHeld (files_for how))
-held_begun how None may = tt
-held_begun Alone (Some p) may = record { zero = may.zero; one = may.one }
-held_begun Reading (Some p) may = record { zero = may.zero; one = may.one }
+-- a fact of a run's files and of a report's
+of_files : (P : JournalFiles → Type 0) (is_run : Bool) → P Shut → P NotRead → P (if is_run then Shut else NotRead)
+of_files P true run report = run
+of_files P false run report = report
 
-pub settled_begun : (how : Use) (kept : Kept) (told : Option FolderPast) → IfSome told (IsSettledBy (files_for how) kept)
+pub held_begun : (how : ℕ) (told : Option FolderPast) → IfSome told MayBegin → IfSome told (AreHeld (files_for how))
+held_begun how None may = tt
+held_begun how (Some p) may = of_files (λ f. AreHeld f p) (how == 1) (record { zero = may.zero; one = may.one }) (record { zero = may.zero; one = may.one })
+
+pub settled_begun : (how : ℕ) (kept : Kept) (told : Option FolderPast) → IfSome told (IsSettledBy (files_for how) kept)
 settled_begun how kept None = tt
-settled_begun Alone kept (Some p) = λ never. absurd never
-settled_begun Reading kept (Some p) = λ never. absurd never
+settled_begun how kept (Some p) = of_files (λ f. IsSettledBy f kept p) (how == 1) (λ never. absurd never) (λ never. absurd never)

@@ -1,3 +1,4 @@
+pub mod BlameLemmas
 pub mod JournalLemmas
 pub mod KeptLemmas
 mod ReadLemmas

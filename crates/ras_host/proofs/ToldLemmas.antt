@@ -1,13 +1,13 @@
 -- What a board over a system tells after a call, by what it told before. Of the board here are what
 -- the system tells, the device that is kept, and what is listed.
-use Rattle.std.proofs.Common.{◌≡◌, ℕ, List, [], ◌∷◌, ◌++◌, Some, refl, sym, ap, subst, ◌∙◌, inl, inr}
+use Rattle.std.proofs.Common.{◌≡◌, ℕ, List, length, [], ◌∷◌, ◌++◌, Some, refl, sym, ap, subst, ◌∙◌, inl, inr}
 use Rattle.std.specs.Prelude.{Option, None, IfSome, IfOk, Result, Ok, Err, OnOk, OnErr, IsErr}
 use Rattle.std.specs.Option.{option_map}
 use Rattle.std.specs.Result.{result_unwrap_or}
 use Rattle.board_core.specs.Cause.{put_failure}
 use Rattle.board_core.specs.Clock.{Passes, PassesAtRefusal, StoreIsLeft}
-use Rattle.board_core.specs.Stop.{Left, InFile, InStore, Same}
-use Rattle.board_core.specs.Told.{Told, Torn, Relates, Steps, StoreBy, MayListAccess, MayAct, FailsAccess, KeepsAtRefusal, device_of, on_device, with_access}
+use Rattle.board_core.specs.Stop.{Left, InFile, InStore, Same, file_in, with_file_in}
+use Rattle.board_core.specs.Told.{Told, Torn, Relates, Steps, StoreBy, MayListAccess, MayAct, FailsAccess, KeepsAtRefusal, device_of, on_device, overlay, with_access}
 use Rattle.board_core.specs.declared.board.Access.{Access}
 use Rattle.board_core.specs.declared.board.Access.TheVariants.{Read}
 use Rattle.board_core.specs.declared.board.Reg.{Reg}
@@ -19,7 +19,7 @@ use Rattle.board_core.specs.declared.board.FileNo.TheVariants.{Zero, One}
 use Rattle.erst_store.specs.Device.{Device, Volatile, device_with, volatile_of}
 use Rattle.erst_store.specs.DeviceLaws.{IsDevice}
 use Rattle.erst_store.specs.Store.{Stored}
-use Rattle.host_system.specs.BoardFile.{KeepsFile, KeepsOthers, KeepsStore, SeesBegun, SeesPrinted}
+use Rattle.host_system.specs.BoardFile.{KeepsFile, KeepsOthers, KeepsStore, SeesBegun, SeesPrinted, SeesTorn, SeesWritten}
 use Rattle.host_system.specs.FolderPast.{FolderPast, IfTold}
 use Rattle.host_system.specs.View.{HasSettledStore, HasWholeStore, clock_over, seen_now, told_over}
 use Rattle.host_system.specs.Steps.FolderPastLemmas.{stands}
@@ -318,6 +318,29 @@ pub write_stops : {T E : Type 0} (file : FileNo) (place count : ℕ) (Sees Fails
     → Passes (InFile file (Torn place count)) (clock_over before) (clock_over after)
 write_stops file place count Sees Fails (Ok x) f g before after ok err = ok.stops
 write_stops file place count Sees Fails (Err e) f g before after ok err = err.stops
+
+same_store : (file : FileNo) (bytes : List ℕ) (old new : Left) → new ≡ with_file_in file bytes old → new.store ≡ old.store
+same_store Zero bytes old new is = ap (λ (l : Left). l.store) is
+same_store One bytes old new is = ap (λ (l : Left). l.store) is
+
+pub in_step_wrote : {T E : Type 0} (file : FileNo) (place : ℕ) (bytes : List ℕ) (Step : Left → Left → Type 0) (result : Result T E)
+    (f g : JournalFiles) (kept : Kept) (before after : Option FolderPast)
+    → OnOk result (Moves (SeesWritten file place bytes) Step f g before after)
+    → OnErr result (Moves (SeesTorn file place (length bytes)) Step f g before after)
+    → IfSome before (IsInStep kept) → IfSome after (IsInStep kept)
+in_step_wrote file place bytes Step (Ok x) f g kept before after ok err is =
+    in_step_moved Step (SeesWritten file place bytes) f g kept before after ok
+    (λ p q sees. same_store file (overlay place bytes (file_in file (seen_now p))) (seen_now p) (seen_now q) sees) is
+in_step_wrote file place bytes Step (Err e) f g kept before after ok err is =
+    in_step_moved Step (SeesTorn file place (length bytes)) f g kept before after err
+    (λ p q sees. same_store file sees.bytes (seen_now p) (seen_now q) sees.rest) is
+
+pub settled_wrote : {T E : Type 0} (Sees Fails : FolderPast → FolderPast → Type 0) (Step : Left → Left → Type 0) (result : Result T E)
+    (f g : JournalFiles) (kept : Kept) (before after : Option FolderPast)
+    → OnOk result (Moves Sees Step f g before after) → OnErr result (Moves Fails Step f g before after)
+    → IfSome before (IsInStep kept) → IfSome before (IsSettledBy f kept) → IfSome after (IsSettledBy g kept)
+settled_wrote Sees Fails Step (Ok x) f g kept before after ok err in_step is = settled_moved Sees Step f g kept before after ok in_step is
+settled_wrote Sees Fails Step (Err e) f g kept before after ok err in_step is = settled_moved Fails Step f g kept before after err in_step is
 
 -- ---- a call however it ended
 

@@ -1,16 +1,17 @@
--- What contracts see of a board over a system.
+-- What contracts can say of a board over a system.
 use Rattle.std.specs.Prelude.{ℕ, List, Option}
 use Rattle.board_core.specs.Cause.{Faults}
 use Rattle.host_system.specs.FolderPast.{FolderPast}
 use Rattle.ras_host.specs.declared.journal.JournalFiles.{JournalFiles}
 use Rattle.ras_host.specs.declared.kept.Kept.{Kept}
 
--- what was done to the folder, where the system tells it; the journal's files and the device as the
--- board has them; how often its calls have failed; the calls that it lists, as they are noted
+-- what was done to the folder, if the system is modelled; the journal's files and the device as the board has
+-- them; how often its calls have failed, and how often the system's; the calls that it lists, as numbers
 pub record BoardState : Type 0 where
   pub past : Option FolderPast
   pub files : JournalFiles
   pub kept : Kept
   pub faults : Faults
+  pub count : ℕ
   pub disk_calls : List (List ℕ × List ℕ)
   pub accesses : List (List ℕ × List ℕ)

@@ -1,5 +1,5 @@
--- What a call does to the journal's files, and to a folder that they lie in.
-use Rattle.std.specs.Prelude.{◌≡◌, ℕ, ◌⊎◌, List, length, take, Bool, IsTrue, Option}
+-- What a call does to the journal's files, and to the folder that they are in.
+use Rattle.std.specs.Prelude.{◌≡◌, ℕ, ◌⊎◌, List, length, take, Bool, IsTrue, Option, ◌==◌, if◌then◌else◌}
 use Rattle.board_core.specs.Clock.{Passes}
 use Rattle.board_core.specs.Stop.{Left}
 use Rattle.board_core.specs.declared.board.FileNo.{FileNo}
@@ -7,14 +7,12 @@ use Rattle.board_core.specs.declared.board.FileNo.TheVariants.{Zero, One}
 use Rattle.host_system.specs.BoardFile.{AreOpenable, IsReadable, IsUsable, KeepsStore}
 use Rattle.host_system.specs.FolderPast.{FolderPast, IfTold}
 use Rattle.host_system.specs.View.{HasSettledStore, HasWholeStore, clock_over, seen_now}
-use Rattle.ras_host.specs.declared.journal.Use.{Use}
-use Rattle.ras_host.specs.declared.journal.Use.TheVariants.{Alone, Reading}
 use Rattle.ras_host.specs.declared.journal.JournalFiles.{JournalFiles}
 use Rattle.ras_host.specs.declared.journal.JournalFiles.TheVariants.{Shut, Open, Unread, Seen}
 use Rattle.ras_host.specs.declared.reading.Pair.{Pair}
 use Rattle.ras_host.specs.declared.reading.ReadFile.{ReadFile}
 
--- what there is of a file in a pair, and the pair with another thing there
+-- the value for a file in a pair, and the pair with another value there
 abbrev pub part_of : {T : Type 0} → FileNo → Pair T → T
 part_of Zero pair = pair.zero
 part_of One pair = pair.one
@@ -23,24 +21,25 @@ abbrev pub with_part : {T : Type 0} → FileNo → T → Pair T → Pair T
 with_part Zero part pair = record pair { zero = part }
 with_part One part pair = record pair { one = part }
 
-abbrev pub files_for : Use → JournalFiles
-files_for Alone = Shut
-files_for Reading = Unread
+-- the files of a board before their first use: a run's files if the kind is 1, otherwise a report's
+abbrev pub files_for : ℕ → JournalFiles
+files_for how = if how == 1 then Shut else Unread
 
 -- How many bytes of a journal file are read at most: one more than the longest has.
 abbrev pub most_read : ℕ
 most_read = 67108865
 
--- What was read of a file with these bytes: its length, and as many of them as are read at most.
+-- What was read of a file with these bytes: its length, and its first bytes, as many as are read at most.
 pub record IsRead (read : ReadFile) (whole : List ℕ) : Type 0 where
   pub size : read.length ≡ length whole
   pub items : read.bytes.items ≡ take most_read whole
 
+-- This was read of both files.
 pub record AreRead (files : Pair ReadFile) (past : FolderPast) : Type 0 where
   pub zero : IsRead files.zero (seen_now past).file0
   pub one : IsRead files.one (seen_now past).file1
 
--- Of both files this holds, but for one that isn't sound.
+-- This holds of both files, except one that isn't sound.
 pub record AreSound (Is : FileNo → FolderPast → Type 0) (sound : Pair Bool) (past : FolderPast) : Type 0 where
   pub zero : IsTrue sound.zero → Is Zero past
   pub one : IsTrue sound.one → Is One past
@@ -50,28 +49,27 @@ pub record AreSeen (files : Pair ReadFile) (sound : Pair Bool) (past : FolderPas
   pub read : AreRead files past
   pub readable : AreSound IsReadable sound past
 
--- A run's files that are open may be used, but for one of which a sync failed. Those that aren't
--- open may be opened, and those that aren't read may be read.
+-- A run's open files may be used, except one of which a sync failed. Files that aren't open may be opened,
+-- and files that aren't read may be read.
 abbrev pub AreHeld : JournalFiles → FolderPast → Type 0
 AreHeld Shut past = AreOpenable past
 AreHeld (Open sound) past = AreSound IsUsable sound past
 AreHeld Unread past = AreOpenable past
 AreHeld (Seen files sound) past = AreSeen files sound past
 
--- A file is sound. That is so only once all names of the folder are on the disk.
+-- A file is sound. No file is before all names of the folder are durable.
 abbrev pub IsOneSound : JournalFiles → Type 0
 IsOneSound Shut = ⊥
 IsOneSound (Open sound) = IsTrue sound.zero ⊎ IsTrue sound.one
 IsOneSound Unread = ⊥
 IsOneSound (Seen files sound) = IsTrue sound.zero ⊎ IsTrue sound.one
 
--- If a file became sound, nothing of the record store's file is on its way, if that was whole.
+-- If a file became sound, the name of the record store's file is durable, provided that its bytes were.
 abbrev pub SettlesStore : JournalFiles → JournalFiles → FolderPast → FolderPast → Type 0
 SettlesStore old new before after = IsOneSound new → IsOneSound old ⊎ (HasWholeStore before → HasSettledStore after)
 
--- A call of the journal's files was made: what a board sees of the folder has changed so, and a stop
--- of the machine leaves what one before the call might have left, after this step. Nothing of the
--- record store's file is on its way that wasn't.
+-- A call of the journal's files was made: what a board sees of the folder has changed so, and a crash leaves
+-- what a crash before the call might have left, after this step. The store's file is as durable as before.
 pub record Moves (Sees : FolderPast → FolderPast → Type 0) (Step : Left → Left → Type 0)
     (old new : JournalFiles) (before after : Option FolderPast) : Type 0 where
   pub sees : IfTold Sees before after

@@ -1,3 +1,4 @@
+pub mod Blame
 pub mod BoardState
 pub mod JournalFiles
 pub mod SourceState

@@ -4,26 +4,28 @@ ghost use Rattle.board_core.specs.Clock.{LeftNow};
 ghost use Rattle.board_core.specs.Stop.{Left};
 ghost use Rattle.host_system.specs.View.{MayBegin};
 ghost use Rattle.ras_host.specs.Steps.Telling.{clock_of, told_of};
+ghost use Rattle.ras_host.specs.Blame.{AreCaused};
 ghost use Rattle.ras_host.specs.JournalFiles.{files_for};
 ghost use Rattle.ras_host.specs.Steps.BoardLaws.{board_told_left, board_text_left, board_earlier_left};
 
-use crate::faults::{count_put, counted};
-use crate::journal::{JournalFiles, Use};
+use crate::faults::count_put;
+use crate::journal::JournalFiles;
 use crate::kept::Kept;
 use crate::listed::{list_access, list_disk_call};
+use crate::uses::Use;
 use board_core::{Access, Board, BoardPut, DiskCall, Failed, FileNo, Reg};
 use erst_store::file_laws;
-use host_system::{Notes, System, print};
+use host_system::{Notes, System, counted, print};
 use std::alloc::Global;
-use std::marker::Model;
+use std::marker::{Model, PhantomData};
 
-/// The files `rasd.0`, `rasd.1` and `rasd.store` of the working folder, and standard output, of which
-/// it tells what the system tells. Each call that fails is counted, by its kind.
+/// A board over the files `rasd.0`, `rasd.1` and `rasd.store` of the working folder, and over
+/// standard output. It is modelled if its system is. Each call that fails is counted, by its kind.
 ///
-/// The record store is read at the device's first use, and empty if its file is missing. Each
-/// change of it is brought into its file before the call answers.
+/// The record store is read when the device is first used, and is empty if its file is missing.
+/// Each change of the store is written to its file before the call returns.
 #[derive(Drop)]
-pub struct FileBoard<S: System + Drop> {
+pub struct FileBoard<S: System + Drop, U: Use> {
     alloc: Global,
     system: S,
     files: JournalFiles,
@@ -33,10 +35,12 @@ pub struct FileBoard<S: System + Drop> {
     print_faults: u64,
     disk_calls: Notes,
     accesses: Notes,
+    used: PhantomData<U>,
 }
 
-impl<S: System + Drop> Model for FileBoard<S> {
+impl<S: System + Drop, U: Use> Model for FileBoard<S, U> {
     ghost use Rattle.std.specs.Prelude.{IfSome};
+    ghost use Rattle.ras_host.specs.Blame.{AreCaused};
     ghost use Rattle.ras_host.specs.BoardState.{BoardState};
     ghost use Rattle.ras_host.specs.JournalFiles.{AreHeld};
     ghost use Rattle.ras_host.specs.Steps.KeptDevice.{IsInStep};
@@ -53,21 +57,30 @@ impl<S: System + Drop> Model for FileBoard<S> {
         registers = b.register_faults;
         prints = b.print_faults;
       };
+      count = S.faults b.system;
       disk_calls = b.disk_calls.calls;
       accesses = b.accesses.calls;
     } };
 
     ghost invariant = { λ b. IfSome (S.told b.system) (AreHeld b.files)
         × IfSome (S.told b.system) (IsInStep b.kept)
-        × IfSome (S.told b.system) (IsSettledBy b.files b.kept) };
+        × IfSome (S.told b.system) (IsSettledBy b.files b.kept)
+        × AreCaused U.HOW b.files b.kept (record {
+          disk = b.disk_faults;
+          registers = b.register_faults;
+          prints = b.print_faults;
+        }) (S.faults b.system) };
 }
 
-impl<S: System + Drop> FileBoard<S> {
-    /// The board over a system, with no faults. No file is opened yet.
-    pub fn new(alloc: Global, how: Use, system: S) -> FileBoard<S>
-        requires { IfSome (S.told system) MayBegin }
+impl<S: System + Drop, U: Use> FileBoard<S, U> {
+    /// Returns the board over a system, with no faults. Opens no file yet. Requires a system none
+    /// of whose calls has failed; if the system is modelled, its folder must be one that a board
+    /// may begin over.
+    pub fn new(alloc: Global, system: S) -> FileBoard<S, U>
+        requires begins { IfSome (S.told system) MayBegin }
+        requires quiet { S.faults system ≡ 0 }
         ensures past { result.past ≡ S.told system }
-        ensures files { result.files ≡ files_for how }
+        ensures files { result.files ≡ files_for U.HOW }
         ensures faults { result.faults ≡ record { disk = 0; registers = 0; prints = 0 } }
         ensures unread { result.kept ≡ Kept.Unread }
         ensures unlisted { (result.disk_calls ≡ []) × (result.accesses ≡ []) }
@@ -76,25 +89,28 @@ impl<S: System + Drop> FileBoard<S> {
         FileBoard {
             alloc,
             system,
-            files: JournalFiles::new(how),
+            files: JournalFiles::new(U::HOW),
             kept: Kept::Unread,
             disk_faults: 0,
             register_faults: 0,
             print_faults: 0,
             disk_calls: Notes::new(),
             accesses: Notes::new(),
+            used: PhantomData,
         }
     }
 
-    /// The system that the board is over.
+    /// Returns the system that the board is over.
     pub fn into_system(self) -> S
-        ensures { S.told result ≡ self.past }
+        ensures past { S.told result ≡ self.past }
+        ensures count { S.faults result ≡ self.count }
+        ensures caused { AreCaused U.HOW self.files self.kept self.faults self.count }
     {
         self.system
     }
 }
 
-impl<S: System + Drop> Board for FileBoard<S> {
+impl<S: System + Drop, U: Use> Board for FileBoard<S, U> {
     ghost told = { λ b. told_of b };
 
     ghost clock = { λ b. clock_of b };
@@ -133,8 +149,8 @@ impl<S: System + Drop> Board for FileBoard<S> {
         counted(answer, &mut self.disk_faults)
     }
 
-    // Once a change of the store may not have come into its file, it isn't known which store the
-    // disk has. A sync that goes well would say so.
+    // After a change of the store that may not have reached its file, it isn't known which store
+    // the disk has. A sync that succeeds would say that it is.
     fn sync(&mut self, file: FileNo) -> Result<(), Failed> {
         list_disk_call(DiskCall::Sync(file), &mut self.disk_calls);
         if !self.kept.is_saved() {

@@ -1,16 +1,15 @@
 //! An input as a source.
 ghost use Rattle.std.specs.Prelude.{◌≡◌};
 
-use crate::faults::counted;
 use board_core::{Failed, Source};
 use host_system::Input;
 use std::marker::Model;
 
-/// The bytes of an input, which it tells if the input does. Each read that fails is counted.
+/// A source of the bytes of an input. It is modelled if the input is, and its faults are the
+/// input's.
 #[derive(Drop)]
 pub struct FileSource<I: Input + Drop> {
     input: I,
-    faults: u64,
 }
 
 impl<I: Input + Drop> Model for FileSource<I> {
@@ -18,16 +17,24 @@ impl<I: Input + Drop> Model for FileSource<I> {
 
     ghost Value = { SourceState };
 
-    ghost view = { λ s. record { left = I.left s.input; faults = s.faults } };
+    ghost view = { λ s. record { left = I.left s.input; faults = I.faults s.input } };
 }
 
 impl<I: Input + Drop> FileSource<I> {
-    /// The input from where it stands, with no faults.
+    /// Returns a source of the bytes that the input has left.
     pub fn new(input: I) -> FileSource<I>
         ensures left { result.left ≡ I.left input }
-        ensures faults { result.faults ≡ 0 }
+        ensures faults { result.faults ≡ I.faults input }
     {
-        FileSource { input, faults: 0 }
+        FileSource { input }
+    }
+
+    /// Returns the input that the source reads.
+    pub fn into_input(self) -> I
+        ensures left { I.left result ≡ self.left }
+        ensures faults { I.faults result ≡ self.faults }
+    {
+        self.input
     }
 }
 
@@ -37,6 +44,6 @@ impl<I: Input + Drop> Source for FileSource<I> {
     ghost faults = { λ s. s.faults };
 
     fn read(&mut self, buf: &mut [u8]) -> Result<usize, Failed> {
-        counted(self.input.read(buf), &mut self.faults)
+        self.input.read(buf)
     }
 }

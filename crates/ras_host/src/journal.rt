@@ -5,6 +5,7 @@ ghost use Rattle.board_core.specs.Stop.{Same, InFile, file_in};
 ghost use Rattle.board_core.specs.Told.{ReadsBytes, Torn};
 ghost use Rattle.host_system.specs.BoardFile.{SeesSame, SeesWritten, SeesTorn};
 ghost use Rattle.host_system.specs.View.{clock_over, seen_now};
+ghost use Rattle.ras_host.specs.Blame.{AreBlamed, AreUsed, FilesCause};
 ghost use Rattle.ras_host.specs.JournalFiles.{AreHeld, IsOneSound, Moves, files_for};
 
 use crate::reading::{Pair, ReadFile, read_journal};
@@ -14,56 +15,56 @@ use host_system::{
 };
 use std::alloc::Global;
 
-/// What a board is to do with the journal's files.
-#[derive(Clone, Copy, Debug, PartialEq, Eq)]
-pub enum Use {
-    /// Read and write them, as the only program that does. A file that is missing is made.
-    Alone,
-    /// Read them as they stand at the first use, though a run may be at work on them. A file that
-    /// is missing is empty.
-    Reading,
-}
-
-/// The journal's files, both of which are opened at the first use of one. What was written to a file
-/// before a sync that failed may be gone, though a later one goes well: so it isn't asked again.
+/// The journal's files, both of which are opened or read at the first use of either. A file of
+/// which a sync failed isn't used again: what was written to it before may be gone, even if a later
+/// sync succeeds.
 #[derive(Drop)]
 pub enum JournalFiles {
-    /// A run's, which aren't open yet.
+    /// A run's files, which aren't open yet.
     Shut,
-    /// A run's, of which each that is sound is open and locked, its name is on the disk, and all its
-    /// syncs went well. If opening failed, neither is sound.
+    /// A run's files. Each sound file is open and locked, its name is durable, and all its syncs
+    /// succeeded. If opening failed, neither is sound.
     Open(Pair<bool>),
-    /// A report's, which aren't read yet.
+    /// A report's files, which aren't read yet.
     Unread,
-    /// A report's: what was read of both at one moment, and of each whether its name is on the disk
-    /// and all its syncs went well.
+    /// A report's files: what was read of both at one time, and for each whether its name is
+    /// durable and all its syncs succeeded.
     Seen(Pair<ReadFile>, Pair<bool>),
 }
 
 impl JournalFiles {
-    /// Both files, neither of which is opened yet.
-    pub fn new(how: Use) -> JournalFiles
+    /// Returns both files before their first use: a run's files if `how` is 1, otherwise a
+    /// report's.
+    pub fn new(how: u8) -> JournalFiles
         ensures { result ≡ files_for how }
     {
         match how {
-            Use::Alone => JournalFiles::Shut,
-            Use::Reading => JournalFiles::Unread,
+            1 => JournalFiles::Shut,
+            _ => JournalFiles::Unread,
         }
     }
 
-    /// The length in bytes.
+    /// Returns the length of a file in bytes.
+    ///
+    /// # Errors
+    ///
+    /// `Failed`: in a run, only if a call of the system failed, this time or before.
     pub fn size<S: System>(
         &mut self,
         alloc: Global,
         file: FileNo,
         system: &mut S,
     ) -> Result<u64, Failed>
-        requires { IfSome (S.told system.old) (AreHeld self.old) }
+        requires held { IfSome (S.told system.old) (AreHeld self.old) }
+        requires blamed { AreBlamed self.old (S.faults system.old) }
         ensures moves { Moves SeesSame Same self.old self.new (S.told system.old)
             (S.told system.new) }
         ensures held { IfSome (S.told system.new) (AreHeld self.new) }
         ensures length { IfOk result (λ n. IfSome (S.told system.old)
             (λ p. n ≡ length (file_in file (seen_now p)))) }
+        ensures blamed { AreBlamed self.new (S.faults system.new) }
+        ensures cause { FilesCause self.old self.new (S.faults system.old) (S.faults system.new)
+            result }
     {
         self.open(alloc, system)?;
         match self {
@@ -73,8 +74,13 @@ impl JournalFiles {
         }
     }
 
-    /// Reads from `place` on until the buffer is full or the file ends. A report fails past what it
-    /// read of a file that is too long.
+    /// Reads from the offset `place` on until the buffer is full or the file ends, and returns the
+    /// number of bytes read.
+    ///
+    /// # Errors
+    ///
+    /// `Failed`: in a run, only if a call of the system failed, this time or before. A report also
+    /// fails past what it read of a file that is too long.
     pub fn read_at<S: System>(
         &mut self,
         alloc: Global,
@@ -83,13 +89,17 @@ impl JournalFiles {
         buf: &mut [u8],
         system: &mut S,
     ) -> Result<usize, Failed>
-        requires { IfSome (S.told system.old) (AreHeld self.old) }
+        requires held { IfSome (S.told system.old) (AreHeld self.old) }
+        requires blamed { AreBlamed self.old (S.faults system.old) }
         ensures moves { Moves SeesSame Same self.old self.new (S.told system.old)
             (S.told system.new) }
         ensures held { IfSome (S.told system.new) (AreHeld self.new) }
         ensures within { IfOk result (λ n. n ≤ length buf.old) }
         ensures read { IfOk result (λ n. IfSome (S.told system.old)
             (λ p. ReadsBytes place n buf.new (file_in file (seen_now p)))) }
+        ensures blamed { AreBlamed self.new (S.faults system.new) }
+        ensures cause { FilesCause self.old self.new (S.faults system.old) (S.faults system.new)
+            result }
     {
         self.open(alloc, system)?;
         match self {
@@ -99,7 +109,12 @@ impl JournalFiles {
         }
     }
 
-    /// Writes bytes at a place that is at most the file's length. A report writes none and fails.
+    /// Writes bytes at the offset `place`, which may not be past the file's end.
+    ///
+    /// # Errors
+    ///
+    /// `Failed`: in a run, only if a call of the system failed, this time or before. A report
+    /// always fails, and writes nothing.
     pub fn write_at<S: System>(
         &mut self,
         alloc: Global,
@@ -109,6 +124,7 @@ impl JournalFiles {
         system: &mut S,
     ) -> Result<(), Failed>
         requires held { IfSome (S.told system.old) (AreHeld self.old) }
+        requires blamed { AreBlamed self.old (S.faults system.old) }
         requires within { IfSome (S.told system.old)
             (λ p. place ≤ length (file_in file (seen_now p))) }
         ensures wrote { OnOk result (Moves (SeesWritten file place bytes.now)
@@ -118,6 +134,9 @@ impl JournalFiles {
             (InFile file (Torn place (length bytes.now))) self.old self.new
             (S.told system.old) (S.told system.new)) }
         ensures held { IfSome (S.told system.new) (AreHeld self.new) }
+        ensures blamed { AreBlamed self.new (S.faults system.new) }
+        ensures cause { FilesCause self.old self.new (S.faults system.old) (S.faults system.new)
+            result }
     {
         self.open(alloc, system)?;
         match self {
@@ -126,20 +145,29 @@ impl JournalFiles {
         }
     }
 
-    /// Makes the file durable. If that fails, the file isn't used again.
+    /// Makes a file durable.
+    ///
+    /// # Errors
+    ///
+    /// `Failed`: in a run, only if a call of the system failed, this time or before. The file isn't
+    /// used again afterwards.
     pub fn sync<S: System>(
         &mut self,
         alloc: Global,
         file: FileNo,
         system: &mut S,
     ) -> Result<(), Failed>
-        requires { IfSome (S.told system.old) (AreHeld self.old) }
+        requires held { IfSome (S.told system.old) (AreHeld self.old) }
+        requires blamed { AreBlamed self.old (S.faults system.old) }
         ensures moves { Moves SeesSame Same self.old self.new (S.told system.old)
             (S.told system.new) }
         ensures held { IfSome (S.told system.new) (AreHeld self.new) }
         ensures synced { OnOk result (IfSome (S.told system.old)
             (λ p. IsSynced file (file_in file (seen_now p)) (clock_over (S.told system.new)))) }
         ensures sound { OnOk result (IsOneSound self.new) }
+        ensures blamed { AreBlamed self.new (S.faults system.new) }
+        ensures cause { FilesCause self.old self.new (S.faults system.old) (S.faults system.new)
+            result }
     {
         self.open(alloc, system)?;
         match self {
@@ -157,12 +185,17 @@ impl JournalFiles {
         }
     }
 
-    // Opens or reads both files if that isn't done.
+    // Opens or reads both files, unless that was done.
     fn open<S: System>(&mut self, alloc: Global, system: &mut S) -> Result<(), Failed>
-        requires { IfSome (S.told system.old) (AreHeld self.old) }
+        requires held { IfSome (S.told system.old) (AreHeld self.old) }
+        requires blamed { AreBlamed self.old (S.faults system.old) }
         ensures moves { Moves SeesSame Same self.old self.new (S.told system.old)
             (S.told system.new) }
         ensures held { IfSome (S.told system.new) (AreHeld self.new) }
+        ensures used { OnOk result (AreUsed self.new) }
+        ensures blamed { AreBlamed self.new (S.faults system.new) }
+        ensures cause { FilesCause self.old self.new (S.faults system.old) (S.faults system.new)
+            result }
     {
         match self {
             JournalFiles::Shut => {
@@ -173,16 +206,17 @@ impl JournalFiles {
             }
             JournalFiles::Unread => {
                 let files = read_journal(alloc, system)?;
-                let is_sound = sync_names(system).is_ok();
+                let answer = sync_names(system);
+                let is_sound = answer.is_ok();
                 *self = JournalFiles::Seen(files, both(is_sound));
-                Ok(())
+                answer
             }
             JournalFiles::Open(_) | JournalFiles::Seen(..) => Ok(()),
         }
     }
 }
 
-// The same of both files.
+// Returns the same answer for both files.
 fn both(is_sound: bool) -> Pair<bool>
     ensures { result ≡ record { zero = is_sound; one = is_sound } }
 {

@@ -1,4 +1,4 @@
-//! The device that a board keeps, over the record store of the working folder.
+//! The device of a board, over the record store of the working folder.
 ghost use Rattle.std.specs.Prelude.{◌≡◌, ◌+◌, ◌≤◌, [], length, take, drop, IsOk, IsTrue, OnOk, OnErr, IfOk, IfSome};
 ghost use Rattle.board_core.specs.Cause.{put_failure};
 ghost use Rattle.board_core.specs.Told.{AnswersPut, after_put, after_range_write, after_reg_write, register_in};
@@ -7,6 +7,7 @@ ghost use Rattle.erst_store.specs.Device.{Device, act, with_put};
 ghost use Rattle.erst_store.specs.DeviceLaws.{IsDevice, MayChange};
 ghost use Rattle.erst_store.specs.Store.{AnswersRefusal, refusal_of};
 ghost use Rattle.host_system.specs.View.{HasWholeStore, seen_now};
+ghost use Rattle.ras_host.specs.Steps.Once.{CountsOnce};
 ghost use Rattle.ras_host.specs.Steps.KeptDevice.{Acts, Does, IfRefused, IsHere, IsInStep, IsSaved, IsThere, IsUsed, Keeps, KeepsOrLoses, Looks, Puts, Stays, Turned, after_answer, device_in};
 ghost use Rattle.ras_host.specs.Steps.Written.{Writes};
 
@@ -17,24 +18,24 @@ use host_system::System;
 use std::alloc::Global;
 use std::mem::replace;
 
-/// The device that a board keeps.
+/// The device of a board.
 #[derive(Drop)]
 pub enum Kept {
-    /// It wasn't used yet.
+    /// The device wasn't used yet.
     Unread,
-    /// It is there.
+    /// The device, whose store is in its file.
     Here(Saved),
-    /// A call changed it, and its store may not have come into the file, which has the store from
-    /// before the call or from after it. So it isn't used again. The device from before is over an
-    /// empty store.
+    /// A call changed the device, and the change may not have reached the store's file, which has
+    /// the store from before the call or from after it. So the device isn't used again. `before`
+    /// has an empty store.
     Lost { before: Dev, after: Dev },
     /// The store's file couldn't be read.
     Unreadable,
 }
 
 impl Kept {
-    // Takes the device out, which is read at its first use. The call puts it back, or says that it
-    // is lost.
+    // Takes the device out, reading it at its first use. The caller puts it back, or marks it as
+    // lost.
     fn take<S: System>(&mut self, alloc: Global, system: &mut S) -> Result<Saved, Failed>
         requires { IfSome (S.told system.old) (IsInStep self.old) }
         ensures taken { IfOk result (λ saved. IfSome (S.told system.old)
@@ -44,6 +45,7 @@ impl Kept {
         ensures told { S.told system.new ≡ S.told system.old }
         ensures lost { OnErr result (IfSome (S.told system.old) (Keeps self.old self.new)) }
         ensures in_step { OnErr result (IfSome (S.told system.new) (IsInStep self.new)) }
+        ensures once { CountsOnce (S.faults system.old) (S.faults system.new) result }
     {
         match replace(self, Kept::Unreadable) {
             Kept::Here(saved) => Ok(saved),
@@ -55,9 +57,10 @@ impl Kept {
         }
     }
 
-    /// Whether each change of the device came into the store's file.
+    /// Returns whether every change of the device reached the store's file.
     pub fn is_saved(&self) -> bool
-        ensures { IsTrue result → IsSaved self.now }
+        ensures saved { IsTrue result → IsSaved self.now }
+        ensures lost { IsSaved self.now → IsTrue result }
     {
         !matches!(self, Kept::Lost { .. })
     }
@@ -83,6 +86,7 @@ impl Kept {
             (λ p. n ≡ register_in reg (device_in self.old p))) }
         ensures reads { IfOk result (λ n. (d : Device) → IsHere self.new d → n ≡ register_in reg d) }
         ensures looks { Looks self.old self.new result (S.told system.old) (S.told system.new) }
+        ensures once { CountsOnce (S.faults system.old) (S.faults system.new) result }
     {
         let saved = self.take(alloc, system)?;
         let number = register_of(reg, &saved.device);
@@ -90,8 +94,8 @@ impl Kept {
         Ok(number)
     }
 
-    /// Writes a number to a register. What an action changes in the store is brought into the
-    /// store's file.
+    /// Writes a number to a register. If that starts an action that changes the store, the store is
+    /// written to its file.
     pub fn reg_write<S: System>(
         &mut self,
         alloc: Global,
@@ -103,6 +107,7 @@ impl Kept {
         ensures turned { Turned (after_reg_write reg value) self.old self.new result
             (S.told system.old) (S.told system.new) }
         ensures does { OnOk result (Does (after_reg_write reg value) self.old self.new) }
+        ensures once { CountsOnce (S.faults system.old) (S.faults system.new) result }
     {
         let saved = self.take(alloc, system)?;
         match reg {
@@ -134,7 +139,7 @@ impl Kept {
         answer.or(Err(Failed))
     }
 
-    // Does an action that may change the store, and brings the store into its file.
+    // Does an action that may change the store, and writes the store to its file.
     fn act<S: System>(
         &mut self,
         alloc: Global,
@@ -146,6 +151,7 @@ impl Kept {
         ensures turned { Turned (act action) (Kept.Here saved) self.new result
             (S.told system.old) (S.told system.new) }
         ensures here { OnOk result (IsHere self.new (act action saved.device)) }
+        ensures once { CountsOnce (S.faults system.old) (S.faults system.new) result }
     {
         file_laws();
         let Ok(before) = saved.device.without_store(alloc) else {
@@ -171,8 +177,8 @@ impl Kept {
         self.save(before, made, &file, system)
     }
 
-    // Keeps a device once the bytes of its store are in the file, which has other ones. If that
-    // fails it is lost, with the one before.
+    // Stores a device once the bytes of its store are in the file, which has other bytes until
+    // then. If that fails, the device is lost, together with the device from before.
     fn save<S: System>(
         &mut self,
         before: Dev,
@@ -184,6 +190,7 @@ impl Kept {
         ensures writes { Writes had.now saved.file.items result (S.told system.old)
             (S.told system.new) }
         ensures kept { KeepsOrLoses result before saved self.new }
+        ensures once { CountsOnce (S.faults system.old) (S.faults system.new) result }
     {
         if write_store(had, &saved.file, system).is_err() {
             *self = Kept::Lost {
@@ -196,7 +203,8 @@ impl Kept {
         Ok(())
     }
 
-    /// Copies the bytes of the range from a place on into a buffer.
+    /// Reads the bytes of the range from the offset `place` on into a buffer. Requires that the
+    /// range has so many bytes there.
     pub fn range_read<S: System>(
         &mut self,
         alloc: Global,
@@ -211,6 +219,7 @@ impl Kept {
         ensures copies { OnOk result ((d : Device) → IsHere self.new d
             → buf.new ≡ take (length buf.old) (drop place d.range)) }
         ensures looks { Looks self.old self.new result (S.told system.old) (S.told system.new) }
+        ensures once { CountsOnce (S.faults system.old) (S.faults system.new) result }
     {
         let saved = self.take(alloc, system)?;
         saved.device.range_read(place, buf);
@@ -218,7 +227,8 @@ impl Kept {
         Ok(())
     }
 
-    /// Writes bytes into the range from a place on.
+    /// Writes bytes into the range from the offset `place` on. Requires that the range has so many
+    /// bytes there.
     pub fn range_write<S: System>(
         &mut self,
         alloc: Global,
@@ -233,6 +243,7 @@ impl Kept {
         ensures does { OnOk result (Does (after_range_write place bytes.now) self.old self.new) }
         ensures answers { IsThere self.old → IsOk result }
         ensures told { S.told system.new ≡ S.told system.old }
+        ensures once { CountsOnce (S.faults system.old) (S.faults system.new) result }
     {
         let mut saved = self.take(alloc, system)?;
         saved.device.range_write(place, bytes);
@@ -240,8 +251,8 @@ impl Kept {
         Ok(())
     }
 
-    /// Puts a record, and brings the store into its file. All memory of that is taken before the
-    /// device is changed.
+    /// Puts a record into the store, and writes the store to its file. Allocates everything before
+    /// it changes the device.
     pub fn put<S: System>(
         &mut self,
         alloc: Global,
@@ -258,6 +269,7 @@ impl Kept {
             (λ p. AnswersPut result (refusal_of id bytes.now (seen_now p).store)) }
         ensures refused { IfRefused result (Stays self.old self.new (S.told system.old)
             (S.told system.new)) }
+        ensures once { CountsOnce (S.faults system.old) (S.faults system.new) (put_failure result) }
     {
         match self.take(alloc, system) {
             Ok(saved) => self.put_into(alloc, saved, id, bytes, system),
@@ -265,7 +277,7 @@ impl Kept {
         }
     }
 
-    // Puts a record into the device that was taken out, and brings the store into its file.
+    // Puts a record into the device that was taken out, and writes the store to its file.
     fn put_into<S: System>(
         &mut self,
         alloc: Global,
@@ -282,6 +294,7 @@ impl Kept {
             (IsHere self.new (after_answer id bytes.now result saved.device)) }
         ensures refused { IfRefused result (Stays (Kept.Here saved) self.new (S.told system.old)
             (S.told system.new)) }
+        ensures once { CountsOnce (S.faults system.old) (S.faults system.new) (put_failure result) }
     {
         file_laws();
         let Saved { mut device, file } = saved;
@@ -305,7 +318,7 @@ impl Kept {
     }
 }
 
-// What a register of a device holds.
+// Returns the number in a register of a device.
 fn register_of(reg: Reg, device: &Dev) -> u64
     ensures { result ≡ register_in reg device.now }
 {
@@ -315,7 +328,7 @@ fn register_of(reg: Reg, device: &Dev) -> u64
     }
 }
 
-// Puts a record into a device. Answers the device before that over an empty store, and an empty
+// Puts a record into a device. Returns the device from before over an empty store, and an empty
 // vector with room for the bytes of the store's file.
 fn put_alone(
     alloc: Global,

@@ -1,10 +1,11 @@
-//! The working folder and standard output as a board, and standard input as a source, over a system
-//! and an input.
+//! A board over the working folder and standard output, and a source over standard input, for any
+//! system and input.
 //!
-//! `journal` opens, reads, writes and syncs the journal's files, `kept` keeps the device and brings
-//! its record store into its file, and `file_board` counts what failed: all three are proved over
-//! every system that tells. `real_system` and `real_input` make the calls of the operating system
-//! that no clause speaks of, and `names` looks at what stands under a name before one is made.
+//! `journal` opens, reads, writes and syncs the journal's files, `kept` has the device and writes
+//! its record store to the store's file, and `file_board` counts the calls that failed: all three
+//! are proved over every modelled system. `real_system` and `real_input` make the calls of the
+//! operating system, whose effects no clause covers, and `names` checks the file that a name refers
+//! to before a call is made.
 #![tactic(auto)]
 
 mod faults;
@@ -18,9 +19,10 @@ mod reading;
 mod real_input;
 mod real_system;
 mod saved;
+mod uses;
 
 pub use file_board::FileBoard;
 pub use file_source::FileSource;
-pub use journal::Use;
 pub use real_input::RealInput;
 pub use real_system::RealSystem;
+pub use uses::{Alone, Reading, Use};

@@ -1,4 +1,4 @@
-//! The calls that a board lists, which only clauses read.
+//! The list of a board's calls, which only contracts can read.
 ghost use Rattle.std.specs.Prelude.{◌≡◌, ◌∷◌, ◌++◌, []};
 ghost use Rattle.ras_host.specs.Steps.Listed.{access_noted, accesses_noted, disk_call_noted, disk_calls_noted, file_numbered, register_numbered};
 
@@ -23,7 +23,7 @@ fn number_of_register(reg: Reg) -> u64
     }
 }
 
-// A disk call by numbers.
+// Returns a disk call as numbers.
 fn disk_call_in_numbers(call: DiskCall) -> [u64; 4]
     ensures { disk_call_noted result ≡ call }
 {
@@ -35,7 +35,7 @@ fn disk_call_in_numbers(call: DiskCall) -> [u64; 4]
     }
 }
 
-// An access to the device by numbers.
+// Returns an access to the device as numbers.
 fn access_in_numbers(access: Access) -> [u64; 3]
     ensures { access_noted result ≡ access }
 {
@@ -47,7 +47,7 @@ fn access_in_numbers(access: Access) -> [u64; 3]
     }
 }
 
-/// Lists a disk call after those that were made before.
+/// Appends a disk call to the list of calls.
 pub fn list_disk_call(call: DiskCall, calls: &mut Notes)
     ensures { disk_calls_noted calls.new.calls
         ≡ disk_calls_noted calls.old.calls ++ call ∷ [] }
@@ -55,7 +55,7 @@ pub fn list_disk_call(call: DiskCall, calls: &mut Notes)
     calls.note(&disk_call_in_numbers(call), &[]);
 }
 
-/// Lists an access to the device after those that were made before.
+/// Appends an access to the device to the list of accesses.
 pub fn list_access(access: Access, accesses: &mut Notes)
     ensures { accesses_noted accesses.new.calls
         ≡ accesses_noted accesses.old.calls ++ access ∷ [] }

@@ -1,4 +1,4 @@
-//! What stands under the names in the working folder, as no clause says it.
+//! Checks of the files that the names of the working folder refer to. No clause covers them.
 ghost use Rattle.std.specs.Prelude.{◌<◌};
 
 use board_core::FileNo;
@@ -8,7 +8,7 @@ use std::io;
 use std::io::ErrorKind;
 use std::os::unix::fs::MetadataExt;
 
-// The standard output, if there is one.
+// The process's standard output, if it has one.
 const OUTPUT: &str = "/proc/self/fd/1";
 
 const NAMES: [&str; 4] = ["rasd.0", "rasd.1", "rasd.store", "rasd.new"];
@@ -28,14 +28,14 @@ pub(crate) fn path(name: FileName) -> &'static str {
     NAMES[number(name)]
 }
 
-/// Whether something has this name.
+/// Returns whether a file, or anything else, has this name.
 pub(crate) fn is_there(rt: &HostRuntime, name: &str) -> io::Result<bool> {
     Ok(if_there(symlink_metadata(rt, name))?.is_some())
 }
 
-/// What the system tells of a file, or none if it is missing. Only a journal file may be behind a
-/// link. What is no regular file is an error, but for `rasd.new`: a call on it might wait without
-/// end.
+/// Returns the metadata of a file, or `None` if it is missing. Only a journal file may be behind a
+/// symlink. Anything but a regular file is an error, because a call on it might wait forever;
+/// `rasd.new` is the exception.
 pub(crate) fn look(rt: &HostRuntime, name: FileName) -> io::Result<Option<Metadata>> {
     let found = match (name, if_there(symlink_metadata(rt, path(name)))?) {
         (FileName::Journal(_), Some(link)) if link.is_symlink() => follow(rt, name, &link)?,
@@ -47,8 +47,8 @@ pub(crate) fn look(rt: &HostRuntime, name: FileName) -> io::Result<Option<Metada
     }
 }
 
-// What a link leads to. A link of another user than root and the one whose process this is is an
-// error, since what it leads to may be a file that isn't rasd's.
+// Returns the metadata of the file that a symlink leads to. A symlink that neither root nor this
+// process's user owns is an error, because the file behind it may not be rasd's.
 fn follow(rt: &HostRuntime, name: FileName, link: &Metadata) -> io::Result<Option<Metadata>> {
     if link.uid() != 0 && link.uid() != metadata(rt, "/proc/self")?.uid() {
         return Err(refused());
@@ -56,24 +56,24 @@ fn follow(rt: &HostRuntime, name: FileName, link: &Metadata) -> io::Result<Optio
     if_there(metadata(rt, path(name)))
 }
 
-/// Opens a file to read it, unless it is missing. A link that leads nowhere is an error: the disk
-/// that it leads to may not be there.
+/// Opens a file to read it, unless it is missing. A symlink that leads nowhere is an error, because
+/// the disk behind it may not be mounted.
 pub(crate) fn open_to_read(rt: &HostRuntime, name: FileName) -> io::Result<Option<File>> {
     let found = look(rt, name)?;
     if found.is_none() && if_there(symlink_metadata(rt, path(name)))?.is_none() {
         return Ok(None);
     }
     let file = File::open(rt, path(name))?;
-    // A link may have come into the store's place since.
+    // A symlink may have replaced the store's file since.
     if name == FileName::Store && !is_same(&found, &Some(file.metadata()?)) {
         return Err(refused());
     }
     Ok(Some(file))
 }
 
-/// Fails if the name of an open journal file no longer stands for it, as when that was removed or
-/// another one was moved there, or if two names stand for one file, of which the standard output is
-/// one: what is written would be lost.
+/// Fails if an open journal file's name no longer refers to it, for example because the file was
+/// removed or another file was moved there. Fails too if two names refer to one file, or one of
+/// them to the standard output. Otherwise what is written would be lost.
 pub(crate) fn check_names(rt: &HostRuntime, open: &[Option<File>; 4]) -> io::Result<()> {
     let found = [
         check_name(rt, FileName::Journal(FileNo::Zero), &open[0])?,
@@ -90,8 +90,8 @@ pub(crate) fn check_names(rt: &HostRuntime, open: &[Option<File>; 4]) -> io::Res
     Ok(())
 }
 
-// What the system tells of a journal file, which has to be the one that is open, or none if it is
-// missing.
+// Returns the metadata of a journal file, or `None` if it is missing. The file has to be the open
+// one.
 fn check_name(
     rt: &HostRuntime,
     name: FileName,
@@ -107,8 +107,8 @@ fn check_name(
     Ok(found)
 }
 
-/// Opens the folder that a file's link leads into, if the name is a link's, and that is neither the
-/// working folder nor an open one.
+/// Opens the folder that a file's symlink leads into, if the name is a symlink's and that folder is
+/// neither the working folder nor open already.
 pub(crate) fn open_linked(
     rt: &HostRuntime,
     name: FileName,
@@ -130,7 +130,7 @@ pub(crate) fn open_linked(
     Ok(())
 }
 
-// What the system tells of a file, or none if it is missing.
+// Returns the metadata of a file, or `None` if it is missing.
 fn if_there(told: io::Result<Metadata>) -> io::Result<Option<Metadata>> {
     match told {
         Err(error) if error.kind() == ErrorKind::NotFound => Ok(None),
@@ -138,7 +138,7 @@ fn if_there(told: io::Result<Metadata>) -> io::Result<Option<Metadata>> {
     }
 }
 
-// Whether both are there, and are one file.
+// Returns whether both exist and are the same file.
 fn is_same(one: &Option<Metadata>, other: &Option<Metadata>) -> bool {
     match (one, other) {
         (Some(one), Some(other)) => one.dev() == other.dev() && one.ino() == other.ino(),

@@ -1,27 +1,28 @@
-//! The journal's files as a report reads them, at one moment and beside a run.
+//! The journal's files as a report reads them: both at one time, possibly while a run writes them.
 ghost use Rattle.std.specs.Prelude.{◌≡◌, ◌≤◌, ℕ, List, length, take, IfSome, IfOk};
 ghost use Rattle.board_core.specs.Stop.{file_in};
 ghost use Rattle.board_core.specs.Told.{ReadsBytes};
 ghost use Rattle.host_system.specs.BoardFile.{AreOpenable, IsOpenable};
 ghost use Rattle.host_system.specs.View.{seen_now};
+ghost use Rattle.ras_host.specs.Steps.Once.{CountsOnce};
 ghost use Rattle.ras_host.specs.JournalFiles.{AreRead, IsRead, most_read, part_of, with_part};
 
 use board_core::{Failed, FileNo};
 use host_system::{FileName, System};
 use std::alloc::Global;
 
-// One byte more than the longest journal file has: a longer one isn't read whole, and the daemon
-// says that it is too long.
+// One byte more than the longest journal file has. A longer file isn't read whole, and the daemon
+// reports it as too long.
 const MOST_READ: u64 = 67_108_865;
 
-// A journal file's gate, magic, generation and the length of its checkpoint: what no run changes
-// while the file stands.
+// The length of a journal file's gate, magic, generation and number of checkpoint bytes, which no
+// run changes as long as the file is valid.
 const FRONT: u64 = 25;
 
-// How often files are read again of which a run changed the front meanwhile.
+// How often files are read again because a run changed the front of one meanwhile.
 const MOST_READINGS: u32 = 1000;
 
-/// Something of each of the journal's files.
+/// A value for each of the journal's files.
 #[derive(Drop)]
 pub struct Pair<T: Drop> {
     pub zero: T,
@@ -29,7 +30,7 @@ pub struct Pair<T: Drop> {
 }
 
 impl<T: Drop> Pair<T> {
-    /// What there is of a file.
+    /// Returns the value for a file.
     pub(crate) fn of(&self, file: FileNo) -> &T
         ensures { result.now ≡ part_of file self.now }
     {
@@ -39,7 +40,7 @@ impl<T: Drop> Pair<T> {
         }
     }
 
-    /// Sets what there is of a file.
+    /// Sets the value for a file.
     pub(crate) fn set(&mut self, file: FileNo, value: T)
         ensures { self.new ≡ with_part file value self.old }
     {
@@ -54,13 +55,13 @@ impl<T: Drop> Pair<T> {
 #[derive(Drop)]
 pub struct ReadFile {
     pub length: u64,
-    /// All its bytes, but of a file that is too long only the first ones.
+    /// All bytes of the file; of a file that is too long only the first ones.
     pub bytes: Vec<u8>,
 }
 
 impl ReadFile {
-    /// Copies bytes from a place on into a buffer until that is full or the file ends, and answers
-    /// how many. Fails if not all of them were read.
+    /// Copies bytes from the offset `place` on into a buffer, until it is full or the file ends,
+    /// and returns their number. Fails if not all of these bytes were read.
     pub(crate) fn read_at(&self, place: u64, buf: &mut [u8]) -> Result<usize, Failed>
         ensures within { IfOk result (λ n. n ≤ length buf.old) }
         ensures read { IfOk result (λ n. (file : List ℕ) → IsRead self.now file
@@ -79,13 +80,13 @@ impl ReadFile {
     }
 }
 
-/// What is read of both journal files at one moment, though a run may be at work on them; of one
-/// that is missing, as of an empty one.
+/// Returns what both journal files contain at one time, even if a run writes them meanwhile. A
+/// missing file counts as empty.
 ///
-/// A run writes after a file's closed gate, and opens that gate only once all after it is
-/// written. So a file that is read from its first byte to its last holds whole links up to a closed
-/// gate, unless the run switched to it meanwhile. That closes the gate at its front first, and
-/// gives it another generation: then both files are read again.
+/// A run writes after a file's closed gate, and opens that gate only once everything after it is
+/// written. So a file that is read from its first byte to its last contains whole links up to a
+/// closed gate, unless the run switched to this file meanwhile. A switch first closes the gate at
+/// the file's front, and gives the file another generation: then both files are read again.
 pub(crate) fn read_journal<S: System>(
     alloc: Global,
     system: &mut S,
@@ -93,6 +94,7 @@ pub(crate) fn read_journal<S: System>(
     requires { IfSome (S.told system.old) AreOpenable }
     ensures read { IfOk result (λ files. IfSome (S.told system.old) (AreRead files)) }
     ensures told { S.told system.new ≡ S.told system.old }
+    ensures once { CountsOnce (S.faults system.old) (S.faults system.new) result }
 {
     for _ in 0..MOST_READINGS {
         let zero = read_first(alloc, FileNo::Zero, MOST_READ, system)?;
@@ -108,7 +110,7 @@ pub(crate) fn read_journal<S: System>(
     Err(Failed)
 }
 
-// The first bytes of a file, from the first on; none if it is missing.
+// Returns the first bytes of a file, which are none if it is missing.
 fn read_first<S: System>(
     alloc: Global,
     file: FileNo,
@@ -119,18 +121,21 @@ fn read_first<S: System>(
     ensures read { IfOk result (λ bytes. IfSome (S.told system.old)
         (λ p. bytes.items ≡ take most (file_in file (seen_now p)))) }
     ensures told { S.told system.new ≡ S.told system.old }
+    ensures once { CountsOnce (S.faults system.old) (S.faults system.new) result }
 {
     let found = system.read(FileName::Journal(file), most)?;
     Ok(found.unwrap_or(Vec::new(alloc)))
 }
 
-// The first bytes of a file with its length, which is asked for only if there may be more.
+// Returns the first bytes of a file with its length. The length is asked for only if the file may
+// have more bytes.
 fn with_length<S: System>(file: FileNo, bytes: Vec<u8>, system: &mut S) -> Result<ReadFile, Failed>
     requires { IfSome (S.told system.old)
         (λ p. bytes.items ≡ take most_read (file_in file (seen_now p))) }
     ensures read { IfOk result (λ read. IfSome (S.told system.old)
         (λ p. IsRead read (file_in file (seen_now p)))) }
     ensures told { S.told system.new ≡ S.told system.old }
+    ensures once { CountsOnce (S.faults system.old) (S.faults system.new) result }
 {
     let length = bytes.len() as u64;
     if length < MOST_READ {

@@ -5,6 +5,7 @@ ghost use Rattle.erst_store.specs.Device.{new_device};
 ghost use Rattle.erst_store.specs.StoreFile.{store_bytes};
 ghost use Rattle.host_system.specs.FolderPast.{bytes_named};
 ghost use Rattle.host_system.specs.View.{HasWholeStore, seen_now, store_in};
+ghost use Rattle.ras_host.specs.Steps.Once.{CountsOnce};
 ghost use Rattle.ras_host.specs.Steps.Written.{Writes};
 
 use board_core::Failed;
@@ -12,14 +13,15 @@ use erst_store::{Dev, MOST_BYTES, MOST_RECORDS, Store};
 use host_system::{FileName, System, replace_store};
 use std::alloc::Global;
 
-/// A record's identifier and its length stand before its bytes in the store's file.
+/// The number of bytes before a record's bytes in the store's file: its identifier and its length.
 pub const RECORD_HEADING: usize = 12;
 
-// The most bytes of the record store's file: letters and the number of records, and the records.
+// The greatest length of the record store's file: its letters, the number of records, and the
+// records.
 const LONGEST_STORE: u64 = 12 + MOST_RECORDS as u64 * (RECORD_HEADING + MOST_BYTES) as u64;
 
-/// A device whose record store is in its file: the bytes are what the file has, or would have if it
-/// weren't missing.
+/// A device whose record store is in its file. `file` has the bytes of the file, or those that it
+/// would have if it weren't missing.
 #[derive(Drop)]
 pub struct Saved {
     pub device: Dev,
@@ -28,13 +30,18 @@ pub struct Saved {
 }
 
 impl Saved {
-    /// A new device over the record store of the working folder.
+    /// Returns a new device over the record store of the working folder.
+    ///
+    /// # Errors
+    ///
+    /// `Failed`: the store's file can't be read or isn't a store, or memory ran out.
     pub fn read<S: System>(alloc: Global, system: &mut S) -> Result<Saved, Failed>
         requires { IfSome (S.told system.old) HasWholeStore }
         ensures new { IfOk result (λ saved. IfSome (S.told system.old)
             (λ p. saved.device ≡ new_device (seen_now p).store 0)) }
         ensures fresh { IfOk result (λ saved. saved.device ≡ new_device saved.device.store 0) }
         ensures told { S.told system.new ≡ S.told system.old }
+        ensures once { CountsOnce (S.faults system.old) (S.faults system.new) result }
     {
         let found = read_store(system)?;
         let store = store_from(alloc, found)?;
@@ -48,13 +55,14 @@ impl Saved {
     }
 }
 
-// The bytes of the record store's file, or none if it is missing. A file that is longer than every
-// store's is an error, before memory is taken for it.
+// Returns the bytes of the record store's file, or `None` if it is missing. A file that is longer
+// than any store's is an error, before memory is allocated for it.
 fn read_store<S: System>(system: &mut S) -> Result<Option<Vec<u8>>, Failed>
     requires { IfSome (S.told system.old) HasWholeStore }
     ensures read { IfOk result (λ found. IfSome (S.told system.old)
         (λ p. option_map (λ v. v.items) found ≡ bytes_named FileName.Store p)) }
     ensures told { S.told system.new ≡ S.told system.old }
+    ensures once { CountsOnce (S.faults system.old) (S.faults system.new) result }
 {
     match system.find(FileName::Store)? {
         Some(length) if length > LONGEST_STORE => Err(Failed),
@@ -63,7 +71,7 @@ fn read_store<S: System>(system: &mut S) -> Result<Option<Vec<u8>>, Failed>
     }
 }
 
-// The store whose file has these bytes, which is empty if there is none.
+// Returns the store in these bytes, which is empty if there are none.
 fn store_from(alloc: Global, found: Option<Vec<u8>>) -> Result<Store, Failed>
     ensures { IfOk result (λ store. store ≡ store_in (option_map (λ v. v.items) found)) }
 {
@@ -73,10 +81,15 @@ fn store_from(alloc: Global, found: Option<Vec<u8>>) -> Result<Store, Failed>
     }
 }
 
-/// Puts a file of these bytes in the place of the record store's, unless they are those that it has.
+/// Replaces the record store's file by a file of these bytes, unless it has them already.
+///
+/// # Errors
+///
+/// `Failed`: only if a call of the system failed, which is counted.
 pub fn write_store<S: System>(had: &[u8], bytes: &[u8], system: &mut S) -> Result<(), Failed>
     requires { IfSome (S.told system.old) HasWholeStore }
-    ensures { Writes had.now bytes.now result (S.told system.old) (S.told system.new) }
+    ensures writes { Writes had.now bytes.now result (S.told system.old) (S.told system.new) }
+    ensures once { CountsOnce (S.faults system.old) (S.faults system.new) result }
 {
     if bytes == had {
         return Ok(());

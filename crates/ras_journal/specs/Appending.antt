@@ -1,4 +1,4 @@
--- What an append of a link does, and what stops leave of it at every moment.
+-- What an append of a link does, and what a crash at any point leaves of it.
 use Rattle.std.specs.Prelude.{◌≡◌, ℕ, ◌+◌, ◌-◌, ◌^◌, ◌<◌, ◌≤◌, ◌⊎◌, min, Bool, true, false, nat_lt, nat_le, ◌||◌, List, [], ◌∷◌, ◌++◌, length, Result, Ok, Err, Option}
 use Rattle.board_core.specs.Clock.{Clock, Rests}
 use Rattle.board_core.specs.Stop.{Left, file_in, with_file_in}
@@ -23,7 +23,7 @@ use Rattle.ras_journal.specs.View.{JournalView}
 abbrev pub length_with : Standing → List ℕ → ℕ
 length_with standing link = standing.length + 1 + length link + 1
 
--- a standing with a link of these bytes more (links are counted up to 2^64 - 1)
+-- a position with one more link of these bytes (links are counted up to 2^64 - 1)
 abbrev pub standing_with : Standing → List ℕ → Standing
 standing_with standing link = record standing {
   length = standing.length + 1 + length link;
@@ -37,36 +37,37 @@ append_acts standing link =
     through standing.file (standing.length + 1) (link ++ CLOSED_GATE ∷ [])
     ∷ through standing.file standing.length (OPEN_GATE ∷ []) ∷ []
 
--- what is told once it is done
+-- the model after an append
 abbrev pub after_append : Standing → List ℕ → Told → Told
 after_append standing link t = after_acts (append_acts standing link) t
 
--- Full comes before any call, and Disk if a disk call failed.
+-- Full is returned before any call, and Disk if a disk call failed.
 abbrev pub append_refused_end : AppendRefused → Ended
 append_refused_end Full = gave_up
 append_refused_end Disk = broke disk_call
 
+-- how an append ends
 abbrev pub append_end : Result (Unit {0}) AppendRefused → Ended
 append_end result = ended_by append_refused_end result
 
--- What becomes of a journal that is appended to, this being its next standing: if a disk call
--- failed it has failed.
+-- What becomes of a journal that is appended to, if this is its next position: if a disk call failed, it has failed.
 abbrev pub MovesOn : Result (Unit {0}) AppendRefused → Standing → JournalView → JournalView → Type 0
 MovesOn (Ok done) next old new = new ≡ record { standing = next; failed = false }
 MovesOn (Err Full) next old new = new ≡ old
 MovesOn (Err Disk) next old new = new ≡ record old { failed = true }
 
--- Full comes exactly if the file would be too long.
+-- Full is returned if and only if the file would be too long.
 abbrev pub IsFullBy : Result (Unit {0}) AppendRefused → ℕ → Type 0
 IsFullBy (Err Full) count = LONGEST_FILE < count
 IsFullBy result count = count ≤ LONGEST_FILE
 
--- whether the journal has to be switched before an append: its chain has 256 or more links, or its
--- file would be too long, or is of version 1
+-- whether a file is of version 1
 abbrev pub is_first_version : Version → Bool
 is_first_version One = true
 is_first_version Two = false
 
+-- whether the journal has to be switched before this link is appended: its chain has 256 or more links, its file would
+-- be too long, or the file is of version 1
 abbrev pub needs_switch : Standing → List ℕ → Bool
 needs_switch standing link =
     nat_le MOST_LINKS standing.links || nat_lt LONGEST_FILE (length_with standing link)
@@ -83,13 +84,13 @@ pub record Links (account : State) (entries : List Entry) (link : List ℕ) : Ty
   pub bytes : link ≡ link_bytes entries
   pub within : StaysWithin account entries
 
--- Before the append the files are told and synced, and hold this account at this standing.
+-- Before the append the files are modelled and durable, and contain this account at this position.
 pub record Before (standing : Standing) (account : State) (t : Told) (told : Option Told) (clock : Clock) : Type 0 where
   pub rests : Rests t told clock
   pub at : IsAt standing account t.here
 
--- While a link is appended, whatever a stop leaves recovers the account without the link or with
--- it. All but the journal's file is as it was.
+-- From whatever a crash during the append leaves, the account is recovered without the link or with it. All but the
+-- journal's file is unchanged.
 pub record Appending (standing : Standing) (account : State) (entries : List Entry) (here left : Left) : Type 0 where
   pub recovers : Recovers account left ⊎ Recovers (account_after_all account entries) left
   pub rest : left ≡ with_file_in standing.file (file_in standing.file left) here

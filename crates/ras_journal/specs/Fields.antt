@@ -1,5 +1,4 @@
--- The fields of a journal file: what is made of the bytes of each. Each number stands from its low
--- byte on.
+-- The fields of a journal file: how the bytes of each are read. Each number begins with its low byte.
 use Rattle.std.specs.Prelude.{ℕ, ◌+◌, Bool, true, false, nat_eq, nat_le, ◌&&◌, not, if◌then◌else◌, List, [], ◌∷◌, length, take, drop, codes, slice_index, Option, None, Some, Result, Ok, Err}
 use Rattle.std.specs.Cmp.Lexicographic.{pointwise}
 use Rattle.std.specs.Option.{option_map_or, option_and_then}
@@ -13,21 +12,22 @@ use Rattle.entry_format.specs.declared.version.Version.TheVariants.{One, Two}
 use Rattle.journal_format.specs.PayloadReading.{payload_of}
 use Rattle.ras_journal.specs.declared.limits.TheConstants.{LAST_GENERATION, OPEN_GATE}
 
--- n bytes of a file from a place on, if the file's end doesn't cut them
+-- n bytes of a file from an offset on, if the file's end doesn't cut them
 unfoldable pub part : ℕ → ℕ → List ℕ → Option (List ℕ)
 part place count file =
     if nat_le (place + count) (length file) then Some (take count (drop place file)) else None
 
+-- the value, or this error if there is none
 abbrev pub some_or : {A E : Type 0} → E → Option A → Result A E
 some_or why None = Err why
 some_or why (Some x) = Ok x
 
--- The field of n bytes at a place. If the file's end cuts it, or nothing can be made of
--- its bytes, the file is damaged at its place.
+-- The field of n bytes at an offset. If the file's end cuts it, or its bytes can't be read, the file is damaged at that
+-- offset.
 unfoldable pub field : {A : Type 0} → (List ℕ → Option A) → ℕ → ℕ → List ℕ → Result A ℕ
 field make place count file = some_or place (option_and_then make (part place count file))
 
--- ---- what is made of a field's bytes
+-- ---- how a field's bytes are read
 
 -- the version that a magic names
 abbrev pub version_of : List ℕ → Option Version
@@ -40,13 +40,15 @@ version_of bytes =
 abbrev pub number_of : ℕ → List ℕ → Option ℕ
 number_of width bytes = Some (number_at 0 width bytes)
 
--- a generation from 1 to 2^63 - 1, which the other file hasn't taken
+-- a generation from 1 to 2^63 - 1 that the other file doesn't have
 abbrev pub is_taken : Option ℕ → ℕ → Bool
 is_taken taken generation = option_map_or (λ other. nat_eq other generation) taken false
 
+-- whether a number is a generation that the other file doesn't have
 abbrev pub is_generation : Option ℕ → ℕ → Bool
 is_generation taken n = nat_le 1 n && nat_le n LAST_GENERATION && not (is_taken taken n)
 
+-- the generation in these bytes, if it is one that the other file doesn't have
 abbrev pub generation_of : Option ℕ → List ℕ → Option ℕ
 generation_of taken bytes =
     if is_generation taken (number_at 0 8 bytes) then Some (number_at 0 8 bytes) else None

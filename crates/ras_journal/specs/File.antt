@@ -1,16 +1,15 @@
--- What one journal file holds. Its fields are read in order, each at its place in the whole file,
--- and the file is damaged at the place of the first one that can't be read: what was read before
--- doesn't count then.
+-- What one journal file contains. Its fields are read in order, each at its offset in the whole file. If a field can't
+-- be read, the file is damaged at that field's offset, and what was read before doesn't count.
 --
---   place 0        gate (1 byte)                          whether the file stands
---         1        magic (8)                              it is one of the two
+--   offset 0       gate (1 byte)                          whether the file is valid
+--         1        magic (8)                              it is the magic of a version
 --         9        generation (8)                         from 1 to 2^63 - 1, and not file 0's
 --        17        number of the checkpoint's bytes (8)
 --        25        checkpoint                             it is a checkpoint, all of it
 --   and then, until a gate is closed:
 --         p        gate (1)                               open or closed
 --         p + 1    number of the payload's bytes (4)      only after an open gate
---         p + 5    payload                                it is one, and the account can take it
+--         p + 5    payload                                it is a payload, and the account can take it
 use Rattle.std.specs.Prelude.{◌≡◌, ℕ, zero, suc, ◌+◌, ◌≤◌, Bool, nat_lt, nat_eq, ◌&&◌, if◌then◌else◌, List, length, slice_index, Option, None, Some, Result, Ok, Err}
 use Rattle.ras_base.specs.Chaining.{◌>>=◌}
 use Rattle.ras_account.specs.Account.{State}
@@ -22,12 +21,12 @@ use Rattle.journal_format.specs.CheckpointReading.{checkpoint_of}
 use Rattle.ras_journal.specs.declared.limits.TheConstants.{OPEN_GATE}
 use Rattle.ras_journal.specs.Fields.{field, version_of, number_of, generation_of, is_open_of, entries_by}
 
--- a file stands if it is longer than 1 byte and its byte 0 is an open gate
+-- a file is valid if it is longer than 1 byte and its byte 0 is an open gate
 abbrev pub has_open_gate : List ℕ → Bool
 has_open_gate file = nat_lt 1 (length file) && nat_eq (slice_index file 0) OPEN_GATE
 
--- what was read of a file up to a gate: its place, how many links stand before it, and the account
--- of the checkpoint continued by their entries
+-- what was read of a file up to a gate: the gate's offset, how many links come before it, and the account of the
+-- checkpoint continued by their entries
 pub record FileFront : Type 0 where
   pub version : Version
   pub generation : ℕ
@@ -35,7 +34,7 @@ pub record FileFront : Type 0 where
   pub links : ℕ
   pub account : State
 
--- the front up to the first gate of the chain, if the other file may have taken a generation
+-- the front up to the first gate of the chain, given the generation that the other file has, if it has one
 unfoldable pub first_front : Option ℕ → List ℕ → Result FileFront ℕ
 first_front taken file = do
   version ← field version_of 1 8 file
@@ -44,7 +43,7 @@ first_front taken file = do
   account ← field (checkpoint_of version) 25 count file
   Ok (record { version = version; generation = generation; gate = 25 + count; links = 0; account = account })
 
--- a front with one link more, whose payload has this length
+-- a front with one more link, whose payload has this length
 abbrev pub with_link : FileFront → ℕ → List Entry → FileFront
 with_link front count entries = record front {
   gate = front.gate + 5 + count;
@@ -59,7 +58,7 @@ front_behind_link front file = do
   entries ← field (entries_by front.version front.account) (front.gate + 5) count file
   Ok (with_link front count entries)
 
--- the same if the gate is open, and none if it is closed
+-- the front up to the next gate if this gate is open, and none if it is closed
 unfoldable pub next_front : FileFront → List ℕ → Result (Option FileFront) ℕ
 next_front front file = do
   is_open ← field is_open_of front.gate 1 file
@@ -72,8 +71,7 @@ whole_front (suc most) front file = do
   next ← next_front front file
   elim next [ None ↦ Ok front | Some longer ↦ whole_front most longer file ]
 
--- All that counts of a file, or none if the file doesn't stand; or else the place at which it is
--- damaged.
+-- Everything that counts of a file, or nothing if the file isn't valid; or else the offset at which it is damaged.
 unfoldable pub front_of : Option ℕ → List ℕ → Result (Option FileFront) ℕ
 front_of taken file =
     if has_open_gate file then (do
@@ -82,12 +80,12 @@ front_of taken file =
       Ok (Some whole))
     else Ok None
 
--- the account of a file: that of version 1 is taken over by a mark
+-- the account of a file: an account of version 1 is taken over by an upgrade marker
 abbrev pub account_by : Version → State → State
 account_by One account = account_after_mark account
 account_by Two account = account
 
--- A file, if it stands, has at most 256 links, whatever generation the other file has taken.
+-- A valid file has at most 256 links, whatever generation the other file has.
 abbrev pub AreLinksFew : List ℕ → Type 0
 AreLinksFew file =
     (taken : Option ℕ) (front : FileFront) → front_of taken file ≡ Ok (Some front) → front.links ≤ 256

@@ -1,4 +1,4 @@
--- What the laws of journal files speak of.
+-- Terms that the laws of journal files use.
 use Rattle.std.specs.Prelude.{◌≡◌, ℕ, ◌+◌, ◌<◌, ◌≤◌, ◌^◌, false, List, ◌∷◌, ◌++◌, length, take, codes, Option, Some, Ok, Err}
 use Rattle.ras_base.specs.LittleEndian.{u64_bytes}
 use Rattle.ras_facts.specs.declared.entry.Entry.{Entry}
@@ -18,11 +18,12 @@ abbrev pub magic : Version → List ℕ
 magic One = codes "RASJRNL1"
 magic Two = codes "RASJRNL2"
 
--- a file is read up to this front, if the other file may have taken a generation; or it is
--- damaged at a place
+-- a file is read up to this front, given the generation that the other file has, if it has one; or it is damaged at an
+-- offset
 abbrev pub IsRead : Option ℕ → List ℕ → FileFront → Type 0
 IsRead taken file front = front_of taken file ≡ Ok (Some front)
 
+-- a file is damaged at this offset, given the generation that the other file has, if it has one
 abbrev pub IsDamaged : Option ℕ → List ℕ → ℕ → Type 0
 IsDamaged taken file place = front_of taken file ≡ Err place
 
@@ -36,7 +37,7 @@ abbrev pub begun : Version → ℕ → List ℕ → List ℕ
 begun version generation checkpoint =
     OPEN_GATE ∷ (magic version ++ (u64_bytes generation ++ (u64_bytes (length checkpoint) ++ checkpoint)))
 
--- what stands in it can be read: a generation that isn't taken, and a checkpoint of this account
+-- such a file can be read: its generation isn't the other file's, and its checkpoint is one of this account
 pub record CanBegin (taken : Option ℕ) (version : Version) (generation : ℕ) (checkpoint : List ℕ) (account : State) : Type 0 where
   pub first : 1 ≤ generation
   pub last : generation ≤ LAST_GENERATION
@@ -44,7 +45,7 @@ pub record CanBegin (taken : Option ℕ) (version : Version) (generation : ℕ) 
   pub size : length checkpoint < 2 ^ 64
   pub is : IsCheckpoint version account checkpoint
 
--- the front of such a file
+-- the front of a file up to its first gate
 abbrev pub begun_front : Version → ℕ → List ℕ → State → FileFront
 begun_front version generation checkpoint account = record {
   version = version;
@@ -59,6 +60,7 @@ pub record CanFollow (front : FileFront) (entries : List Entry) : Type 0 where
   pub link : CanLink front.version entries
   pub within : StaysWithin front.account entries
 
+-- a front with a link of these entries after it
 abbrev pub followed : FileFront → List Entry → FileFront
 followed front entries = with_link front (length (payload_bytes entries)) entries
 
@@ -66,7 +68,7 @@ followed front entries = with_link front (length (payload_bytes entries)) entrie
 abbrev pub opened_with : List ℕ → FileFront → List ℕ → List ℕ
 opened_with file front bytes = take front.gate file ++ (OPEN_GATE ∷ bytes)
 
--- The bytes begin with a whole link, and all its entries count, and then maybe others.
+-- The bytes begin with a whole link, all of whose entries count, and maybe more links follow.
 pub record FollowsWhole (front : FileFront) (bytes : List ℕ) (longer : FileFront) : Type 0 where
   pub entries : List Entry
   pub more : List Entry

@@ -1,4 +1,4 @@
--- What the two files of a journal hold together.
+-- What the two files of a journal contain together.
 use Rattle.std.specs.Prelude.{◌≡◌, ℕ, Bool, nat_lt, nat_eq, ◌&&◌, ◌||◌, not, if◌then◌else◌, List, length, slice_index, Option, None, Some, Result, Ok, Err}
 use Rattle.std.specs.Option.{option_map}
 use Rattle.ras_base.specs.Chaining.{◌>>=◌}
@@ -11,21 +11,22 @@ use Rattle.ras_journal.specs.declared.limits.TheConstants.{LONGEST_FILE, OPEN_GA
 use Rattle.ras_journal.specs.declared.standing.Standing.{Standing}
 use Rattle.ras_journal.specs.File.{AreLinksFew, FileFront, front_of, account_by}
 
--- why nothing is recovered: a file is too long, or a file is damaged at a place
+-- why nothing is recovered: a file is too long, or a file is damaged at an offset
 pub data Refusal : Type 0 where
   too_long : Refusal
   damaged : FileNo → ℕ → Refusal
 
+-- damage at an offset, as damage of this file
 abbrev pub in_file : {A : Type 0} → FileNo → Result A ℕ → Result A Refusal
 in_file file (Ok x) = Ok x
 in_file file (Err place) = Err (damaged file place)
 
--- the file that counts, and what counts of it
+-- the current file, and what counts of it
 pub record JournalFile : Type 0 where
   pub file : FileNo
   pub front : FileFront
 
--- of two files that stand the one with the greater generation counts
+-- of two valid files, the one with the greater generation is current
 abbrev pub greater : Option FileFront → Option FileFront → Option JournalFile
 greater None None = None
 greater (Some zero) None = Some (record { file = Zero; front = zero })
@@ -40,8 +41,8 @@ generation_in front = option_map (λ (f : FileFront). f.generation) front
 abbrev pub is_file_too_long : List ℕ → Bool
 is_file_too_long file = nat_lt LONGEST_FILE (length file)
 
--- File 0 is tried before file 1. If both stand, file 1 is damaged at its generation if that is
--- file 0's. Damage counts also in the file with the lesser generation.
+-- File 0 is read before file 1. If both are valid and have one generation, file 1 is damaged at its generation. Damage
+-- counts also in the file with the lesser generation.
 unfoldable pub journal_of : List ℕ → List ℕ → Result (Option JournalFile) Refusal
 journal_of file0 file1 =
     if is_file_too_long file0 || is_file_too_long file1 then Err too_long else (do
@@ -49,7 +50,7 @@ journal_of file0 file1 =
       one ← in_file One (front_of (generation_in zero) file1)
       Ok (greater zero one))
 
--- the account of a journal, the empty one if there is none
+-- the account of a journal, or the empty account if there is no journal
 abbrev pub account_of_journal : Option JournalFile → State
 account_of_journal None = account_of empty
 account_of_journal (Some journal) = account_by journal.front.version journal.front.account
@@ -60,7 +61,7 @@ recovered file0 file1 = do
   journal ← journal_of file0 file1
   Ok (account_of_journal journal)
 
--- whether a file is longer than 1 byte and its byte 0 is no open gate
+-- whether a file is longer than 1 byte and its byte 0 isn't an open gate
 abbrev pub is_shut : List ℕ → Bool
 is_shut file = nat_lt 1 (length file) && not (nat_eq (slice_index file 0) OPEN_GATE)
 
@@ -73,7 +74,7 @@ abbrev pub other_of : FileNo → List ℕ → List ℕ → List ℕ
 other_of Zero file0 file1 = file1
 other_of One file0 file1 = file0
 
--- where a journal stands, its length being the place of its closed gate
+-- the position of a journal, its length being the offset of its closed gate
 abbrev pub standing_of : List ℕ → List ℕ → JournalFile → Standing
 standing_of file0 file1 journal = record {
   file = journal.file;
@@ -84,26 +85,27 @@ standing_of file0 file1 journal = record {
   shut = is_shut (other_of journal.file file0 file1);
 }
 
--- where the journal of two files stands, or none if no file stands or one is refused
+-- the position of the journal of two files, or None if no file is valid or one is refused
 abbrev pub standing_in : List ℕ → List ℕ → Result (Option JournalFile) Refusal → Option Standing
 standing_in file0 file1 (Ok journal) = option_map (standing_of file0 file1) journal
 standing_in file0 file1 (Err why) = None
 
+-- the position of the journal of these two files, if they have one
 unfoldable pub position_of : List ℕ → List ℕ → Option Standing
 position_of file0 file1 = standing_in file0 file1 (journal_of file0 file1)
 
--- ---- of what a stop leaves
+-- ---- what a crash leaves
 
 -- the files give this account
 pub record Recovers (account : State) (left : Left) : Type 0 where
   pub is : recovered left.file0 left.file1 ≡ Ok account
 
--- the files give this account, and this is where their journal stands
+-- the files give this account, and this is their journal's position
 pub record IsAt (standing : Standing) (account : State) (left : Left) : Type 0 where
   pub recovers : recovered left.file0 left.file1 ≡ Ok account
   pub position : position_of left.file0 left.file1 ≡ Some standing
 
--- neither of the two files, if it stands, has more than 256 links
+-- no valid file has more than 256 links
 pub record HasFewLinks (left : Left) : Type 0 where
   pub zero : AreLinksFew left.file0
   pub one : AreLinksFew left.file1

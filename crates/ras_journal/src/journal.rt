@@ -12,8 +12,8 @@ use entry_format::Version;
 use journal_format::Link;
 use std::marker::Model;
 
-/// A journal: where it stands, and whether a call of it has failed. One that has failed isn't used
-/// again: its files have to be read anew.
+/// A journal: its position, and whether one of its calls has failed. A journal that has failed
+/// isn't used again: its files have to be read from the start.
 #[derive(Debug, Drop)]
 pub struct Journal {
     standing: Standing,
@@ -29,7 +29,7 @@ impl Model for Journal {
 }
 
 impl Journal {
-    /// A journal that stands there and hasn't failed.
+    /// Returns a journal at this position that hasn't failed.
     pub fn at(standing: Standing) -> Journal
         ensures { result ≡ record { standing = standing; failed = false } }
     {
@@ -39,30 +39,30 @@ impl Journal {
         }
     }
 
-    /// Where it stands.
+    /// Returns the journal's position.
     pub fn standing(&self) -> Standing
         ensures { result ≡ self.now.standing }
     {
         self.standing
     }
 
-    /// Whether it has failed.
+    /// Returns whether a call of the journal has failed.
     pub fn has_failed(&self) -> bool
         ensures { result ≡ self.now.failed }
     {
         self.failed
     }
 
-    /// Makes it a journal that has failed.
+    /// Makes this a journal that has failed.
     pub fn fail(&mut self)
         ensures { self.new ≡ record self.old { failed = true } }
     {
         self.failed = true;
     }
 
-    /// Whether the journal has to be switched to the other file before this link is appended: its
-    /// chain has 256 or more links, its file would be longer than 67,108,864 bytes, or the file is
-    /// of version 1.
+    /// Returns whether the journal has to be switched to the other file before this link is
+    /// appended: its chain has 256 or more links, its file would be longer than 67,108,864 bytes,
+    /// or the file is of version 1.
     pub fn needs_switch(&self, link: &Link) -> bool
         ensures { result ≡ needs_switch self.now.standing link.now }
     {
@@ -71,15 +71,15 @@ impl Journal {
             || is_too_long(self.standing.length, link.bytes_and_gate())
     }
 
-    /// Appends a link at the chain's closed gate by four disk calls: the link with the next closed
-    /// gate is written and synced, and then the gate is opened and synced. It takes no memory. It
-    /// needs a journal that hasn't failed, of version 2, whose closed gate lies in its file.
+    /// Appends a link at the closed gate, by four disk calls: write the link and the next closed
+    /// gate, sync; open the gate, sync. Allocates nothing. Requires a journal of version 2 that
+    /// hasn't failed and whose closed gate is inside its file.
     ///
     /// # Errors
     ///
-    /// `Full` comes exactly if the file would be longer than 67,108,864 bytes; then nothing was
-    /// called, and the journal is as before. `Disk` comes only if a disk call failed; then the
-    /// journal has failed. What stops leave of an append stands at [`crate::append_laws`].
+    /// `Full`: if and only if the file would be longer than 67,108,864 bytes; nothing was called,
+    /// and the journal is unchanged. `Disk`: only if a disk call failed; the journal has then
+    /// failed. [`crate::append_laws`] says what a crash leaves of an append.
     pub fn append<B: Board>(&mut self, link: &Link, board: &mut B) -> Result<(), AppendRefused>
         requires usable { self.old.failed ≡ false }
         requires version { self.old.standing.version ≡ Two }

@@ -1,4 +1,4 @@
-//! What holds of journal files, in the words of the format.
+//! What holds of journal files, by their format.
 ghost use Rattle.std.specs.Prelude.{◌≡◌, ◌≢◌, ◌+◌, ◌<◌, ◌≤◌, ◌∷◌, ◌++◌, [], ℕ, List, Option, None, Some, Ok, Err, length, take};
 ghost use Rattle.ras_base.specs.LittleEndian.{AreBytes};
 ghost use Rattle.board_core.specs.declared.board.FileNo.{FileNo};
@@ -18,30 +18,30 @@ ghost use Rattle.ras_journal.specs.File.{FileFront, front_of};
 ghost use Rattle.ras_journal.specs.Recovered.{IsAt, too_long, damaged, recovered};
 ghost use Rattle.ras_journal.specs.Laws.{IsRead, IsDamaged, IsShort, CanBegin, begun, begun_front, CanFollow, followed, opened_with, FollowsWhole};
 
-/// The laws of one journal file. What is read of it is told by its front, up to the closed gate:
-/// where that stands, how many links stand before it, and the account.
+/// What holds of one journal file. What is read of a file is its front, up to the closed gate: the
+/// gate's offset, the number of links before it, and the account.
 pub fn file_laws()
-    // A file of a checkpoint and a closed gate is read, whatever stands after it.
+    // A file that begins with a checkpoint and a closed gate is read, whatever follows.
     ensures checkpoint { (taken : Option ℕ) (version : Version) (generation : ℕ)
         (bytes : List ℕ) (account : State) (gate : ℕ) (rest : List ℕ)
         → CanBegin taken version generation bytes account → gate ≢ OPEN_GATE
         → IsRead taken (begun version generation bytes ++ gate ∷ rest)
         (begun_front version generation bytes account) }
 
-    // What stands after the closed gate decides nothing.
+    // Bytes after the closed gate don't matter.
     ensures after_the_closed_gate { (taken : Option ℕ) (file other : List ℕ) (front : FileFront)
         → IsRead taken file front → take (front.gate + 1) other ≡ take (front.gate + 1) file
         → IsRead taken other front }
 
-    // If the gate is opened on a link that a closed gate follows, the link is read too.
+    // If the gate is opened on a link with a closed gate after it, the link is read too.
     ensures one_link_more { (taken : Option ℕ) (file : List ℕ) (front : FileFront)
         (entries : List Entry) (gate : ℕ) (rest : List ℕ)
         → IsRead taken file front → CanFollow front entries → gate ≢ OPEN_GATE
         → IsRead taken (opened_with file front (link_bytes entries ++ gate ∷ rest))
         (followed front entries) }
 
-    // A file that is cut in the link of an open gate is damaged there, and never read without the
-    // link: at the length of its payload, or at the payload, or at the next gate.
+    // A file that is cut in the link after an open gate is damaged there, and never read without
+    // the link: at the length of its payload, or at the payload, or at the next gate.
     ensures cut_in_the_length { (taken : Option ℕ) (file : List ℕ) (front : FileFront)
         (entries : List Entry) (n : ℕ)
         → IsRead taken file front → CanFollow front entries → n < 4
@@ -59,25 +59,25 @@ pub fn file_laws()
         → IsDamaged taken (opened_with file front (link_bytes entries))
         (front.gate + 1 + length (link_bytes entries)) }
 
-    // Whatever bytes stand after an open gate: the file is damaged, or a whole link stands there
-    // and all its entries count.
+    // Whatever bytes follow an open gate, the file is damaged, or a whole link follows and all its
+    // entries count.
     ensures whole_or_damaged { (taken : Option ℕ) (file : List ℕ) (front longer : FileFront)
         (bytes : List ℕ)
         → IsRead taken file front → AreBytes bytes
         → IsRead taken (opened_with file front bytes) longer → FollowsWhole front bytes longer }
 {}
 
-/// What an append comes to: laws of its acts, of a journal in version 2 whose file has room for the
-/// link.
+/// What an append leaves, by its acts: for a journal in version 2 whose file has room for the link.
 pub fn append_laws()
-    // Whatever a stop leaves at any moment of it recovers the account without the link or with it.
+    // From whatever a crash during the append leaves, the account is recovered without the link or
+    // with it.
     ensures moments { (standing : Standing) (account : State) (entries : List Entry)
         (link : List ℕ) (t : Told) (left : Left)
         → HasRoom standing link → Links account entries link → IsAt standing account t.here
         → Moment (append_acts standing link) t left
         → Appending standing account entries t.here left }
 
-    // Once it is done, the files hold the account with the link, at the next standing.
+    // After the append, the files contain the account with the link, at the next position.
     ensures done { (standing : Standing) (account : State) (entries : List Entry)
         (link : List ℕ) (t : Told)
         → HasRoom standing link → Links account entries link → IsAt standing account t.here
@@ -94,24 +94,24 @@ pub fn limit_laws()
     ensures closed_gate { CLOSED_GATE ≡ 0 }
 {}
 
-/// The laws of two journal files.
+/// What holds of two journal files.
 pub fn journal_laws()
-    // A file that is too long refuses both.
+    // A file that is too long refuses both files.
     ensures too_long_zero { (file0 file1 : List ℕ) → LONGEST_FILE < length file0
         → recovered file0 file1 ≡ Err too_long }
     ensures too_long_one { (file0 file1 : List ℕ) → LONGEST_FILE < length file1
         → recovered file0 file1 ≡ Err too_long }
 
-    // Of two files that don't stand the empty account is recovered.
+    // From two files that aren't valid the empty account is recovered.
     ensures none_stands { (file0 file1 : List ℕ) → IsShort file0 → IsShort file1
         → front_of None file0 ≡ Ok None → front_of None file1 ≡ Ok None
         → recovered file0 file1 ≡ Ok (account_of empty) }
 
-    // Damage of file 0 comes first.
+    // Damage of file 0 is reported before damage of file 1.
     ensures damage_zero { (file0 file1 : List ℕ) (place : ℕ) → IsShort file0 → IsShort file1
         → IsDamaged None file0 place → recovered file0 file1 ≡ Err (damaged FileNo.Zero place) }
 
-    // Two standing files of one generation are damaged at the generation of file 1.
+    // Two valid files of one generation are damaged at the generation of file 1.
     ensures one_generation { (file0 file1 : List ℕ) (zero one : FileFront) → IsShort file0
         → IsShort file1 → IsRead None file0 zero → IsRead None file1 one
         → zero.generation ≡ one.generation → recovered file0 file1 ≡ Err (damaged FileNo.One 9) }

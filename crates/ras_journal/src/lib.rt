@@ -1,5 +1,7 @@
-//! The journal: what its two files hold, and appending to it so that a stop at any moment leaves
+//! The journal: what its two files contain, and appending to it so that a crash at any point leaves
 //! the account without a link or with it.
+//!
+//! A public function with an empty body is a law: its clauses are the point.
 #![tactic(auto)]
 
 mod journal;

@@ -8,7 +8,7 @@ use thiserror::Error;
 /// Why a link wasn't appended.
 #[derive(Clone, Copy, Debug, PartialEq, Eq, Error)]
 pub enum AppendRefused {
-    /// The file would be too long. Nothing was called.
+    /// The file would be too long. No disk call was made.
     #[error("the journal file would be too long")]
     Full,
     /// A disk call failed. Its count of faults rose.

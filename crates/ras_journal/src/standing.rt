@@ -1,21 +1,21 @@
-//! Where a journal stands.
+//! The position of a journal.
 
 use board_core::FileNo;
 use entry_format::Version;
 
-/// Where a journal stands in its two files.
+/// The position of a journal in its two files.
 #[derive(Clone, Copy, Debug, PartialEq, Eq)]
 pub struct Standing {
-    /// The file that counts.
+    /// The current file.
     pub file: FileNo,
-    /// The version of its format.
+    /// The version of the current file's format.
     pub version: Version,
-    /// Its generation, which is greater than the other file's.
+    /// The current file's generation, which is greater than the other file's.
     pub generation: u64,
-    /// The place of the closed gate that ends its chain.
+    /// The offset of the closed gate that ends the chain.
     pub length: u64,
-    /// How many links stand in the chain.
+    /// How many links the chain has.
     pub links: u64,
-    /// Whether the other file is longer than 1 byte and its byte 0 is no open gate.
+    /// Whether the other file is longer than 1 byte and its byte 0 isn't an open gate.
     pub shut: bool,
 }

@@ -1,4 +1,4 @@
--- What the filter of kernel logs makes of the lines to come, by the report in work.
+-- What the filter of kernel logs prints for the lines to come, given the report that was begun.
 use Rattle.std.specs.Prelude.{ℕ, ◌+◌, List, [], ◌∷◌, count_by, map, Result, Ok}
 use Rattle.ras_script.specs.declared.line.LineRefused.{LineRefused}
 use Rattle.line_filters.specs.Filter.{Filter}
@@ -21,24 +21,24 @@ abbrev pub stage_over : Stage → List (List ℕ) → Stage
 stage_over stage [] = stage
 stage_over stage (line ∷ lines) = stage_over (stage_after stage (klog_line_of line)) lines
 
--- the text of a report that is in work after them
+-- the text of a report that isn't complete after these lines
 abbrev pub rest_along : Stage → List (List ℕ) → List ℕ
 rest_along stage lines = out_text (out_at_end (stage_over stage lines))
 
--- the last line, after these numbers of log lines and partial ones
+-- the last line, given the numbers of log lines and partial lines so far
 abbrev pub last_along : ℕ → ℕ → Stage → ℕ → ℕ → List (List ℕ) → List ℕ
 last_along boot cap stage reports partial lines =
     let outs = outs_to_end boot cap stage (map klog_line_of lines) in
     klog_counts_line (reports + count_by is_logged outs) (partial + count_by is_partial outs)
 
--- the counts with what is told counted too
+-- the counts with this text counted too
 abbrev pub counts_with : Counts → KlogOut → Counts
 counts_with counts out = record {
   reports = counts.reports + count_by is_logged (out ∷ []);
   partial = counts.partial + count_by is_partial (out ∷ []);
 }
 
--- how far a filter came in a log
+-- how far a filter is in a log
 pub record Progress : Type 0 where
   pub boot : ℕ
   pub cap : ℕ
@@ -46,6 +46,7 @@ pub record Progress : Type 0 where
   pub counts : Counts
   pub taken : ℕ
 
+-- what a filter prints for the lines to come, by how far it is
 abbrev pub makes_of : Progress → Filter
 makes_of log = record {
   answers = answers_along log.boot log.cap log.stage;

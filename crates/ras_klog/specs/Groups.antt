@@ -26,7 +26,7 @@ groups_of (Start cpu mcg bank status ∷ lines) =
     ∷ groups_of lines
 groups_of (line ∷ lines) = groups_of lines
 
--- the first time that lines tell
+-- the first time that lines give
 abbrev pub told_seconds : List KlogLine → Option ℕ
 told_seconds [] = None
 told_seconds (Processor seconds ∷ lines) = Some seconds
@@ -47,24 +47,22 @@ bank_of_group boot cap head tsc addr misc seconds = record {
   misc = misc;
 }
 
--- that report, if the group has a time after its first counter
+-- the group's report, if it has a time after its first counter
 abbrev pub with_seconds : ℕ → ℕ → Head → ℕ → ℕ → ℕ → Option ℕ → KlogOut
 with_seconds boot cap head tsc addr misc None = Partial head.cpu head.bank
 with_seconds boot cap head tsc addr misc (Some seconds) = Whole (bank_of_group boot cap head tsc addr misc seconds)
 
--- what a group tells: its report, by its first counter and the first time after that, or that it
--- isn't whole
+-- the result of a group: its report, by its first counter and the first time after that, or that it is incomplete
 abbrev pub told_of : ℕ → ℕ → Head → List KlogLine → KlogOut
 told_of boot cap head [] = Partial head.cpu head.bank
 told_of boot cap head (Tsc tsc addr misc ∷ lines) = with_seconds boot cap head tsc addr misc (told_seconds lines)
 told_of boot cap head (line ∷ lines) = told_of boot cap head lines
 
--- what the groups of a log tell, in order
+-- the results of the groups of a log, in order
 abbrev pub told_of_groups : ℕ → ℕ → List KlogLine → List KlogOut
 told_of_groups boot cap lines = map (λ (g : Group). told_of boot cap g.head g.rest) (groups_of lines)
 
--- what of the groups is told before the log is known to have ended: all but the last, and the last
--- if it is whole
+-- the results that are known before the log's end is: of all groups but the last, and of the last if it is complete
 abbrev pub without_open : List KlogOut → List KlogOut
 without_open [] = []
 without_open (Partial cpu bank ∷ []) = []

@@ -1,4 +1,4 @@
--- What a line of a kernel log tells.
+-- What a line of a kernel log says.
 use Rattle.std.specs.Prelude.{ℕ, ◌+◌, ◌-◌, ◌^◌, ◌==◌, ◌&&◌, Bool, List, [], ◌∷◌, codes, drop, take, length, slice_index_or, nat_eq, Option, None, Some, is_some, unwrap_or, if◌then◌else◌}
 use Rattle.std.specs.List.{ends_with, list_all, position_or_len, slice_split, starts_with}
 use Rattle.std.specs.Str.{bytes_eq}
@@ -15,13 +15,13 @@ parts_of text = slice_split (λ b. b == 32) text
 abbrev pub is_empty : List ℕ → Bool
 is_empty word = length word == 0
 
--- the word at a place, an empty one after the last
+-- the word at an index, an empty one after the last
 abbrev pub word : List (List ℕ) → ℕ → List ℕ
 word words place = slice_index_or words place []
 
 -- ---- numbers
 
--- what is read after a number, if the number reads
+-- what is read after a number, if the number can be read
 abbrev pub read_then : {A B : Type 0} → Option A → (A → Option B) → Option B
 read_then None next = None
 read_then (Some x) next = next x
@@ -65,7 +65,7 @@ start_line_of words =
     read_then (colon_number 65535 (word words 0)) (λ cpu.
     provided (bytes_eq (word words 1) (codes "Machine")) (check_of cpu (drop 2 words)))
 
--- a hexadecimal number after its name, 0 if that doesn't read, and the words after it
+-- a hexadecimal number after its name, 0 if they can't be read, and the words after it
 unfoldable pub named : List ℕ → List (List ℕ) → ℕ × List (List ℕ)
 named name words =
     if bytes_eq (word words 0) name then told (hexadecimal_of (word words 1)) else (0, words)
@@ -74,7 +74,7 @@ named name words =
     told None = (0, words)
     told (Some number) = (number, drop 2 words)
 
--- `<tsc>`, then ` ADDR <addr>` if that reads, then ` MISC <misc>` if that reads, then anything
+-- `<tsc>`, then ` ADDR <addr>` if that can be read, then ` MISC <misc>` if that can be read, then anything
 unfoldable pub tsc_of : List (List ℕ) → Option KlogLine
 tsc_of words =
     read_then (hexadecimal_of (word words 0)) (λ tsc.
@@ -96,16 +96,16 @@ told_by_words words =
     else (if bytes_eq (word words 0) (codes "TSC") then tsc_of (drop 1 words)
     else provided (bytes_eq (word words 0) (codes "PROCESSOR")) (processor_line_of (drop 1 words)))
 
--- what stands before the words that tell of a machine check
+-- the prefix of the words about a machine check
 abbrev pub marker : List ℕ
 marker = codes "[Hardware Error]: "
 
--- what follows the first marker of a line, if it has one
+-- what follows the first prefix of a line, if it has one
 abbrev pub after_marker : List ℕ → Option (List ℕ)
 after_marker [] = None
 after_marker (b ∷ line) =
     if starts_with nat_eq (b ∷ line) marker then Some (drop (length marker) (b ∷ line)) else after_marker line
 
--- a line of a kernel log: only what follows its first marker counts
+-- a line of a kernel log: only what follows its first prefix matters
 abbrev pub klog_line_of : List ℕ → KlogLine
 klog_line_of bytes = unwrap_or (read_then (after_marker bytes) (λ text. told_by_words (parts_of text))) Other

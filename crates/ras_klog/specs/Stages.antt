@@ -1,4 +1,4 @@
--- The report in work, line by line.
+-- The report that was begun, line by line.
 use Rattle.std.specs.Prelude.{ℕ, Bool, true, false, List, [], ◌∷◌, ◌++◌}
 use Rattle.ras_klog.specs.Groups.{bank_of_group}
 use Rattle.ras_klog.specs.declared.line.KlogLine.{KlogLine}
@@ -12,32 +12,34 @@ use Rattle.ras_klog.specs.declared.state.Stage.TheVariants.{Idle, Begun, Timed}
 abbrev pub at_start : Stage
 at_start = Idle
 
+-- how far the report has come after a line
 abbrev pub stage_after : Stage → KlogLine → Stage
 stage_after stage (Start cpu mcg bank status) = Begun (record { cpu = cpu; mcg = mcg; bank = bank; status = status })
 stage_after (Begun head) (Tsc tsc addr misc) = Timed head tsc addr misc
 stage_after (Timed head tsc addr misc) (Processor seconds) = Idle
 stage_after stage line = stage
 
--- whether a line has a place in the report in work: a report may begin at any line, its counter comes
--- next, and then its time
+-- whether a line belongs to the report that was begun: a report may begin at any line, its counter comes next, and then
+-- its time
 abbrev pub has_place : Stage → KlogLine → Bool
 has_place stage (Start cpu mcg bank status) = true
 has_place (Begun head) (Tsc tsc addr misc) = true
 has_place (Timed head tsc addr misc) (Processor seconds) = true
 has_place stage line = false
 
--- what is told of a report in work that gets no further
+-- the text of a report that was begun and can't be completed
 abbrev pub out_at_end : Stage → KlogOut
 out_at_end Idle = Nothing
 out_at_end (Begun head) = Partial head.cpu head.bank
 out_at_end (Timed head tsc addr misc) = Partial head.cpu head.bank
 
+-- what is printed at a line
 abbrev pub out_at : ℕ → ℕ → Stage → KlogLine → KlogOut
 out_at boot cap stage (Start cpu mcg bank status) = out_at_end stage
 out_at boot cap (Timed head tsc addr misc) (Processor seconds) = Whole (bank_of_group boot cap head tsc addr misc seconds)
 out_at boot cap stage line = Nothing
 
--- an output, unless it is none
+-- an output, unless it is Nothing
 abbrev pub some_out : KlogOut → List KlogOut
 some_out Nothing = []
 some_out out = out ∷ []

@@ -13,7 +13,7 @@ use ras_script::LineRefused;
 use std::alloc::Global;
 use std::marker::Model;
 
-// How many reports were told: by a log line, and as partial.
+// How many reports were printed: by a log line, and as partial.
 #[derive(Clone, Copy)]
 struct Counts {
     reports: u64,
@@ -21,7 +21,7 @@ struct Counts {
 }
 
 impl Counts {
-    // The counts with what is told counted too: a whole report only if its bank holds an error.
+    // The counts with this text counted too: a complete report only if its bank has an error.
     fn with(self, out: &KlogOut) -> Counts
         requires { self.reports + self.partial < 2 ^ 63 }
         ensures { result ≡ counts_with self out.now }
@@ -41,11 +41,11 @@ impl Counts {
     }
 }
 
-/// Makes of the lines of a kernel log the log lines of its machine checks.
+/// A filter that prints the machine checks of a kernel log as log lines.
 ///
-/// A report that is whole is told at the line that makes it whole, by its log line, or by nothing
-/// if the bank holds no error (VAL is 0). One that isn't whole is told as partial, at the line that
-/// begins the next one or after all lines. No line is refused.
+/// A complete report is printed at the line that completes it, by its log line, or not at all if
+/// the bank has no error (VAL is 0). An incomplete report is printed as partial, at the line that
+/// begins the next report or after all lines. No line is refused.
 #[derive(Drop)]
 pub struct KlogFilter {
     state: KlogState,
@@ -67,7 +67,8 @@ impl Model for KlogFilter {
 }
 
 impl KlogFilter {
-    /// Before the first line of a log of this boot and of processors with this IA32_MCG_CAP.
+    /// Returns a filter at the start of a log, of this boot and of processors with this
+    /// IA32_MCG_CAP.
     pub fn new(boot: u64, cap: u64) -> KlogFilter
         ensures makes { makes_of result ≡ klog_filter boot cap }
         ensures taken { result.taken ≡ 0 }

@@ -7,17 +7,16 @@ ghost use Rattle.line_filters.specs.Filters.{filter_exit, filter_output, texts_i
 ghost use Rattle.ras_klog.specs.Klog.{early_text, klog_answers, klog_filter, klog_rest, klog_text};
 ghost use Rattle.ras_klog.specs.Output.{klog_output};
 
-/// What is printed of a kernel log is what its groups tell, each once and in order, and then the
-/// counts, or the stop line of a refusal. No line is refused but one that is too long. The function
-/// does nothing: its clauses are what it is for.
+/// What is printed of a kernel log is the text of each of its groups, once and in order, and then
+/// the counts, or the `stop` line of a refusal. A line is refused only if it is too long.
 pub fn klog_is_told_by_groups()
     ensures exit { (boot cap : ℕ) (script : List ℕ)
         → filter_exit (klog_filter boot cap) script ≡ script_exit script }
     ensures output { (boot cap : ℕ) (script : List ℕ)
         → filter_output (klog_filter boot cap) script ≡ klog_output boot cap script }
 
-    // The texts of the lines are what the groups tell before the log is known to have ended, and
-    // the text after them is the rest of it.
+    // The texts of the lines are the texts of the groups so far as the log's end needn't be known,
+    // and the text after the lines is the rest.
     ensures early { (boot cap : ℕ) (lines : List (List ℕ))
         → flat_map (λ text. text) (texts_in (klog_answers boot cap lines))
         ≡ early_text boot cap lines }

@@ -1,6 +1,8 @@
-//! The lines of a kernel log that tell of machine checks, the reports that they make, and the
-//! filter of lines that prints these. The form of the lines is this project's own, after what Linux
+//! The lines of a kernel log about machine checks, the reports that they make, and the filter of
+//! lines that prints these reports. The form of the lines is this project's own, after what Linux
 //! prints.
+//!
+//! A public function with an empty body is a law: its clauses are the point.
 #![tactic(auto)]
 
 mod filter;

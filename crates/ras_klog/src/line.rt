@@ -1,4 +1,4 @@
-//! What a line of a kernel log tells.
+//! What a line of a kernel log says.
 
 ghost use Rattle.std.specs.Prelude.{◌≡◌, ◌-◌, ◌≤◌, ◌↔◌, length, IfSome, IsTrue};
 ghost use Rattle.std.specs.Option.{option_map};
@@ -10,7 +10,7 @@ use crate::words::Words;
 use memchr::memchr;
 use ras_script::{decimal, hexadecimal, position_of};
 
-/// What a line of a kernel log tells.
+/// What a line of a kernel log says.
 #[derive(Clone, Copy, Debug, PartialEq, Eq)]
 pub enum KlogLine {
     /// A report begins: the processor's number, IA32_MCG_STATUS, the bank's number and its
@@ -21,8 +21,8 @@ pub enum KlogLine {
         bank: u8,
         status: u64,
     },
-    /// The processor's time-stamp counter, and the bank's IA32_MCi_ADDR and IA32_MCi_MISC. What
-    /// isn't told of the last two is 0.
+    /// The processor's time-stamp counter, and the bank's IA32_MCi_ADDR and IA32_MCi_MISC. Of the
+    /// last two, one that is missing is 0.
     Tsc {
         tsc: u64,
         addr: u64,
@@ -36,13 +36,13 @@ pub enum KlogLine {
     Other,
 }
 
-// What stands before the words that tell of a machine check.
+// The prefix of the words about a machine check.
 const MARKER: &[u8] = b"[Hardware Error]: ";
 
-/// What a line of a kernel log tells, by what follows the first `[Hardware Error]: ` in it. It
-/// takes no memory.
+/// Returns what a line of a kernel log says, by what follows the first `[Hardware Error]: ` in it.
+/// Allocates nothing.
 ///
-/// These are the lines, in which words are separated by one space:
+/// The lines are the following, with one space between two words:
 ///
 /// - `CPU <cpu>: Machine Check: <mcg> Bank <bank>: <status>`, or with `Machine Check Exception:`,
 ///   and then nothing but spaces
@@ -53,8 +53,8 @@ const MARKER: &[u8] = b"[Hardware Error]: ";
 /// `<cpu>` up to 65,535, `<bank>` up to 255, `<n>` and `<seconds>` are decimal; the other numbers
 /// are hexadecimal.
 ///
-/// A carriage return isn't a space. So in a log whose lines end in one no report begins, and such
-/// line ends have to be taken off first.
+/// A carriage return isn't a space. So no report begins in a log whose lines end in one, and such
+/// line ends have to be removed first.
 pub fn klog_line(bytes: &[u8]) -> KlogLine
     ensures { result ≡ klog_line_of bytes.now }
 {
@@ -64,7 +64,7 @@ pub fn klog_line(bytes: &[u8]) -> KlogLine
     }
 }
 
-// What follows the first marker of a line, if it has one.
+// What follows the first prefix of a line, if it has one.
 fn after_marker(line: &[u8]) -> Option<&[u8]>
     ensures { option_map (λ text. text.now) result ≡ after_marker line.now }
 {
@@ -74,8 +74,9 @@ fn after_marker(line: &[u8]) -> Option<&[u8]>
     }
 }
 
-// The place of the first marker of a line. Its second byte is looked for, which few lines without a
-// marker have: a search for the whole of it costs more to set up than a line to look through.
+// The index of the first prefix of a line. It searches for the prefix's second byte, which few
+// lines without the prefix have, because a search for the whole prefix costs more to set up than
+// looking through a line.
 fn marker_in(line: &[u8]) -> Option<usize>
     ensures { FindsNeedle line.now marker 0 result }
 {
@@ -90,7 +91,7 @@ fn marker_in(line: &[u8]) -> Option<usize>
     None
 }
 
-// Whether a marker has its second byte at a place of a line.
+// Whether a prefix has its second byte at an index of a line.
 fn has_marker_round(line: &[u8], second: usize) -> bool
     requires { second ≤ length line.now }
     ensures { IsTrue result ↔ ((1 ≤ second) × OccursAt line.now marker (second - 1)) }
@@ -98,7 +99,7 @@ fn has_marker_round(line: &[u8], second: usize) -> bool
     second >= 1 && line[second - 1..].starts_with(MARKER)
 }
 
-// What a text tells after a marker.
+// What a text after the prefix says.
 fn told_by(text: &[u8]) -> Option<KlogLine>
     ensures { result ≡ told_by_words (parts_of text.now) }
 {
@@ -165,7 +166,7 @@ fn bank_of(cpu: u16, words: &mut Words<'_>) -> Option<KlogLine>
     }
 }
 
-// `<tsc>`, then the address and the miscellaneous register if they read, then anything.
+// `<tsc>`, then the address and the miscellaneous register if they can be read, then anything.
 #[tactic(auto, unfolding(crate::specs::Reading::tsc_of))]
 fn tsc_of(words: &mut Words<'_>) -> Option<KlogLine>
     ensures { result ≡ tsc_of (words_in words.old) }
@@ -176,7 +177,7 @@ fn tsc_of(words: &mut Words<'_>) -> Option<KlogLine>
     Some(KlogLine::Tsc { tsc, addr, misc })
 }
 
-// A hexadecimal number after its name. If they don't read it is 0, and the words stay.
+// A hexadecimal number after its name. If they can't be read the number is 0, and no word is used.
 #[tactic(auto, unfolding(crate::specs::Reading::named))]
 fn named(name: &[u8], words: &mut Words<'_>) -> u64
     ensures value { result ≡ (named name.now (words_in words.old)).0 }

@@ -9,18 +9,18 @@ use crate::line::KlogLine;
 use ras_facts::BankReport;
 use std::marker::Model;
 
-/// What is to be told after a line, or at the end of a log.
+/// What has to be printed after a line, or at the end of a log.
 #[derive(Clone, Copy, Debug, PartialEq, Eq)]
 pub enum KlogOut {
     /// Nothing.
     Nothing,
-    /// A report that is whole.
+    /// A complete report.
     Whole(BankReport),
-    /// A report of a bank that began, and isn't whole.
+    /// A report that began and can't be completed, of this bank.
     Partial { cpu: u16, bank: u8 },
 }
 
-// What the line tells that begins a report.
+// The values of the line that begins a report.
 #[derive(Clone, Copy, Debug, PartialEq, Eq)]
 struct Head {
     cpu: u16,
@@ -29,14 +29,14 @@ struct Head {
     status: u64,
 }
 
-// How far the report in work has come.
+// How far the report that was begun has come.
 #[derive(Clone, Copy, Debug, PartialEq, Eq)]
 enum Stage {
-    // There is none: no report began yet, or the last one was told.
+    // No report is begun: none came yet, or the last one is complete.
     Idle,
-    // It began.
+    // The report has its first line.
     Begun(Head),
-    // Its counter is told too.
+    // The report also has its counter.
     Timed {
         head: Head,
         tsc: u64,
@@ -45,7 +45,8 @@ enum Stage {
     },
 }
 
-/// The report in work. A log is a list of lines, which are taken in turn.
+/// The report that was begun last, if it isn't complete. A log is a list of lines, which are taken
+/// one after the other.
 #[derive(Clone, Copy, Debug)]
 pub struct KlogState {
     stage: Stage,
@@ -62,25 +63,26 @@ impl Model for KlogState {
 }
 
 impl KlogState {
-    /// Before a log's first line.
+    /// Returns the state before a log's first line.
     ///
-    /// The log's lines are cut into groups, before each `Start`. What `step` tells of the lines
-    /// and `end` after them is what the groups tell, in order: a group's report, by its `Start`,
-    /// its first `Tsc` and the first `Processor` after that, or that it isn't whole.
+    /// A log's lines are cut into groups, before each `Start`. What `step` returns for the lines,
+    /// and then `end`, are the reports of the groups, in order. A group's report consists of its
+    /// `Start`, its first `Tsc` and the first `Processor` after that; without these it is
+    /// incomplete.
     pub fn new() -> KlogState
         ensures start { result ≡ at_start }
         ensures groups { (boot cap : ℕ) (lines : List KlogLine)
             → outs_to_end boot cap result lines ≡ told_of_groups boot cap lines }
 
-        // A report is told as soon as it is whole, before the log goes on.
+        // A report is returned as soon as it is complete, before the log goes on.
         ensures prompt { (boot cap : ℕ) (lines : List KlogLine)
             → outs_along boot cap result lines ≡ without_open (told_of_groups boot cap lines) }
     {
         KlogState { stage: Stage::Idle }
     }
 
-    /// Takes a line, of a log of this boot and of processors with this IA32_MCG_CAP. A whole report
-    /// is told at its `Processor`, and one that isn't whole at the next `Start`.
+    /// Takes a line of a log, of this boot and of processors with this IA32_MCG_CAP. Returns a
+    /// complete report at its `Processor`, and an incomplete one at the next `Start`.
     pub fn step(&mut self, line: KlogLine, boot: u64, cap: u64) -> KlogOut
         ensures out { result ≡ out_at boot cap self.old line }
         ensures stage { self.new ≡ stage_after self.old line }
@@ -113,7 +115,7 @@ impl KlogState {
         out
     }
 
-    /// Whether a line has a place in the report in work: any `Start`, a `Tsc` right after it, and a
+    /// Returns whether `step` would use a line: any `Start`, a `Tsc` right after one, and a
     /// `Processor` after that. Other lines are passed over.
     pub fn has_place(&self, line: KlogLine) -> bool
         ensures { result ≡ has_place self.now line }
@@ -126,7 +128,7 @@ impl KlogState {
         )
     }
 
-    /// Ends the log. A report in work isn't whole.
+    /// Ends the log, and returns the report that was begun as incomplete, if there is one.
     pub fn end(&mut self) -> KlogOut
         ensures out { result ≡ out_at_end self.old }
         ensures stage { self.new ≡ at_start }
@@ -167,7 +169,7 @@ fn next_stage(stage: Stage, line: KlogLine) -> Stage
     }
 }
 
-// What is told of a report in work that gets no further.
+// The text of a report that was begun and can't be completed.
 fn unfinished(stage: Stage) -> KlogOut
     ensures { result ≡ out_at_end stage }
 {

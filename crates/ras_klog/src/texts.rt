@@ -1,4 +1,4 @@
-//! The lines that tell of the reports of a kernel log.
+//! The lines that are printed of the reports of a kernel log.
 
 ghost use Rattle.std.specs.Prelude.{◌≡◌, ◌++◌, decimal, OnOk};
 ghost use Rattle.ras_klog.specs.Texts.{bank_text, klog_counts_line, out_text, partial_line};
@@ -11,7 +11,7 @@ use ras_reports::report_of_bank;
 use ras_texts::push_report;
 use std::alloc::Global;
 
-// Adds the text of what is to be told.
+// Adds the text of what has to be printed.
 pub(crate) fn push_out(alloc: Global, text: &mut Vec<u8>, out: &KlogOut) -> Result<(), NoMemory>
     ensures { OnOk result (text.new.items ≡ text.old.items ++ out_text out.now) }
 {
@@ -22,7 +22,8 @@ pub(crate) fn push_out(alloc: Global, text: &mut Vec<u8>, out: &KlogOut) -> Resu
     }
 }
 
-// Adds the log line of a whole report, over no rows of a machine: none if the bank holds no error.
+// Adds the log line of a complete report, with an empty machine description: none if the bank has
+// no error.
 fn push_bank(alloc: Global, text: &mut Vec<u8>, bank: &BankReport) -> Result<(), NoMemory>
     ensures { OnOk result (text.new.items ≡ text.old.items ++ bank_text bank.now) }
 {
@@ -32,7 +33,7 @@ fn push_bank(alloc: Global, text: &mut Vec<u8>, bank: &BankReport) -> Result<(),
     }
 }
 
-// Adds the line of a report that isn't whole.
+// Adds the line of an incomplete report.
 fn push_partial(text: &mut Vec<u8>, cpu: u16, bank: u8) -> Result<(), NoMemory>
     ensures { OnOk result (text.new.items ≡ text.old.items ++ partial_line cpu bank) }
 {

@@ -8,7 +8,7 @@ ghost use Rattle.ras_klog.specs.Steps.Words.{words_in};
 
 use ras_script::position_of;
 
-// The words of a text that are left: what stands between single spaces, empty words too.
+// The words of a text that are left: everything between single spaces, empty words too.
 #[derive(Clone, Copy)]
 pub(crate) struct Words<'a> {
     rest: Option<&'a [u8]>,
@@ -22,7 +22,7 @@ impl<'a> Words<'a> {
         Words { rest: Some(text) }
     }
 
-    // The next word, an empty one after the last.
+    // The next word, or an empty one after the last.
     pub(crate) fn next(&mut self) -> &'a [u8]
         ensures word { result.now ≡ slice_index_or (words_in self.old) 0 [] }
         ensures rest { words_in self.new ≡ drop 1 (words_in self.old) }
@@ -59,7 +59,7 @@ fn cut(text: &[u8]) -> (&[u8], Option<&[u8]>)
     }
 }
 
-// Whether a text is of spaces alone.
+// Whether a text consists only of spaces.
 fn are_spaces(text: &[u8]) -> bool
     ensures { result ≡ list_all (λ b. b == 32) text.now }
 {

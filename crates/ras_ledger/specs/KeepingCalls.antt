@@ -5,25 +5,25 @@ use Rattle.board_core.specs.declared.board.FileNo.{FileNo}
 use Rattle.board_core.specs.declared.board.DiskCall.{DiskCall}
 use Rattle.board_core.specs.declared.board.DiskCall.TheVariants.{WriteAt, Sync}
 
--- a write of n bytes from a place on, and then a sync
+-- a write of n bytes from an offset on, and then a sync
 abbrev pub write_through_calls : FileNo → ℕ → ℕ → List DiskCall
 write_through_calls file place count = WriteAt file place count ∷ Sync file ∷ []
 
--- The whole of a switch to a file: four calls, or six if its gate isn't closed already. The gate
--- at its front is closed, then all after that gate is written, then the gate is opened.
+-- A whole switch to a file: four calls, or six if its gate isn't closed already. The gate at its front is closed, then
+-- everything after that gate is written, then the gate is opened.
 pub record IsSwitch (file : FileNo) (calls : List DiskCall) : Type 0 where
   pub closing : List DiskCall
   pub count : ℕ
   pub is : calls ≡ closing ++ (write_through_calls file 1 count ++ write_through_calls file 0 1)
   pub only : (closing ≡ []) ⊎ (closing ≡ write_through_calls file 0 1)
 
--- the whole of an append to a file: the link with the next closed gate is written after the closed
--- gate of the chain, and then that gate is opened
+-- a whole append to a file: the link with the next closed gate is written after the closed gate of the chain, and then
+-- that gate is opened
 pub record IsAppend (link : List ℕ) (file : FileNo) (calls : List DiskCall) : Type 0 where
   pub gate : ℕ
   pub is : calls ≡ write_through_calls file (gate + 1) (length link + 1) ++ write_through_calls file gate 1
 
--- the whole of what keeps a link
+-- all calls that keep a link
 pub record IsKeeping (link : List ℕ) (calls : List DiskCall) : Type 0 where
   pub file : FileNo
   pub switch : List DiskCall

@@ -1,4 +1,4 @@
-//! What keeping a link comes to.
+//! What keeping a link leaves.
 ghost use Rattle.std.specs.Prelude.{ℕ, IsTrue, List};
 ghost use Rattle.board_core.specs.Doing.{Moment, calls_of};
 ghost use Rattle.board_core.specs.Stop.{Left};
@@ -13,11 +13,10 @@ ghost use Rattle.ras_ledger.specs.Keeping.{CanMake, Keeping, after_keeping};
 ghost use Rattle.ras_ledger.specs.Keeping.{keeping_acts, lacks_room, standing_kept};
 ghost use Rattle.ras_ledger.specs.KeepingCalls.{IsKeeping};
 
-/// What keeping a link comes to: laws of its acts, if a switch that is due can be made and has
-/// room.
+/// What keeping a link leaves, by its acts, if a switch that is due can be made and has room.
 pub fn keeping_laws()
-    // Whatever a stop leaves at any moment of it recovers the account without the link or with it,
-    // and the printed text and the record store are as they were.
+    // From whatever a crash meanwhile leaves, the account is recovered without the link or with it;
+    // the printed text and the record store are unchanged.
     ensures moments { (standing : Standing) (account : State) (entries : List Entry)
         (link : List ℕ) (t : Told) (left : Left)
         → CanMake standing account link → ¬ IsTrue (lacks_room standing account link)
@@ -25,7 +24,7 @@ pub fn keeping_laws()
         → Moment (keeping_acts standing account link) t left
         → Keeping account entries t.here left }
 
-    // Once it is done, the files hold the account with the link, at the next standing.
+    // Afterwards the files contain the account with the link, at the next position.
     ensures done { (standing : Standing) (account : State) (entries : List Entry)
         (link : List ℕ) (t : Told)
         → CanMake standing account link → ¬ IsTrue (lacks_room standing account link)
@@ -33,8 +32,8 @@ pub fn keeping_laws()
         → IsAt (standing_kept standing account link) (account_after_all account entries)
         (after_keeping standing account link t).here }
 
-    // If no file that stands had more than 256 links before, none has at any moment of it, and none
-    // once it is done.
+    // If no valid file had more than 256 links before, no valid file has more meanwhile or
+    // afterwards.
     ensures few { (standing : Standing) (account : State) (entries : List Entry)
         (link : List ℕ) (t : Told) (left : Left)
         → CanMake standing account link → ¬ IsTrue (lacks_room standing account link)
@@ -46,7 +45,7 @@ pub fn keeping_laws()
         → Links account entries link → IsAt standing account t.here → HasFewLinks t.here
         → HasFewLinks (after_keeping standing account link t).here }
 
-    // It is at most one switch, and then the append, all WriteAt and Sync calls.
+    // The acts are at most one switch, and then the append: only WriteAt and Sync calls.
     ensures calls { (standing : Standing) (account : State) (link : List ℕ)
         → IsKeeping link (calls_of (keeping_acts standing account link)) }
 {}

@@ -14,7 +14,7 @@ use ras_journal::{AppendRefused, Journal};
 use ras_recover::{SwitchRefused, switch_file};
 use std::alloc::Global;
 
-/// The account, and the journal that keeps it.
+/// The account, and the journal that stores it.
 #[derive(Drop)]
 pub struct Ledger {
     pub account: Account,
@@ -22,19 +22,18 @@ pub struct Ledger {
 }
 
 impl Ledger {
-    /// Keeps a link in the journal, which is first switched to its other file if that is due.
-    /// What the account counts stays: the link's entries are taken afterwards, with no memory. It
-    /// needs a journal that hasn't failed and that is what the files hold.
+    /// Appends a link to the journal, after a switch to the other file if one is due. The account
+    /// doesn't change yet: the caller counts the link's entries afterwards, which allocates
+    /// nothing. Requires a journal that hasn't failed and that matches the files.
     ///
-    /// While it is at work, whatever a stop leaves recovers the account without the link or with
-    /// it, and printed text and record store are as they were: that stands at
-    /// [`crate::keeping_laws`].
+    /// From whatever a crash meanwhile leaves, the account is recovered without the link or with
+    /// it, and the printed text and the record store are unchanged: [`crate::keeping_laws`].
     ///
     /// # Errors
     ///
-    /// `Full` comes exactly if a switch is due and has no room; `NoMemory` if memory for the
-    /// switch runs out. In both cases nothing was called. `Disk` comes only if a disk call
-    /// failed; then the journal has failed.
+    /// `Full`: if and only if a switch is due and has no room. `NoMemory`: only if memory for the
+    /// switch runs out. In both cases no disk call was made. `Disk`: only if a disk call failed;
+    /// the journal has then failed.
     pub fn keep<B: Board>(
         &mut self,
         alloc: Global,
@@ -64,7 +63,7 @@ impl Ledger {
         }
     }
 
-    // Switches the journal to its other file, if that is due before this link.
+    // Switches the journal to its other file, if this is due before the link.
     fn make_room<B: Board>(
         &mut self,
         alloc: Global,

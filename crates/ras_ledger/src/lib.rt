@@ -1,5 +1,7 @@
-//! The account with its journal: what is news is in the journal before it is counted, and a stop at
-//! any moment leaves the account without it or with it.
+//! The account with its journal: new entries are in the journal before they are counted, and a
+//! crash at any point leaves the account without them or with them.
+//!
+//! A public function with an empty body is a law: its clauses are the point.
 #![tactic(auto)]
 
 mod laws;

@@ -1,4 +1,4 @@
-//! Listings of the account that a journal holds. They are printed, and nothing is written.
+//! Listings of the account in a journal. They are printed, and nothing is written.
 #![tactic(auto)]
 
 mod reporting;

@@ -1,4 +1,4 @@
-//! A report of what the journal's files hold.
+//! A report of the account in the journal's files.
 
 ghost use Rattle.std.specs.Prelude.{◌≡◌, ◌++◌, IfErr, IfOk, Ok, OnOk, Result, Some};
 ghost use Rattle.board_core.specs.Clock.{Adds};
@@ -21,14 +21,14 @@ use ras_recover::{OpenRefused, Recovered, recover};
 use ras_texts::end_line;
 use std::alloc::Global;
 
-/// Prints a listing of the account that the journal's files hold, and its end line, if it has one,
-/// by one call. If a file is damaged or too long, it prints the stop line in place of them, as a
-/// comment for metrics. It writes nothing, and reads no script.
+/// Prints a listing of the account in the journal's files, and its end line, if it has one, by one
+/// call, and returns how the report ended. If a file is damaged or too long, it prints the `stop`
+/// line instead, as a comment for metrics. It writes nothing, and reads no script.
 pub fn report<B: Board>(alloc: Global, listing: Listing, board: &mut B) -> Exit
-    // The exit and the text are those of the files. Files and device stay.
+    // The exit and the text follow from the files. Files and device are unchanged.
     ensures reports { Relates (Reports listing result) (B.told board.old) (B.told board.new) }
-    // A stop leaves what one before may have left, or else all as it was told with a beginning of
-    // the text.
+    // A crash leaves what a crash before may have left, or else what the model said, with a
+    // beginning of the text.
     ensures stops { (t : Told) → B.told board.old ≡ Some t
         → Adds (ReportMoment (B.clock board.old) (report_output listing t.here) t.here)
         (B.clock board.old) (B.clock board.new) }
@@ -47,8 +47,8 @@ pub fn report<B: Board>(alloc: Global, listing: Listing, board: &mut B) -> Exit
     }
 }
 
-// The exit and the text of a report by what was found of the files; or by which exit it is cut
-// short.
+// The exit and the text of a report, by what was found in the files, or the exit that cuts the
+// report short.
 fn answer(
     alloc: Global,
     listing: Listing,
@@ -88,7 +88,7 @@ fn account_text(alloc: Global, listing: Listing, account: &Account) -> Result<Ve
     Ok(text)
 }
 
-// The stop line of an exit in the place of a listing.
+// The `stop` line of an exit instead of a listing.
 fn stop_text(alloc: Global, listing: Listing, exit: Exit) -> Result<Vec<u8>, NoMemory>
     ensures { IfOk result (λ text. text.items ≡ stop_mark listing ++ stop_line exit) }
 {
@@ -97,7 +97,7 @@ fn stop_text(alloc: Global, listing: Listing, exit: Exit) -> Result<Vec<u8>, NoM
     Ok(text)
 }
 
-// What stands before a stop line in the place of a listing.
+// What comes before a `stop` line that is printed instead of a listing.
 fn stop_word(listing: Listing) -> &'static [u8]
     ensures { result.now ≡ stop_mark listing }
 {
@@ -107,7 +107,7 @@ fn stop_word(listing: Listing) -> &'static [u8]
     }
 }
 
-// How a report ends over files that weren't recovered: by an answer, or cut short.
+// How a report ends whose files couldn't be recovered: with a result, or cut short.
 fn unrecovered(refused: OpenRefused) -> Result<Exit, Exit>
     ensures { result ≡ unrecovered refused }
 {

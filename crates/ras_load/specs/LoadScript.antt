@@ -1,7 +1,6 @@
--- The script that is made up from a number n, as lines that are written down: one CPU and the four
--- memory modules of its first controller, and then n reports of a machine-check bank. Every tenth
--- of these repeats the one before it. The numbers from which the others differ are those of a
--- linear congruential generator.
+-- The script that is made up from a number n, as lines that are written: one CPU and the four memory modules of its
+-- first controller, and then n reports of a machine-check bank. Every tenth of these repeats the one before it. The
+-- others differ by the numbers of a linear congruential generator.
 use Rattle.std.specs.Prelude.{ℕ, ◌+◌, ◌*◌, ◌/◌, ◌%◌, ◌^◌, ◌==◌, ◌-◌, zero, suc, List, [], ◌∷◌, ◌++◌, codes, map, if◌then◌else◌}
 use Rattle.dimm_topology.specs.declared.row.Row.TheVariants.{Cpu, Module}
 use Rattle.ras_facts.specs.declared.bank.BankReport.{BankReport}
@@ -11,10 +10,11 @@ use Rattle.ras_script.specs.declared.line.Line.{Line}
 use Rattle.ras_script.specs.declared.line.Line.TheVariants.{Row, Report}
 use Rattle.ras_script.specs.declared.line.ErrorReport.TheVariants.{Bank}
 
--- the number after another, of 64 bits, and the number at a place, from 1 at place 0
+-- the next number of the generator, of 64 bits
 abbrev pub next_number : ℕ → ℕ
 next_number x = (x * 6364136223846793005 + 1442695040888963407) % 2 ^ 64
 
+-- the number of the generator at this index, which is 1 at index 0
 unfoldable pub generated : ℕ → ℕ
 generated zero = 1
 generated (suc i) = next_number (generated i)
@@ -47,7 +47,7 @@ unfoldable pub bank_lines : ℕ → List Line
 bank_lines zero = []
 bank_lines (suc n) = bank_lines n ++ bank_line (n + 1) ∷ []
 
--- the machine
+-- the lines of the machine description
 abbrev pub machine_lines : List Line
 machine_lines =
     Row (Cpu 0 0) ∷ Row (Module (codes "M0") 0 7 0) ∷ Row (Module (codes "M1") 0 7 1)

@@ -1,5 +1,5 @@
--- The line that sums up an account: how many names it holds, the weights of its items of class CE,
--- and how many of its pages are to be given up softly and hard.
+-- The line that sums up an account: how many names it has, the weights of its items of class CE, and how many of its
+-- pages are to be soft-offlined and hard-offlined.
 use Rattle.std.specs.Prelude.{ℕ, Bool, ◌==◌, List, ◌++◌, codes, decimal, length, slice_index}
 use Rattle.std.specs.List.{count_by, sum_by}
 use Rattle.ras_base.specs.Text.{line_with}
@@ -14,7 +14,7 @@ use Rattle.page_policy.specs.Rows.{height}
 use Rattle.ras_account.specs.Account.{State}
 use Rattle.ras_account.specs.Modules.{Module}
 
--- the weight that a module holds of a class, and that which all modules hold of it
+-- the weight of a class in a module's row, and in the rows of all modules
 abbrev pub weight_of_class : ItemClass → Bytes × Module → ℕ
 weight_of_class class row = slice_index row.1.sums (class_number class)
 
@@ -28,7 +28,7 @@ is_in state row = height row.1.state == height state
 abbrev pub pages_in : PageState → List (ℕ × PageRow) → ℕ
 pages_in state pages = count_by (is_in state) pages
 
--- the line of an account that came of a number of lines
+-- the line of the account after a number of lines
 abbrev pub load_line : ℕ → State → List ℕ
 load_line n account = line_with (
     codes "load n=" ++ decimal n ++ codes " names=" ++ decimal (length account.names)

@@ -1,4 +1,4 @@
-//! What a script that is made up is read as.
+//! How a made-up script is read.
 
 ghost use Rattle.std.specs.Prelude.{◌≡◌, ◌≤◌, ℕ, Ok, map};
 ghost use Rattle.std.specs.List.{AllByRecursion};
@@ -8,9 +8,8 @@ ghost use Rattle.ras_script.specs.Line.{line_of};
 ghost use Rattle.ras_script.specs.LineLaws.{IsInRange, line_text};
 ghost use Rattle.ras_script.specs.Lines.{script_ended, script_lines};
 
-/// A script that is made up is within the limits of scripts, and its lines are those that were
-/// written down: their numbers are in range, and each is read as what was written. The function does
-/// nothing: its clauses are what it is for.
+/// A made-up script is within the limits of scripts, and its lines are the lines that were written:
+/// their numbers are in range, and each is read back.
 pub fn load_laws()
     ensures lines { (n : ℕ) → n ≤ MOST_LINES → script_lines (load_script n)
         ≡ record { whole = map line_text (load_lines n); ending = script_ended } }
@@ -19,8 +18,8 @@ pub fn load_laws()
         → map line_of (map line_text (load_lines n)) ≡ map Ok (load_lines n) }
 {}
 
-/// The number that the definitions cite by name: the most reports of a made-up script. The function
-/// does nothing: its clause is what it is for.
+/// The number that the definitions cite by name has these digits: the most reports of a made-up
+/// script.
 pub fn numbers_in_digits()
     ensures lines { MOST_LINES ≡ 50000 }
 {}

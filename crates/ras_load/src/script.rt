@@ -13,7 +13,7 @@ use ras_base::NoMemory;
 use ras_facts::BankReport;
 use std::alloc::Global;
 
-/// The most reports that a script may be made up of.
+/// The most reports of a made-up script.
 pub const MOST_LINES: u64 = 50_000;
 
 // The lines of the machine.
@@ -24,15 +24,15 @@ module M2 0 7 2
 module M3 0 7 3
 ";
 
-// The most bytes of the line of a report, for which room is taken at once.
+// The most bytes of the line of a report: memory for them is allocated at once.
 const LINE_LENGTH: usize = 60;
 
-/// The script that is made up from `n`: the lines of a machine, and `n` reports of a machine-check
+/// Returns a made-up script: the lines of a machine description, and `n` reports of a machine-check
 /// bank.
 ///
 /// # Errors
 ///
-/// `NoMemory` comes only if memory runs out.
+/// `NoMemory`: only if memory runs out.
 pub fn load_script(alloc: Global, n: u64) -> Result<Vec<u8>, NoMemory>
     requires { n ≤ MOST_LINES }
     ensures { IfOk result (λ script. script.items ≡ load_script n) }

@@ -12,12 +12,13 @@ use ras_account::Account;
 use ras_base::{NoMemory, push_number};
 use std::alloc::Global;
 
-/// The line that sums up the account of `n` lines: how many names it holds, the weights of its
-/// items of class CE, and how many of its pages are to be given up softly and hard.
+/// Returns the line that sums up the account of `n` lines: how many names it has, the sum of the
+/// weights of its items of class CE, and how many of its pages are to be soft-offlined and
+/// hard-offlined.
 ///
 /// # Errors
 ///
-/// `NoMemory` comes only if memory runs out.
+/// `NoMemory`: only if memory runs out.
 pub fn load_line(alloc: Global, n: u64, account: &Account) -> Result<Vec<u8>, NoMemory>
     ensures { IfOk result (λ line. line.items ≡ load_line n account.now.state) }
 {

@@ -5,13 +5,13 @@ use Rattle.ras_base.specs.LittleEndian.{u16_bytes, u32_bytes, u64_bytes}
 use Rattle.ras_facts.specs.declared.bank.BankReport.{BankReport}
 use Rattle.ras_panic.specs.Runs.{with_runs}
 
--- the type of the section that holds the report, as it stands in a descriptor:
+-- the type of the section with the report, as a descriptor has it:
 -- 7a6d1f02-52c4-4d1e-9b0a-3c5e8f714d20
 unfoldable pub report_type : List ℕ
 report_type =
     0x02 ∷ 0x1f ∷ 0x6d ∷ 0x7a ∷ 0xc4 ∷ 0x52 ∷ 0x1e ∷ 0x4d ∷ 0x9b ∷ 0x0a ∷ 0x3c ∷ 0x5e ∷ 0x8f ∷ 0x71 ∷ 0x4d ∷ 0x20 ∷ []
 
--- the type of IA32/X64 sections, as it stands there
+-- the type of IA32/X64 sections, as a descriptor has it
 unfoldable pub x64_type : List ℕ
 x64_type =
     0xb0 ∷ 0xa0 ∷ 0x3e ∷ 0xdc ∷ 0x44 ∷ 0xa1 ∷ 0x97 ∷ 0x47 ∷ 0xb9 ∷ 0x5b ∷ 0x53 ∷ 0xfa ∷ 0x24 ∷ 0x2b ∷ 0x6e ∷ 0x1d ∷ []

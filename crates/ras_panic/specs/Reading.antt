@@ -1,4 +1,4 @@
--- Which records are panic records, and whose report they hold.
+-- Which records are panic records, and which report each has.
 use Rattle.std.specs.Prelude.{ℕ, ◌==◌, ◌&&◌, Bool, List, length, drop, slice_index, unwrap_or, Option, Some, None, if◌then◌else◌}
 use Rattle.std.specs.List.{list_all}
 use Rattle.std.specs.Option.{option_and_then, option_map_or}
@@ -17,7 +17,7 @@ use Rattle.ras_facts.specs.declared.name.Name.{Name}
 use Rattle.ras_facts.specs.declared.name.Name.TheVariants.{Record}
 use Rattle.ras_panic.specs.Panics.{report_type, saved_bytes}
 
--- the report that a section of 72 bytes holds
+-- the report in a section of 72 bytes
 abbrev pub report_in : List ℕ → BankReport
 report_in bytes = record {
   boot = number_at 0 8 bytes;
@@ -32,8 +32,7 @@ report_in bytes = record {
   bank = slice_index bytes 66;
 }
 
--- whether a section holds a report of an error: it has 72 bytes, the last five of them 0, and VAL
--- is 1
+-- whether a section is a report of an error: it has 72 bytes, the last five of them 0, and VAL is 1
 abbrev pub is_report : List ℕ → Bool
 is_report bytes =
     (length bytes == 72) && list_all (λ byte. byte == 0) (drop 67 bytes) && valid (status_in (report_in bytes))
@@ -50,13 +49,12 @@ is_panic own =
 abbrev pub panic_report : List ℕ → Option BankReport
 panic_report own = if is_panic own then Some (report_in (section_bytes own 0)) else None
 
--- the fact of a record of the store that was read at this time: a panic record's is the bank's own,
--- with the seconds of the report
+-- the fact of a record of the store that was read at this time; a panic record's is the bank's own, with the seconds of
+-- the report
 abbrev pub stored_fact : List Row → ℕ → List ℕ → Fact
 stored_fact rows seconds own =
     unwrap_or (option_and_then (λ report. bank_fact report rows) (panic_report own)) (record_fact rows seconds own)
 
--- the name under which the error of a record of the store counts: a panic record's is the bank's
--- own
+-- the name under which a record of the store is counted; a panic record's is the bank's own
 abbrev pub stored_name : List ℕ → Name
 stored_name own = option_map_or bank_name (panic_report own) (Record (record_id own))

@@ -1,4 +1,4 @@
--- Which records hold a report, in the words of their layout: the bytes of their sections.
+-- Which records contain a report, by their layout: the bytes of their sections.
 use Rattle.std.specs.Prelude.{ℕ, ◌≡◌, ◌<◌, ◌^◌, List, IsTrue}
 use Rattle.mca_status.specs.Registers.{valid}
 use Rattle.cper_sections.specs.Guids.{guid_of, x64_guid}
@@ -21,8 +21,8 @@ pub record FitsFields (snapshot : BankReport) : Type 0 where
   pub addr : snapshot.addr < 2 ^ 64
   pub misc : snapshot.misc < 2 ^ 64
 
--- a record holds this report: it has two sections, the report's 72 bytes, in which VAL is 1, and
--- the 112 bytes of an IA32/X64 section with its registers
+-- a record contains this report: it has two sections, the report's 72 bytes, in which VAL is 1, and the 112 bytes of an
+-- IA32/X64 section with its registers
 pub record HoldsReport (own : List ℕ) (bank : BankReport) : Type 0 where
   pub two : section_count own ≡ 2
   pub report_type : section_guid own 0 ≡ guid_of report_type

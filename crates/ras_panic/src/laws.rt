@@ -1,4 +1,4 @@
-//! What is said of panic records, for every report and every record.
+//! What holds of panic records, for every report and every record.
 
 ghost use Rattle.std.specs.Prelude.{◌≡◌, ◌<◌, ◌^◌, ◌↔◌, ◌++◌, ℕ, List, length, IsTrue, Ok, Some};
 ghost use Rattle.mca_status.specs.Registers.{valid};
@@ -13,8 +13,8 @@ ghost use Rattle.ras_panic.specs.Panics.{panic_bytes};
 ghost use Rattle.ras_panic.specs.Reading.{panic_report, stored_fact, stored_name};
 ghost use Rattle.ras_panic.specs.Reports.{FitsFields, HoldsReport};
 
-/// The panic record of a report reads as a record of its identifier, whatever bytes stand after it,
-/// and gives the report back. Its fact is the bank's own, with the seconds of the report.
+/// The panic record of a report is read as a record of its identifier, whatever bytes come after
+/// it, and gives the report back. Its fact is the bank's own, with the seconds of the report.
 pub fn reports_are_read_back()
     ensures read { (id : ℕ) (bank : BankReport)
         → record_of (panic_bytes id bank) ≡ Ok (panic_bytes id bank) }
@@ -29,8 +29,8 @@ pub fn reports_are_read_back()
         → Some (stored_fact rows seconds (panic_bytes id bank)) ≡ bank_fact bank rows }
 {}
 
-/// A record gives a report exactly if it holds one. Its fact is then the bank's own, with the
-/// seconds of the report; every other record's is that of its sections.
+/// A record gives a report if and only if it contains one. Its fact is then the bank's own, with
+/// the seconds of the report. The fact of every other record is the fact of its sections.
 pub fn reports_are_held()
     ensures report { (own : List ℕ) (bank : BankReport) → AreBytes own → FitsFields bank
         → (panic_report own ≡ Some bank) ↔ HoldsReport own bank }
@@ -42,7 +42,7 @@ pub fn reports_are_held()
         → stored_fact rows seconds own ≡ record_fact rows seconds own }
 {}
 
-/// A panic record has 456 bytes, and tells so.
+/// A panic record has 456 bytes, and its header says so.
 pub fn panic_records_tell_their_length()
     ensures length { (id : ℕ) (bank : BankReport) → length (panic_bytes id bank) ≡ 456 }
     ensures told { (id : ℕ) (bank : BankReport) → number_at 20 4 (panic_bytes id bank) ≡ 456 }

@@ -1,8 +1,10 @@
-//! Panic records: the report of a machine-check bank as a record that a dying machine can leave in
-//! its record store.
+//! Panic records: the report of a machine-check bank as a record that a crashing machine can leave
+//! in its record store.
 //!
-//! A panic record's fact is the bank's own, so that an error that is reported by its bank and by
-//! such a record has one name.
+//! A panic record's fact is the bank's own, so an error that is reported both by its bank and by a
+//! panic record has one name.
+//!
+//! A public function with an empty body is a law: its clauses are the point.
 #![tactic(auto)]
 
 mod laws;

@@ -14,10 +14,10 @@ use thiserror::Error;
 /// The bytes of a panic record.
 pub const PANIC_LENGTH: usize = 456;
 
-/// The bytes of the section that holds the report.
+/// The bytes of the section with the report.
 pub const REPORT_LENGTH: usize = 72;
 
-/// The bytes of the section that holds the registers.
+/// The bytes of the section with the registers.
 pub const SAVED_LENGTH: usize = 112;
 
 // 7a6d1f02-52c4-4d1e-9b0a-3c5e8f714d20, as it stands in a descriptor: the type of reports.
@@ -30,22 +30,22 @@ pub(crate) const X64_TYPE: [u8; 16] = [
     0xb0, 0xa0, 0x3e, 0xdc, 0x44, 0xa1, 0x97, 0x47, 0xb9, 0x5b, 0x53, 0xfa, 0x24, 0x2b, 0x6e, 0x1d,
 ];
 
-/// Why a report makes no panic record, the first that applies in this order.
+/// Why no panic record can be made of a report: the first reason that applies, in this order.
 #[derive(Clone, Copy, Debug, PartialEq, Eq, Error)]
 pub enum PanicRefused {
     /// 1: the identifier is 0 or all ones, which no record may have.
     #[error("the identifier is one that no record may have")]
     ReservedId,
-    /// 2: the bank holds no error (VAL is 0).
+    /// 2: the bank has no error (VAL is 0).
     #[error("the bank holds no error")]
     NotValid,
 }
 
-/// The panic record of a bank's report under an identifier: its header, two descriptors, the report
-/// and the bank's registers. It takes no memory.
+/// Returns the panic record of a bank's report under an identifier: its header, two descriptors,
+/// the report and the bank's registers. Allocates nothing.
 ///
-/// `ReservedId` comes exactly if the identifier is 0 or all ones, else `NotValid` exactly if
-/// VAL is 0.
+/// `ReservedId`: if and only if the identifier is 0 or all ones. `NotValid`: if and only if it
+/// isn't and VAL is 0.
 #[tactic(auto, unfolding(crate::specs::Panics::panic_bytes, crate::specs::Panics::report_type, crate::specs::Panics::x64_type))]
 pub fn panic_record(id: u64, bank: &BankReport) -> Result<[u8; PANIC_LENGTH], PanicRefused>
     ensures record { IfOk result (λ bytes. bytes ≡ panic_bytes id bank.now) }

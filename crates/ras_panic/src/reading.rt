@@ -15,11 +15,11 @@ use ras_base::little_endian::{u16_at, u64_at};
 use ras_facts::BankReport;
 use uuid::Uuid;
 
-/// The report that a panic record holds. It takes no memory.
+/// Returns the report in a panic record. Allocates nothing.
 ///
-/// It is Some exactly if the record has two sections, the first is a report of 72 bytes whose
-/// last five are 0 and whose VAL is 1, and the second is an IA32/X64 section with the registers of
-/// that report and nothing else. Every other record is an ordinary one.
+/// It is `Some` if and only if the record has two sections: first a report of 72 bytes whose last
+/// five are 0 and whose VAL is 1, then an IA32/X64 section with the registers of that report and
+/// nothing else. It is `None` for every other record.
 #[tactic(auto, unfolding(crate::specs::Reading::is_panic))]
 pub fn panic_of(rec: &Record<'_>) -> Option<BankReport>
     ensures { result ≡ panic_report rec.now }
@@ -53,7 +53,7 @@ fn is_x64(guid: Uuid) -> bool
     guid == guid_at(&X64_TYPE)
 }
 
-// Whether a section holds a report of an error.
+// Whether a section is a report of an error.
 #[tactic(auto, using(crate::proofs::ReadingLemmas::rest_of_report))]
 fn is_report(bytes: &[u8]) -> bool
     ensures { result ≡ is_report bytes.now }
@@ -71,7 +71,7 @@ fn are_zeros(bytes: &[u8]) -> bool
     bytes.iter().all(|byte| *byte == 0)
 }
 
-// The report that a section holds.
+// The report in a section.
 fn report_in(bytes: &[u8]) -> BankReport
     requires { REPORT_LENGTH ≤ length bytes.now }
     ensures { result ≡ report_in bytes.now }

@@ -11,8 +11,11 @@ use ras_base::NoMemory;
 use ras_facts::{Fact, fact_of_bank, fact_of_record};
 use std::alloc::Global;
 
-/// The fact that a record of the store gives, read at this time: the bank's own of a panic record,
-/// with the seconds of the report, and that of `fact_of_record` of every other record.
+/// Returns the fact that a record of the store gives, read at this time. For a panic record it is
+/// the bank's own, with the seconds of the report; for every other record it is the fact that
+/// `fact_of_record` returns.
+///
+/// `NoMemory`: only if memory runs out.
 pub fn fact_of_stored(
     alloc: Global,
     seconds: u64,

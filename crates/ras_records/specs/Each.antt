@@ -11,12 +11,12 @@ use Rattle.erst_driver.specs.Answers.{Answer, answer_on_found}
 abbrev pub Operation : Type 0
 Operation = ℕ → Device → List DeviceCall
 
--- what is told after calls of the device
+-- the model after calls of the device
 abbrev pub after_calls : List DeviceCall → Told → Told
 after_calls calls t = after_acts (acts_of calls) t
 
--- One operation for each identifier, each over the device after those before it. The first that
--- doesn't end well is the last.
+-- One operation for each identifier, each over the device after the operations before it. The first that doesn't
+-- succeed is the last.
 abbrev pub each_calls : Operation → List ℕ → Told → List DeviceCall
 each_calls operation [] t = []
 each_calls operation (id ∷ ids) t =
@@ -24,11 +24,12 @@ each_calls operation (id ∷ ids) t =
     ++ (if is_ok (answer_on_found id (device_of t))
     then each_calls operation ids (after_calls (operation id (device_of t)) t) else [])
 
--- How they end: well, or as the first does that doesn't.
+-- How the operations end: they succeed, or end as the first does that doesn't succeed.
 abbrev pub after_answer : Answer → Answer → Answer
 after_answer (Ok done) later = later
 after_answer (Err why) later = Err why
 
+-- the result of the operations on these identifiers, one after another
 abbrev pub each_answer : Operation → List ℕ → Told → Answer
 each_answer operation [] t = Ok tt
 each_answer operation (id ∷ ids) t =

@@ -1,5 +1,4 @@
--- What a poll does to the record store: its records are listed and read, and then those that could
--- be read are cleared.
+-- What a poll does to the record store: its records are listed and read, and then the readable ones are cleared.
 use Rattle.std.specs.Prelude.{◌≡◌, ◌≢◌, ◌≤◌, ℕ, Bool, false, ◌&&◌, not, nat_eq, IsTrue, List, ◌++◌, length, Result, Ok, Err}
 use Rattle.erst_store.specs.Store.{Stored, ids, most_records}
 use Rattle.board_core.specs.Doing.{DeviceCall}
@@ -18,6 +17,7 @@ use Rattle.ras_records.specs.Each.{after_calls, each_calls}
 
 -- ---- a look: the store's records are listed, and then each is read
 
+-- the calls of the device by which its store's records are listed and read
 abbrev pub look_calls : List (List InstructionEntry) → Told → List DeviceCall
 look_calls lists t =
     list_calls lists (device_of t)
@@ -27,32 +27,30 @@ look_calls lists t =
 abbrev pub readable_ids : List Stored → List ℕ
 readable_ids store = ids (readable store)
 
--- A device that is so slow is too slow for its store to be read. One of a store with no record isn't
--- asked.
+-- Whether a device is too slow for its store to be read. The device of an empty store isn't asked.
 abbrev pub is_busy_for_reads : ℕ → List Stored → Bool
 is_busy_for_reads slow store = not (is_free_in_time slow) && not (nat_eq (length store) 0)
 
--- all records are told of, and those that can be read are named
+-- each record has a piece, and the readable records are named
 pub record HasLooked (rows : List Row) (seconds : ℕ) (t : Told) (looked : Looked) : Type 0 where
   pub made : looked.made ≡ polled rows seconds t.here.store
   pub readable : looked.readable.items ≡ readable_ids t.here.store
   pub free : is_busy_for_reads t.volatile.slow t.here.store ≡ false
 
--- How a look ends over a device with this store: each record that is listed is there.
+-- How a look ends over a device with this store: each record that is listed can be found.
 abbrev pub Looks : List Row → ℕ → Result Looked DriverRefused → Told → Type 0
 Looks rows seconds (Ok looked) t = HasLooked rows seconds t looked
 Looks rows seconds (Err Busy) t = IsTrue (is_busy_for_reads t.volatile.slow t.here.store)
 Looks rows seconds (Err (EndedWith status)) t = ⊥
 Looks rows seconds (Err why) t = Unit {0}
 
--- What holds of a look over every board: what it makes can be one link, and a status that it tells
--- isn't 0.
+-- What holds of a look over every board: its pieces can be one link, and a status that it returns isn't 0.
 abbrev pub IsBounded : Result Looked DriverRefused → Type 0
 IsBounded (Ok looked) = IsFit looked.made × (length looked.readable.items ≤ most_records)
 IsBounded (Err (EndedWith status)) = status ≢ 0
 IsBounded (Err why) = Unit {0}
 
--- ---- clears of the records that could be read
+-- ---- clears of the readable records
 
 -- some of the readable records are gone, from the first on
 pub record LacksFirst (old new : List Stored) : Type 0 where

@@ -1,4 +1,4 @@
-//! The clearing of records.
+//! Clearing records.
 
 ghost use Rattle.std.specs.Prelude.{◌≢◌, [], IfSome};
 ghost use Rattle.board_core.specs.Doing.{Does, ended_by, looks};
@@ -12,14 +12,12 @@ ghost use Rattle.ras_records.specs.Each.{each_answer, each_calls};
 use board_core::Board;
 use erst_driver::{Driver, DriverRefused};
 
-/// Clears the records under these identifiers, from the first to the last. (ACPI 6.5, section
-/// 18.5.2.3, "Clearing".)
+/// Clears the records under these identifiers, in order. (ACPI 6.5, section 18.5.2.3, "Clearing".)
 ///
 /// # Errors
 ///
-/// The first clearing that is refused is the last: `Register` comes exactly if a call of the board
-/// failed, `Busy` if the device was busy at each of the most checks, and `Status` if the store has
-/// no such record.
+/// The first clear that fails is the last. `Register`: if and only if a call of the board failed.
+/// `Busy`: the device was busy at each of the most checks. `Status`: the store has no such record.
 pub fn clear_all<B: Board>(driver: &Driver, ids: &[u64], board: &mut B) -> Result<(), DriverRefused>
     ensures does { IfSome (B.told board.old) (λ t. Does (looks B.told B.clock B.faults)
         (acts_of (each_calls (clear_calls driver.now) ids.now t)) (ended_by driver_end result)

@@ -1,4 +1,4 @@
-//! What the calls of polls and of savings leave.
+//! What the calls of a poll and of a save leave.
 
 ghost use Rattle.std.specs.Prelude.{◌≡◌, ℕ, true, List, ◌++◌, length, Ok};
 ghost use Rattle.board_core.specs.Doing.{DeviceCall, Moment};
@@ -16,14 +16,14 @@ ghost use Rattle.ras_events.specs.Stores.{store_with, unreadable};
 ghost use Rattle.ras_records.specs.Each.{after_calls, each_answer, each_calls};
 ghost use Rattle.ras_records.specs.Polls.{LacksFirst, look_calls, readable_ids};
 
-/// What calls of the device leave of what a board tells: of its files, its store and its text the
-/// store alone changes, and the device is as slow as it was. The function does nothing.
+/// What calls of the device leave: in the board's model, of files, record store and text, only the
+/// store changes, and the device stays as slow as it was.
 pub fn device_calls_change_the_store_alone()
     ensures { (calls : List DeviceCall) (t : Told) → KeepsButDevice t (after_calls calls t) }
 {}
 
-/// A look leaves files, store and text as they are, whether it is done, memory ran out after some
-/// of its calls, or the machine stopped meanwhile. The function does nothing.
+/// Listing and reading the records leaves files, store and text unchanged, whether it is done,
+/// memory ran out after some of its calls, or the machine crashed meanwhile.
 pub fn looks_leave_the_store()
     ensures done { (lists : List (List InstructionEntry)) (t : Told) → IsAdmittedTable lists
         → IsDevice (device_of t) → (after_calls (look_calls lists t) t).here ≡ t.here }
@@ -37,9 +37,9 @@ pub fn looks_leave_the_store()
         → IsDevice (device_of t) → IsDevice (device_of (after_calls (look_calls lists t) t)) }
 {}
 
-/// Clears of the records of a store that can be read, over a device that is fast enough: all go
-/// well, and they leave the others. A stop meanwhile leaves a store that lacks some of these
-/// records, from the first on, and all else as it was. The function does nothing.
+/// Clearing the readable records of a store, over a device that is fast enough, succeeds, and
+/// leaves the other records. A crash meanwhile leaves a store that lacks some of these records,
+/// from the first on, and all else unchanged.
 pub fn clears_take_the_readable_records()
     ensures answer { (lists : List (List InstructionEntry)) (t : Told) → IsAdmittedTable lists
         → IsDevice (device_of t) → is_free_in_time t.volatile.slow ≡ true → (ids : List ℕ)
@@ -56,8 +56,8 @@ pub fn clears_take_the_readable_records()
         → InStore LacksFirst t.here left }
 {}
 
-/// A saving puts its record into the store under the identifier in its header, at one moment, and
-/// all else stays as it was. The function does nothing.
+/// A save puts its record into the store under the identifier in its header, at one point, and all
+/// else is unchanged.
 pub fn savings_are_puts()
     ensures done { (lists : List (List InstructionEntry)) (t : Told) → IsAdmittedTable lists
         → IsDevice (device_of t) → (bytes : List ℕ) → length bytes ≡ 456

@@ -1,5 +1,7 @@
-//! Polls of the record store over a driver: its records are listed and read, and those that could
-//! be read are cleared.
+//! Polls of the record store over a driver: the records are listed and read, and the readable ones
+//! are cleared.
+//!
+//! A public function with an empty body is a law: its clauses are the point.
 #![tactic(auto)]
 
 mod clearing;

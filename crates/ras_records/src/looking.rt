@@ -1,4 +1,4 @@
-//! The listing and reading of the store's records.
+//! Listing and reading the store's records.
 
 ghost use Rattle.std.specs.Prelude.{◌≡◌, ◌≤◌, ◌+◌, ℕ, [], ◌∷◌, ◌++◌, if◌then◌else◌, IfSome, OnOk, length};
 ghost use Rattle.std.specs.Result.{is_ok};
@@ -30,12 +30,12 @@ use std::alloc::Global;
 pub struct Looked {
     /// A piece for each record, in the store's order: its report, or why it can't be read.
     pub made: Made,
-    /// The identifiers of the records that can be read, in the store's order.
+    /// The identifiers of the readable records, in the store's order.
     pub readable: Vec<u64>,
 }
 
 impl Looked {
-    // Nothing yet.
+    // Returns an empty list.
     fn new(alloc: Global) -> Looked
         ensures made { result.made ≡ [] }
         ensures readable { result.readable.items ≡ [] }
@@ -75,14 +75,15 @@ impl Looked {
     }
 }
 
-/// Lists the records of the store and reads each. (ACPI 6.5, section 18.5.2.2, "Reading".)
+/// Lists the records of the store and reads each, and returns what it found. (ACPI 6.5, section
+/// 18.5.2.2, "Reading".)
 ///
 /// # Errors
 ///
-/// The first call that is refused is the last: `Register` comes exactly if a call of the board
-/// failed; `Busy` if the device was busy at each of the most checks, so exactly if it is too slow
-/// and the store has a record; and `NoMemory` only if memory runs out, after some of the calls. A
-/// device that has the records that it lists comes to no `Status`.
+/// The first call that fails is the last. `Register`: if and only if a call of the board failed.
+/// `Busy`: the device was busy at each of the most checks, which happens if and only if it is too
+/// slow and the store has a record. `NoMemory`: only if memory runs out, after some of the calls.
+/// `Status` is never returned, because the device has the records that it lists.
 pub fn look<B: Board>(
     alloc: Global,
     seconds: u64,

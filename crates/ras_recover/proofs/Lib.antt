@@ -3,6 +3,7 @@ pub mod SwitchingLemmas
 pub mod FewLemmas
 pub mod ReadingLemmas
 pub mod PairLemmas
+pub mod AgeLemmas
 pub mod KeepingLemmas
 pub mod OpeningLemmas
 pub mod OpeningFewLemmas

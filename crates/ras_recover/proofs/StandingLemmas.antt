@@ -123,6 +123,18 @@ begun_some taken file window rest (Some t) read spans sees held is stands reads 
     let there = sym (gate_there file window rest (file_of file.no t) f) ∙ stands in
     (there, sym (first_there taken file window rest t f held there) ∙ reads)
 
+pub begun_none : (file : SizedFile) (window : Window) (rest : List ℕ) (told : Option Told) → Spans file 0 window → Sees file told window → IfSome told (λ t. FrontHeld (end_of window) (file_of file.no t))
+    → rest ≡ drop (0 - window.start) window.bytes.items → has_open_gate rest ≡ false → IfSome told (λ t. has_open_gate (file_of file.no t) ≡ false)
+begun_none file window rest None spans sees held is stands = tt
+begun_none file window rest (Some t) spans sees held is stands = sym (gate_there file window rest (file_of file.no t) (held_front file window rest t spans sees held is)) ∙ stands
+
+pub shut_there : (shut : Bool) (file : SizedFile) (window : Window) (rest : List ℕ) (told : Option Told) → Spans file 0 window → Sees file told window → IfSome told (λ t. FrontHeld (end_of window) (file_of file.no t))
+    → rest ≡ drop (0 - window.start) window.bytes.items → shut ≡ is_shut rest → IfSome told (λ t. shut ≡ is_shut (file_of file.no t))
+shut_there shut file window rest None spans sees held is same = tt
+shut_there shut file window rest (Some t) spans sees held is same =
+    let f = held_front file window rest t spans sees held is in
+    same ∙ (ap (λ (l : List ℕ). is_shut l) f.piece ∙ (gate_held (end_of window) (file_of file.no t) f.fields).1)
+
 pub open_not_shut : (bytes : List ℕ) → has_open_gate bytes ≡ true → false ≡ is_shut bytes
 open_not_shut bytes stands = grind (arith, nat_tests)
 

@@ -1,5 +1,5 @@
--- What happens to a journal: calls that work on it, one after another, and stops of the machine at
--- any moment of them.
+-- What happens to a journal: calls that work on it, one after another, and crashes of the machine at any
+-- point.
 use Rattle.std.specs.Prelude.{◌≡◌, ℕ, ◌⊎◌, List, [], ◌∷◌, ◌++◌, fold, Option, None, Some}
 use Rattle.board_core.specs.Clock.{LeftNow, Adds}
 use Rattle.board_core.specs.Doing.{Does, Ended, IsMade, Seen, went_well}
@@ -23,8 +23,8 @@ pub data JournalCall : Type 0 where
   a_switch : JournalCall
   an_opening : JournalCall
 
--- What happened to a journal so far, the latest last: a call was answered Ok; or it was cut, by a
--- stop of the machine at any moment of it or by a fault; or a stop came between two calls.
+-- What has happened to a journal so far, the latest last: a call returned Ok; or it was cut, by a crash of
+-- the machine at any point or by a fault; or a crash came between two calls.
 pub data Life : Type 0 where
   start : Life
   done : Life → JournalCall → Life
@@ -35,8 +35,8 @@ pub data Life : Type 0 where
 abbrev pub account_after_links : State → List (List Entry) → State
 account_after_links account links = fold account_after_all account links
 
--- The links that count, each by its entries: all whose append was answered Ok, in order. A link
--- whose append was cut counts or doesn't.
+-- The links that count, each by its entries: all whose append returned Ok, in order. A link whose append was
+-- cut counts or doesn't.
 abbrev pub AreKept : Life → List (List Entry) → Type 0
 AreKept start links = links ≡ []
 AreKept (done life (an_append entries)) links = (front : List (List Entry)) × AreKept life front × (links ≡ front ++ entries ∷ [])
@@ -52,7 +52,7 @@ pub record Continues (account : State) (life : Life) (now : State) : Type 0 wher
   pub kept : AreKept life links
   pub is : now ≡ account_after_links account links
 
--- A stop leaves files that give such an account, and so are never damaged.
+-- A crash leaves files that give such an account, and so are never damaged.
 pub record RecoversBehind (account : State) (life : Life) (left : Left) : Type 0 where
   pub now : State
   pub continues : Continues account life now
@@ -64,20 +64,20 @@ with_links history links = fold with_entries history links
 
 -- ---- what one call does
 
--- a board, and where the journal stands that is open on it, if one is
+-- a board, and the position of the journal that is open on it, if one is
 pub record Site (B : Type 0) : Type 0 where
   pub board : B
   pub journal : Option Standing
 
--- a board on which a journal is open that stands there
+-- a board on which a journal is open at this position
 abbrev pub open_site : {B : Type 0} → B → Standing → Site B
 open_site board standing = record { board = board; journal = Some standing }
 
--- an account that the files hold
+-- the files give this account
 abbrev pub IsHeld : Option Told → State → Type 0
 IsHeld told account = (t : Told) → told ≡ Some t → Recovers account t.here
 
--- a link of these entries, by which the account that the files hold can be continued
+-- a link of these entries, which can continue the account that the files give
 abbrev pub CanLinkHere : Option Told → List Entry → List ℕ → Type 0
 CanLinkHere told entries link = (account : State) (t : Told) → told ≡ Some t → Recovers account t.here → Links account entries link
 
@@ -88,20 +88,20 @@ pub record CallsAppend {B : Type 0} (see : B → Seen) (entries : List Entry) (s
   pub journal : site.journal ≡ Some standing
   pub links : CanLinkHere (see site.board).told entries link
 
--- a switch is called, with the account that the files hold
+-- a switch is called, with the account that the files give
 pub record CallsSwitch {B : Type 0} (see : B → Seen) (site : Site B) : Type 0 where
   pub standing : Standing
   pub account : State
   pub journal : site.journal ≡ Some standing
   pub held : IsHeld (see site.board).told account
 
--- an opening is called, of a board that tells
+-- an opening is called, of a modelled board
 pub record CallsOpening {B : Type 0} (see : B → Seen) (site : Site B) : Type 0 where
   pub there : Told
   pub tells : (see site.board).told ≡ Some there
 
--- A call is at work, or has answered, whatever it was: an append and a switch do their acts, or
--- begin them; and of what stops leave of an opening the function's clause says this.
+-- A call is in progress, or has returned, whatever it returned: an append and a switch do their acts, or
+-- begin them. What crashes leave of an opening is what the function's clause says.
 abbrev pub Works : {B : Type 0} → (B → Seen) → JournalCall → Site B → B → Type 0
 Works see (an_append entries) old new =
     (c : CallsAppend see entries old) × (ended : Ended) × (IsMade ended → HasRoom c.standing c.link)
@@ -112,7 +112,7 @@ Works see a_switch old new =
 Works see an_opening old new =
     (c : CallsOpening see old) × Adds (Opening (see old.board).clock c.there.here) (see old.board).clock (see new).clock
 
--- an opening was answered Ok, with this account
+-- an opening returned Ok, with this account
 pub record OpensJournal {B : Type 0} (see : B → Seen) (account : State) (old new : Site B) : Type 0 where
   pub call : CallsOpening see old
   pub standing : Standing
@@ -120,7 +120,7 @@ pub record OpensJournal {B : Type 0} (see : B → Seen) (account : State) (old n
   pub is : IsOpened standing account (see new.board).told (see new.board).clock
   pub journal : new.journal ≡ Some standing
 
--- A call was answered Ok: an append and a switch have done their acts, and the journal stands there.
+-- A call returned Ok: an append and a switch have done their acts, and the journal has this position.
 abbrev pub IsAnswered : {B : Type 0} → (B → Seen) → JournalCall → Site B → Site B → Type 0
 IsAnswered see (an_append entries) old new =
     (c : CallsAppend see entries old) × (new.journal ≡ Some (standing_with c.standing c.link)) × HasRoom c.standing c.link
@@ -130,30 +130,30 @@ IsAnswered see a_switch old new =
     × Does see (switch_acts c.standing c.account) went_well old.board new.board
 IsAnswered see an_opening old new = (account : State) × OpensJournal see account old new
 
--- ---- stops
+-- ---- crashes
 
--- The machine was started again over what a stop left: the board tells that, a stop now leaves just
--- that, and no journal is open.
+-- The machine was started again over what a crash left: the board's model says that, a crash now leaves
+-- exactly that, and no journal is open.
 pub record StartsOver {B : Type 0} (see : B → Seen) (left : Left) (site : Site B) : Type 0 where
   pub rests : RestsHere left (see site.board).told (see site.board).clock
   pub journal : site.journal ≡ None
 
--- A life begins here with this account: the machine was started over files that give it, or a
--- journal is open that holds it.
+-- A life begins here with this account: the machine was started over files that give it, or an open journal
+-- has it.
 abbrev pub BeginsWith : {B : Type 0} → (B → Seen) → State → Site B → Type 0
 BeginsWith see account site =
     ((here : Left) × Recovers account here × StartsOver see here site)
     ⊎ ((standing : Standing) × (site.journal ≡ Some standing) × IsOpened standing account (see site.board).told (see site.board).clock)
 
--- A call was cut: by a stop at any moment of it, and the machine was started again; or by a fault,
--- and then no journal is open on the board.
+-- A call was cut: by a crash at any point, after which the machine was started again; or by a fault, after
+-- which no journal is open on the board.
 abbrev pub IsCut : {B : Type 0} → (B → Seen) → JournalCall → Site B → Site B → Type 0
 IsCut {B} see call old new =
     (board : B) × Works see call old board
     × (((left : Left) × (see board).clock.may_leave_since (see old.board).clock.now left × StartsOver see left new)
     ⊎ (new ≡ record { board = board; journal = None }))
 
--- a stop came between two calls, and the machine was started again
+-- a crash came between two calls, and the machine was started again
 abbrev pub IsStopped : {B : Type 0} → (B → Seen) → Site B → Site B → Type 0
 IsStopped see old new = (left : Left) × LeftNow (see old.board).clock left × StartsOver see left new
 

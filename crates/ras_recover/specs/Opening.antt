@@ -16,39 +16,38 @@ use Rattle.ras_recover.specs.Formatting.{behind_gate, formatting_acts}
 use Rattle.ras_recover.specs.declared.refused.OpenRefused.{OpenRefused}
 use Rattle.ras_recover.specs.declared.refused.OpenRefused.TheVariants.{Damaged, TooLong}
 
--- no file stands: this account is recovered, and there is no position
+-- no file is valid: this account is recovered, and there is no position
 pub record HoldsNone (account : State) (here : Left) : Type 0 where
   pub recovers : recovered here.file0 here.file1 ≡ Ok account
   pub none : position_of here.file0 here.file1 ≡ None
 
--- While file 0 is formatted, since no file stands, whatever a stop leaves recovers the empty account, and
--- neither file, if it stands, has more than 256 links. All but file 0 is as it was.
+-- While file 0 is formatted, because no file is valid, whatever a crash leaves gives the empty account, and
+-- no valid file has more than 256 links. All but file 0 is as it was.
 pub record FormatsFirst (here left : Left) : Type 0 where
   pub none : HoldsNone (account_of empty) here
   pub recovers : Recovers (account_of empty) left
   pub few : HasFewLinks left
   pub rest : left ≡ with_file_in Zero left.file0 here
 
--- what holds if an opening is refused for what the files hold
+-- what holds if an opening is refused for what the files contain
 abbrev pub OnRefusal : OpenRefused → Type 0 → Type 0
 OnRefusal TooLong P = P
 OnRefusal (Damaged file place) P = P
 OnRefusal why P = ⊤
 
--- While a journal is opened, a stop leaves what a stop before may have left, or file 0 is being
--- formatted.
+-- During an opening, a crash leaves what a crash before may have left, or file 0 is being formatted.
 abbrev pub Opening : Clock → Left → Left → Type 0
 Opening clock here left = LeftNow clock left ⊎ FormatsFirst here left
 
--- the files hold this account at this standing, and a stop leaves just what is told
+-- the files give this account at this position, and a crash leaves exactly what the model says
 pub record IsOpened (standing : Standing) (account : State) (told : Option Told) (clock : Clock) : Type 0 where
   pub there : Told
   pub before : Before standing account there told clock
 
 -- ---- what is written
 
--- After its recovery an opening formats file 0 with the empty account as generation 1, if no file
--- stands; else it writes nothing.
+-- After its recovery an opening formats file 0 with the empty account as generation 1, if no file is valid.
+-- Otherwise it writes nothing.
 abbrev pub acts_behind : Left → Result (Option JournalFile) Refusal → List Act
 acts_behind here (Ok None) =
     formatting_acts Zero (is_shut here.file0) (behind_gate 1 (checkpoint_bytes Two (account_of empty)))
@@ -58,7 +57,7 @@ acts_behind here (Err why) = []
 abbrev pub opening_acts : Left → List Act
 opening_acts here = acts_behind here (journal_of here.file0 here.file1)
 
--- ---- where the journal stands
+-- ---- the journal's position
 
 -- the first generation in file 0, with the empty account as its checkpoint, beside this file 1
 abbrev pub first_standing : List ℕ → Standing
@@ -71,6 +70,6 @@ first_standing file1 = record {
   shut = is_shut file1;
 }
 
--- the position of the two files, or if no file stands the first generation
+-- the position of the two files, or the first generation if no file is valid
 abbrev pub standing_opened : List ℕ → List ℕ → Standing
 standing_opened file0 file1 = unwrap_or (position_of file0 file1) (first_standing file1)

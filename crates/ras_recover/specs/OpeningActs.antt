@@ -9,29 +9,29 @@ use Rattle.ras_recover.specs.DiskCalls.{with_calls}
 use Rattle.ras_recover.specs.Opening.{opening_acts}
 use Rattle.ras_recover.specs.OpeningCalls.{AfterOpening, AfterRecovery, IsRecoveryOf, MakesOpening}
 
--- The journal is opened over the files that are here: all that counts of them is read, and if no
--- file stands file 0 is formatted.
+-- The journal is opened over the files that are here: everything that counts of them is read, and file 0 is
+-- formatted if no file is valid.
 pub record AreOpeningActs (here : Left) (acts : List Act) : Type 0 where
   pub recovery : List DiskCall
   pub recovers : IsRecoveryOf here recovery
   pub is : acts ≡ map calls recovery ++ opening_acts here
 
--- All that counts of the files was read, and then a call failed that formats file 0: it is one of
--- these acts, and the last that was begun.
+-- Everything that counts of the files was read, and then a call of the formatting failed: it is one of these
+-- acts, and the last that was begun.
 pub record FailsFormatting (old new : Told) : Type 0 where
   pub recovery : List DiskCall
   pub recovers : IsRecoveryOf old.here recovery
   pub fails : FailsActs disk_call (opening_acts old.here) (with_calls recovery old) new
 
--- What an opening leaves that wasn't answered Ok: nothing was written; or if it Failed, which is that
--- a disk call failed, this may be one of the formatting's.
+-- What an opening leaves that didn't return Ok: nothing was written; or, if a disk call failed (Failed), that
+-- call may be one of the formatting.
 abbrev pub LeavesUnopened : Type 0 → Told → Told → Type 0
 LeavesUnopened Failed old new = AfterRecovery old new ⊎ (Failed × FailsFormatting old new)
 
--- What an opening does: whatever it answers all is told as before, but for file 0 if no file stands, and
--- its disk calls are those of an opening or a beginning of them. Once it has answered Ok, all that counts
--- of the files was read, and exactly the formatting was written. Else nothing was written, unless a disk
--- call failed that formats file 0.
+-- What an opening does. Whatever it returns, the model says the same as before, except of file 0 if no file
+-- is valid, and the disk calls are the calls of an opening or a beginning of them. After Ok, everything that
+-- counts of the files was read, and exactly the formatting was written. Otherwise nothing was written, unless
+-- a disk call of the formatting failed.
 pub record DoesOpening {T E : Type 0} (IsFault : E → Type 0) (result : Result T E) (before now : Option Told) : Type 0 where
   pub told : Relates AfterOpening before now
   pub whole : OnOk result (Relates MakesOpening before now)

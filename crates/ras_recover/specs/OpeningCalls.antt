@@ -1,5 +1,5 @@
--- The disk calls of a recovery and of an opening, and what these change of what a board tells,
--- whatever they answer.
+-- The disk calls of a recovery and of an opening, and how these change what a board's model says, whatever is
+-- returned.
 use Rattle.std.specs.Prelude.{◌≡◌, ℕ, ◌≤◌, ◌⊎◌, List, ◌∷◌, ◌++◌, All, Any, Option, Some, Ok}
 use Rattle.board_core.specs.declared.board.FileNo.{FileNo}
 use Rattle.board_core.specs.declared.board.FileNo.TheVariants.{Zero, One}
@@ -14,47 +14,48 @@ use Rattle.ras_journal.specs.File.{FileFront, front_of}
 use Rattle.ras_recover.specs.DiskCalls.{IsReading, ReadsPlace, Makes, IsBeginning, with_calls}
 use Rattle.ras_recover.specs.Opening.{HoldsNone, opening_acts}
 
--- A whole recovery: both files are synced, and then there are Size and ReadAt calls alone.
+-- A whole recovery: both files are synced, and then there are only Size and ReadAt calls.
 pub record IsRecovery (calls : List DiskCall) : Type 0 where
   pub reading : List DiskCall
   pub is : calls ≡ Sync Zero ∷ Sync One ∷ reading
   pub alone : All IsReading reading
 
--- If a file stands, each of its places from 0 up to and with its closed gate lies in the range
--- of one of these reads, whatever generation the other file has taken.
+-- If a file is valid, one of these reads covers each offset from 0 up to and including its closed gate,
+-- whatever generation the other file has taken.
 abbrev pub ReadsStanding : FileNo → List ℕ → List DiskCall → Type 0
 ReadsStanding file bytes calls =
     (taken : Option ℕ) (front : FileFront) (place : ℕ)
     → front_of taken bytes ≡ Ok (Some front) → place ≤ front.gate → Any (ReadsPlace file place) calls
 
+-- These calls read both files up to their closed gates, if the files are valid.
 pub record ReadsBoth (here : Left) (calls : List DiskCall) : Type 0 where
   pub zero : ReadsStanding Zero here.file0 calls
   pub one : ReadsStanding One here.file1 calls
 
--- Each place of a file from 0 up to and with the last one lies in the range of one of these reads.
+-- One of these reads covers each offset of a file from 0 up to and including this one.
 abbrev pub ReadsTo : FileNo → ℕ → List DiskCall → Type 0
 ReadsTo file last calls = (place : ℕ) → place ≤ last → Any (ReadsPlace file place) calls
 
--- a whole recovery over files of these bytes: all that counts of them is read
+-- a whole recovery over files of these bytes: everything that counts of them is read
 pub record IsRecoveryOf (here : Left) (calls : List DiskCall) : Type 0 where
   pub recovery : IsRecovery calls
   pub reads : ReadsBoth here calls
 
--- A whole opening: such a recovery, and then the calls of the formatting, if no file stands.
+-- A whole opening: such a recovery, and then the calls of the formatting, if no file is valid.
 pub record IsOpening (here : Left) (calls : List DiskCall) : Type 0 where
   pub recovery : List DiskCall
   pub recovers : IsRecoveryOf here recovery
   pub is : calls ≡ recovery ++ calls_of (opening_acts here)
 
--- An opening was answered Ok: it made such a recovery, and then did just what it writes.
+-- An opening returned Ok: it made such a recovery, and then exactly its writes.
 pub record MakesOpening (old new : Told) : Type 0 where
   pub recovery : List DiskCall
   pub recovers : IsRecoveryOf old.here recovery
   pub is : new ≡ after_acts (opening_acts old.here) (with_calls recovery old)
 
--- ---- what is told afterwards, whatever the answer is
+-- ---- the model afterwards, whatever is returned
 
--- after a recovery: the calls of one were made, all of them or a beginning, and that is all
+-- after a recovery: its calls were made, all of them or a beginning, and nothing else changed
 pub record AfterRecovery (old new : Told) : Type 0 where
   pub file0 : new.here.file0 ≡ old.here.file0
   pub file1 : new.here.file1 ≡ old.here.file1
@@ -64,7 +65,7 @@ pub record AfterRecovery (old new : Told) : Type 0 where
   pub accesses : new.accesses ≡ old.accesses
   pub calls : Makes (IsBeginning IsRecovery) old new
 
--- after an opening: the same, but only if no file stands file 0 may have changed
+-- after an opening: as after a recovery, except that file 0 may have changed if no file is valid
 pub record AfterOpening (old new : Told) : Type 0 where
   pub file0 : (new.here.file0 ≡ old.here.file0) ⊎ HoldsNone (account_of empty) old.here
   pub file1 : new.here.file1 ≡ old.here.file1

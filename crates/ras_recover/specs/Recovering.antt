@@ -1,4 +1,4 @@
--- What recovery answers, and what it leaves of the files.
+-- What recovery returns, and what it leaves of the files.
 use Rattle.std.specs.Prelude.{◌≡◌, ℕ, Option, Result, Ok, Err}
 use Rattle.std.specs.Option.{option_map}
 use Rattle.board_core.specs.declared.board.FileNo.{FileNo}
@@ -17,7 +17,7 @@ abbrev pub file_number : FileNo → ℕ
 file_number Zero = 0
 file_number One = 1
 
--- the file of this number is damaged at a place
+-- the file with this number is damaged at this offset
 pub record IsDamagedAt {A : Type 0} (number place : ℕ) (held : Result A Refusal) : Type 0 where
   pub file : FileNo
   pub number_is : number ≡ file_number file
@@ -30,21 +30,21 @@ RefusesHeld (Damaged file place) held = IsDamagedAt file place held
 RefusesHeld Disk held = Unit {0}
 RefusesHeld NoMemory held = Unit {0}
 
--- What is answered is what the files hold, seen so, or why they are refused.
+-- What is returned is what the files contain, seen so, or why they are refused.
 abbrev pub TellsHeld : {T A : Type 0} → (T → A) → Result T OpenRefused → Result A Refusal → Type 0
 TellsHeld view (Ok x) held = held ≡ Ok (view x)
 TellsHeld view (Err refused) held = RefusesHeld refused held
 
 -- ---- what a recovery leaves
 
--- The board tells the same of files, store and text as before. Whatever a stop leaves is what a
--- stop before may have left.
+-- The board's model says the same of files, store and text as before. Whatever a crash leaves is what a crash
+-- before may have left.
 pub record KeepsTold (told_old : Option Told) (old : Clock) (told_new : Option Told) (new : Clock) : Type 0 where
   pub here : option_map (λ (t : Told). t.here) told_new ≡ option_map (λ (t : Told). t.here) told_old
   pub stops : Adds (LeftNow old) old new
   pub ends : (left : Left) → LeftNow new left → LeftNow old left
 
--- A stop now leaves just this, and it is what the board tells.
+-- A crash now leaves exactly this, and it is what the board's model says.
 pub record RestsHere (here : Left) (told : Option Told) (clock : Clock) : Type 0 where
   pub there : Told
   pub same : there.here ≡ here
@@ -55,7 +55,7 @@ abbrev pub UnlessDisk : {T : Type 0} → Result T OpenRefused → Type 0 → Typ
 UnlessDisk (Err Disk) P = Unit {0}
 UnlessDisk result P = P
 
--- Only a disk call that failed is a fault of the disk.
+-- Only a failed disk call is a fault of the disk.
 abbrev pub open_failure : {T : Type 0} → Result T OpenRefused → Result (Unit {0}) OpenRefused
 open_failure (Ok x) = Ok tt
 open_failure (Err Disk) = Err Disk
@@ -63,12 +63,13 @@ open_failure (Err TooLong) = Ok tt
 open_failure (Err (Damaged file place)) = Ok tt
 open_failure (Err NoMemory) = Ok tt
 
--- Disk comes if a disk call failed. Each other refusal comes from a call that goes no further.
+-- Disk comes if a disk call failed. Each other refusal comes from a call that gave up.
 abbrev pub open_refused_end : OpenRefused → Ended
 open_refused_end Disk = broke disk_call
 open_refused_end TooLong = gave_up
 open_refused_end (Damaged file place) = gave_up
 open_refused_end NoMemory = gave_up
 
+-- how a recovery or an opening ended
 abbrev pub open_end : {T : Type 0} → Result T OpenRefused → Ended
 open_end result = ended_by open_refused_end result

@@ -1,4 +1,4 @@
--- What only proofs use: no public clause comes to it.
+-- What only proofs use: no public clause refers to it.
 pub mod Reading
 pub mod Looking
 pub mod Windows

@@ -1,4 +1,4 @@
--- What a switch of the journal to the other file does, and what stops leave of it at every moment.
+-- What a switch of the journal to the other file does, and what a crash leaves of it at every point.
 use Rattle.std.specs.Prelude.{◌≡◌, ℕ, ◌+◌, ◌<◌, ◌≤◌, Bool, true, false, nat_lt, nat_le, ◌||◌, IsTrue, List, length, Result, Ok, Err}
 use Rattle.board_core.specs.Cause.{disk_call}
 use Rattle.board_core.specs.Doing.{Act, Ended, after_acts, broke, ended_by, gave_up}
@@ -16,8 +16,8 @@ use Rattle.ras_recover.specs.declared.refused.SwitchRefused.{SwitchRefused}
 use Rattle.ras_recover.specs.declared.refused.SwitchRefused.TheVariants.{Full, Disk, NoMemory}
 use Rattle.ras_recover.specs.Formatting.{behind_gate, formatting_acts}
 
--- where the journal stands once it is switched: in the other file, with the next generation, after
--- the checkpoint of the account, with no link
+-- the journal's position after a switch: in the other file, with the next generation, after the checkpoint of
+-- the account, with no link
 abbrev pub switched : Standing → State → Standing
 switched standing account = record {
   file = other standing.file;
@@ -32,26 +32,27 @@ switched standing account = record {
 abbrev pub next_bytes : Standing → State → List ℕ
 next_bytes standing account = behind_gate (standing.generation + 1) (checkpoint_bytes Two account)
 
+-- the acts of a switch: the other file is formatted
 abbrev pub switch_acts : Standing → State → List Act
 switch_acts standing account = formatting_acts (other standing.file) standing.shut (next_bytes standing account)
 
--- what is told once it is done
+-- what the model says after a switch
 abbrev pub after_switch : Standing → State → Told → Told
 after_switch standing account t = after_acts (switch_acts standing account) t
 
--- There is no room for a switch if the last generation is reached, or the other file with this
--- link would be too long.
+-- There is no room for a switch if the journal has the last generation, or if the other file with this link
+-- would be too long.
 abbrev pub has_no_room : Standing → State → List ℕ → Bool
 has_no_room standing account link =
     nat_le LAST_GENERATION standing.generation
     || nat_lt LONGEST_FILE (length_with (switched standing account) link)
 
--- Full comes exactly if there is no room.
+-- Full comes if and only if there is no room.
 abbrev pub IsFullBy : Result (Unit {0}) SwitchRefused → Bool → Type 0
 IsFullBy (Err Full) lacks = IsTrue lacks
 IsFullBy result lacks = ¬ IsTrue lacks
 
--- Full and NoMemory come before any call, and Disk if a disk call failed.
+-- Full and NoMemory come before any call, Disk if a disk call failed.
 abbrev pub switch_refused_end : SwitchRefused → Ended
 switch_refused_end Full = gave_up
 switch_refused_end Disk = broke disk_call
@@ -60,22 +61,22 @@ switch_refused_end NoMemory = gave_up
 abbrev pub switch_end : Result (Unit {0}) SwitchRefused → Ended
 switch_end result = ended_by switch_refused_end result
 
--- What becomes of a journal that is switched, this being its next standing: if a disk call
--- failed it has failed.
+-- What happens to a journal that is switched, if `next` is its next position: if a disk call failed, the
+-- journal has failed.
 abbrev pub MovesOver : Result (Unit {0}) SwitchRefused → Standing → JournalView → JournalView → Type 0
 MovesOver (Ok done) next old new = new ≡ record { standing = next; failed = false }
 MovesOver (Err Full) next old new = new ≡ old
 MovesOver (Err NoMemory) next old new = new ≡ old
 MovesOver (Err Disk) next old new = new ≡ record old { failed = true }
 
--- A switch can be made: there is a next generation, room for the account, and its checkpoint is one.
+-- A switch can be made: there is a next generation, room for the account, and a checkpoint of it.
 pub record CanSwitch (standing : Standing) (account : State) : Type 0 where
   pub generation : standing.generation < LAST_GENERATION
   pub room : 27 + length (checkpoint_bytes Two account) ≤ LONGEST_FILE
   pub is : IsCheckpoint Two account (checkpoint_bytes Two account)
 
--- While a journal is switched, whatever a stop leaves recovers the account. All but the other file
--- is as it was.
+-- While a journal is switched, whatever a crash leaves gives the account. All but the other file is as it
+-- was.
 pub record Switching (standing : Standing) (account : State) (here left : Left) : Type 0 where
   pub recovers : Recovers account left
   pub rest : left ≡ with_file_in (other standing.file) (file_in (other standing.file) left) here

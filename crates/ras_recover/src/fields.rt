@@ -1,18 +1,20 @@
-//! The fields of a journal file.
+//! Reads the fields of a journal file.
 ghost use Rattle.std.specs.Prelude.{◌≡◌, ◌+◌, ◌^◌, ◌<◌, ◌≤◌, length, None, Some, IfSome, IfOk, OnOk};
+ghost use Rattle.journal_format.specs.Checkpoints.{IsCheckpoint};
 ghost use Rattle.journal_format.specs.CheckpointReading.{checkpoint_of};
 ghost use Rattle.ras_journal.specs.Fields.{part, field, version_of, generation_of, number_of, is_open_of};
 ghost use Rattle.ras_recover.specs.Steps.Reading.{AnswersFront};
 
 use crate::place::Unread;
 use entry_format::Version;
-use journal_format::{CheckpointRefused, read_checkpoint};
+use journal_format::{CheckpointRefused, is_checkpoint_of, read_checkpoint};
 use ras_account::Account;
+use ras_base::NoMemory;
 use ras_base::little_endian::{u32_at, u64_at};
 use ras_journal::{LAST_GENERATION, OPEN_GATE};
 use std::alloc::Global;
 
-// `count` bytes of a file from a place on, if the file's end doesn't cut them.
+// Returns `count` bytes of a file from an offset on, if the file has so many bytes there.
 #[tactic(auto, unfolding(ras_journal::specs::Fields::part))]
 pub(crate) fn part<'a>(place: usize, count: u64, file: &'a [u8]) -> Option<&'a [u8]>
     ensures some { IfSome result (λ bytes. part place count file.now ≡ Some bytes.now) }
@@ -27,7 +29,7 @@ pub(crate) fn part<'a>(place: usize, count: u64, file: &'a [u8]) -> Option<&'a [
     }
 }
 
-// The version that a magic names.
+// Returns the version that a magic names.
 fn version_of(bytes: &[u8]) -> Option<Version>
     ensures { result ≡ version_of bytes.now }
 {
@@ -40,7 +42,7 @@ fn version_of(bytes: &[u8]) -> Option<Version>
     }
 }
 
-// The version at the place of the magic.
+// Returns the version by the magic at its offset.
 #[tactic(auto, unfolding(ras_journal::specs::Fields::field))]
 pub(crate) fn version_at(file: &[u8]) -> Result<Version, usize>
     ensures { result ≡ field version_of 1 8 file.now }
@@ -54,7 +56,7 @@ pub(crate) fn version_at(file: &[u8]) -> Result<Version, usize>
     }
 }
 
-// The generation, if it is one and the other file hasn't taken it.
+// Returns the generation, if the number is one and the other file doesn't have it.
 #[tactic(auto, unfolding(ras_journal::specs::Fields::field))]
 pub(crate) fn generation_at(taken: Option<u64>, file: &[u8]) -> Result<u64, usize>
     ensures { result ≡ field (generation_of taken) 9 8 file.now }
@@ -70,7 +72,7 @@ pub(crate) fn generation_at(taken: Option<u64>, file: &[u8]) -> Result<u64, usiz
     }
 }
 
-// The number of the checkpoint's bytes.
+// Returns the number of the checkpoint's bytes.
 #[tactic(auto, unfolding(ras_journal::specs::Fields::field))]
 pub(crate) fn checkpoint_count_at(file: &[u8]) -> Result<u64, usize>
     ensures { result ≡ field (number_of 8) 17 8 file.now }
@@ -81,7 +83,7 @@ pub(crate) fn checkpoint_count_at(file: &[u8]) -> Result<u64, usize>
     }
 }
 
-// Whether the gate at a place is open.
+// Returns whether the gate at an offset is open.
 #[tactic(auto, unfolding(ras_journal::specs::Fields::field))]
 pub(crate) fn is_open_at(gate: usize, file: &[u8]) -> Result<bool, usize>
     ensures read { result ≡ field is_open_of gate 1 file.now }
@@ -93,7 +95,7 @@ pub(crate) fn is_open_at(gate: usize, file: &[u8]) -> Result<bool, usize>
     }
 }
 
-// The number of the payload's bytes at a place.
+// Returns the number of the payload's bytes at an offset.
 #[tactic(auto, unfolding(ras_journal::specs::Fields::field))]
 pub(crate) fn payload_count_at(place: usize, file: &[u8]) -> Result<u64, usize>
     ensures read { result ≡ field (number_of 4) place 4 file.now }
@@ -106,10 +108,37 @@ pub(crate) fn payload_count_at(place: usize, file: &[u8]) -> Result<u64, usize>
     }
 }
 
-// The account of a checkpoint of `count` bytes.
+// Returns the account that was given, if the bytes are its checkpoint.
+fn account_there(
+    alloc: Global,
+    version: Version,
+    before: Option<Account>,
+    bytes: &[u8],
+) -> Result<Option<Account>, NoMemory>
+    ensures { IfOk result (λ found. IfSome found
+        (λ account. IsCheckpoint version account.state bytes.now)) }
+{
+    let Some(account) = before else {
+        return Ok(None);
+    };
+    match version {
+        Version::One => Ok(None),
+        Version::Two => {
+            if is_checkpoint_of(alloc, &account, bytes)? {
+                Ok(Some(account))
+            } else {
+                Ok(None)
+            }
+        }
+    }
+}
+
+// Returns the account of a checkpoint of `count` bytes. If it is the account with which the other
+// file ended, as after a switch, that account is continued and no second one is made.
 pub(crate) fn checkpoint_at(
     alloc: Global,
     version: Version,
+    before: Option<Account>,
     count: u64,
     file: &[u8],
 ) -> Result<Account, Unread>
@@ -119,6 +148,11 @@ pub(crate) fn checkpoint_at(
     let Some(bytes) = part(25, count, file) else {
         return Err(Unread::Damaged(25));
     };
+    match account_there(alloc, version, before, bytes) {
+        Ok(Some(account)) => return Ok(account),
+        Ok(None) => {}
+        Err(NoMemory) => return Err(Unread::NoMemory),
+    }
     match read_checkpoint(alloc, version, bytes) {
         Ok(account) => Ok(account),
         Err(CheckpointRefused::Bad) => Err(Unread::Damaged(25)),

@@ -1,4 +1,4 @@
-//! One journal file.
+//! Reads one journal file.
 ghost use Rattle.std.specs.Prelude.{◌≡◌, ℕ, ◌+◌, ◌-◌, ◌^◌, ◌≤◌, min, true, length, None, Ok, IfSome, IfOk, OnOk};
 ghost use Rattle.entry_format.specs.declared.version.Version.{Version};
 ghost use Rattle.ras_journal.specs.Fields.{field, number_of, version_of};
@@ -13,25 +13,27 @@ use ras_account::Account;
 use ras_journal::OPEN_GATE;
 use std::alloc::Global;
 
-// Whether a file stands.
+// Returns whether a file is valid: its gate at the front is open.
 pub(crate) fn has_open_gate(file: &[u8]) -> bool
     ensures { result ≡ has_open_gate file.now }
 {
     file.len() > 1 && file[0] == OPEN_GATE
 }
 
-// Whether a file is longer than 1 byte and its byte 0 is no open gate.
+// Returns whether a file is longer than 1 byte and has no open gate at its front.
 pub(crate) fn is_shut(file: &[u8]) -> bool
     ensures { result ≡ is_shut file.now }
 {
     file.len() > 1 && file[0] != OPEN_GATE
 }
 
-// The place of the first gate of the chain, and the account of the checkpoint.
+// Returns the offset of the chain's first gate, and the account of the checkpoint. `account` may be
+// the account with which the other file ended.
 #[tactic(auto, unfolding(ras_journal::specs::File::first_front))]
 pub(crate) fn first_place(
     alloc: Global,
     taken: Option<u64>,
+    before: Option<Account>,
     file: &[u8],
 ) -> Result<(Place, Account), Unread>
     ensures read { AnswersFront (λ r. front_at r.0 r.1.state) result (first_front taken file.now) }
@@ -50,7 +52,7 @@ pub(crate) fn first_place(
         Ok(count) => count,
         Err(at) => return Err(Unread::Damaged(at)),
     };
-    match checkpoint_at(alloc, version, count, file) {
+    match checkpoint_at(alloc, version, before, count, file) {
         Ok(account) => {
             let gate = CHECKPOINT_PLACE + count as usize;
             let place = Place {
@@ -66,7 +68,8 @@ pub(crate) fn first_place(
     }
 }
 
-// How many bytes a file takes up to the end of its checkpoint, if it stands and tells.
+// Returns how many bytes a file has up to the end of its checkpoint, if the file is valid and its
+// front is complete.
 pub(crate) fn front_len(file: &[u8]) -> Option<usize>
     ensures some { IfSome result (λ n. (count : ℕ)
         → field (number_of 8) 17 8 file.now ≡ Ok count → n ≡ min (2 ^ 64 - 1) (25 + count)) }

@@ -1,4 +1,4 @@
-//! A new generation of the journal over a file.
+//! Writes a new generation of the journal over a file.
 ghost use Rattle.std.specs.Prelude.{◌≡◌, min, length, IfOk, IfSome};
 ghost use Rattle.board_core.specs.Cause.{disk_call};
 ghost use Rattle.board_core.specs.Doing.{Does, looks, one_end};
@@ -19,13 +19,13 @@ use std::alloc::Global;
 /// The magic of a file of version 2.
 const MAGIC: &[u8; 8] = b"RASJRNL2";
 
-/// How many bytes are written beside the checkpoint: the magic, the generation, the number of the
+/// The number of bytes written beside the checkpoint: the magic, the generation, the number of the
 /// checkpoint's bytes, and the closed gate.
 const BYTES_BESIDE_CHECKPOINT: usize = 25;
 
-// What is written after the gate at the front of a file, with the checkpoint of this account, which
-// has `count` bytes. Room for all of it is taken once. The caller has that number already, and to work
-// it out again each name would be looked at.
+// Returns what is written after the gate at a file's front, with the checkpoint of this account,
+// which has `count` bytes. Allocates all of it at once. The caller passes the number because
+// computing it again would take a look at each name.
 pub(crate) fn next_bytes(
     alloc: Global,
     generation: u64,
@@ -48,7 +48,7 @@ pub(crate) fn next_bytes(
     Ok(bytes)
 }
 
-// Closes the gate at the front of a file and syncs it, if the file isn't shut already.
+// Closes the gate at the front of a file and syncs the file, unless the file is shut already.
 fn close_gate<B: Board>(file: FileNo, shut: bool, board: &mut B) -> Result<(), Failed>
     ensures does { Does (looks B.told B.clock B.faults) (closing_acts file shut)
         (one_end disk_call result) board.old board.new }
@@ -59,8 +59,8 @@ fn close_gate<B: Board>(file: FileNo, shut: bool, board: &mut B) -> Result<(), F
     write_through(file, 0, &[CLOSED_GATE], board)
 }
 
-// Writes these bytes after the gate at the front of a file, so that the gate is closed until they
-// are synced, and opens it then: four or six disk calls.
+// Writes these bytes after the gate at the front of a file, with the gate closed until they are
+// synced, and then opens the gate: four or six disk calls.
 pub(crate) fn format_file<B: Board>(
     file: FileNo,
     shut: bool,

@@ -1,4 +1,4 @@
-//! What a stop leaves of a journal, whatever happened to it.
+//! What a crash leaves of a journal, after any calls.
 ghost use Rattle.std.specs.Prelude.{◌≡◌, ℕ, List, None, Some, Ok};
 ghost use Rattle.board_core.specs.declared.board.DiskCall.{DiskCall};
 ghost use Rattle.board_core.specs.Clock.{Adds, Always, LeftNow};
@@ -22,38 +22,38 @@ ghost use Rattle.ras_recover.specs.Switching.{CanSwitch, Switching, after_switch
 
 use board_core::Board;
 
-/// What a switch comes to: laws of its acts, of a journal that can be switched.
+/// What holds of the acts of a switch, if the journal can be switched.
 pub fn switch_laws()
-    // Whatever a stop leaves at any moment of it recovers the account.
+    // Whatever a crash leaves at any point of a switch gives the account.
     ensures moments { (standing : Standing) (account : State) (t : Told) (left : Left)
         → CanSwitch standing account → IsAt standing account t.here
         → Moment (switch_acts standing account) t left → Switching standing account t.here left }
 
-    // Once it is done, the files hold the account at the next standing.
+    // After a switch the files give the account at the next position.
     ensures done { (standing : Standing) (account : State) (t : Told)
         → CanSwitch standing account → IsAt standing account t.here
         → IsAt (switched standing account) account (after_switch standing account t).here }
 {}
 
-/// What a whole recovery reads of a journal: each place of its file, up to and with the closed gate
-/// at which it stands.
+/// What holds of a whole recovery: it reads every byte of the journal's file up to the closed gate
+/// at the journal's position.
 pub fn recovery_laws()
     ensures reads { (standing : Standing) (account : State) (here : Left) (calls : List DiskCall)
         → IsAt standing account here → IsRecoveryOf here calls
         → ReadsTo standing.file standing.length calls }
 {}
 
-/// What the writes of an opening come to, and how many links the files of a journal have while it is
-/// recovered and opened, and once it is open: no file that stands has more than 256, if none had at
-/// the start.
+/// What holds of an opening: what its writes leave, and how many links the files of a journal have
+/// while it is recovered and opened, and afterwards. No valid file has more than 256, if none had
+/// at the start.
 pub fn opening_laws<B: Board>()
-    // An opening writes only if no file stands. Whatever a stop leaves at any moment of it recovers
-    // the empty account, and has few links.
+    // An opening writes only if no file is valid. Whatever a crash leaves at any point of the
+    // writes gives the empty account, and has few links.
     ensures moments { (t : Told) (left : Left)
         → Moment (opening_acts t.here) t left → FormatsFirst t.here left }
 
-    // If all that a stop at the start of an opening may leave has few links, so has all that a stop
-    // may leave from there on. The same holds of a recovery.
+    // If all that a crash at the start of an opening may leave has few links, so has all that a
+    // crash may leave from there on. The same holds of a recovery.
     ensures few { (old new : B) (here : Left)
         → Always (B.clock old) (B.clock old).now HasFewLinks
         → Adds (Opening (B.clock old) here) (B.clock old) (B.clock new)
@@ -63,24 +63,24 @@ pub fn opening_laws<B: Board>()
         → KeepsTold (B.told old) (B.clock old) (B.told new) (B.clock new)
         → Always (B.clock new) (B.clock old).now HasFewLinks }
 
-    // If the files that are told have few links, so have those that are told once the journal is
-    // open.
+    // If the files in the board's model have few links, they also have few links once the journal
+    // is open.
     ensures few_done { (old new : Told) → HasFewLinks old.here → MakesOpening old new
         → HasFewLinks new.here }
 {}
 
-/// Over any appends, switches and openings of a journal, and any stops of the machine in them and
-/// between them, no link whose append was answered `Ok` is lost, and no other counts than one whose
-/// append was cut. The function does nothing: its clauses are what it is for.
+/// What holds over any appends, switches and openings of a journal, and any crashes of the machine
+/// during them and between them: no link whose append returned `Ok` is lost, and no other link
+/// counts, except one whose append was interrupted.
 ///
-/// Each begins with an account: at a machine that was started over files which give it, whether
-/// none of them stands or one of either version; or at a journal that is open and holds it, as
-/// after an opening that answered it. That the calls of a journal are such calls is said by
-/// [`crate::live_append`], [`crate::live_switch`] and [`crate::live_opening`].
+/// A life begins with an account: on a machine that was started over files which give it, whether
+/// no file is valid or one of either version; or with an open journal that has it, as after an
+/// opening that returned it. [`crate::live_append`], [`crate::live_switch`] and
+/// [`crate::live_opening`] show that the journal's functions are calls of such a life.
 pub fn life_laws<B: Board>()
-    // Whatever a stop leaves at any moment of a call, the files give the account continued by the
-    // links of all appends that were answered `Ok` before. If the call is an append, its link
-    // counts or doesn't. So the files are never damaged.
+    // Whatever a crash leaves at any point of a call, the files give the account continued by the
+    // links of all appends that returned `Ok` before. If the call is an append, its link counts or
+    // doesn't. So the files are never damaged.
     ensures in_a_call { (account : State) (life : Life) (call : JournalCall)
         (first last : Site B) (board : B) (left : Left)
         → BeginsWith (looks B.told B.clock B.faults) account first
@@ -93,21 +93,21 @@ pub fn life_laws<B: Board>()
         → Lives (looks B.told B.clock B.faults) life first last → LeftNow (B.clock last.board) left
         → RecoversBehind account life left }
 
-    // An opening that is answered `Ok` answers that account.
+    // An opening that returns `Ok` returns that account.
     ensures opened { (account now : State) (life : Life) (first last opened : Site B)
         → BeginsWith (looks B.told B.clock B.faults) account first
         → Lives (looks B.told B.clock B.faults) life first last
         → OpensJournal (looks B.told B.clock B.faults) now last opened
         → Continues account life now }
 
-    // The account of a history, continued by links, is that of the history with the entries of the
-    // links after it.
+    // The account of a history, continued by links, is the account of the history followed by the
+    // entries of the links.
     ensures histories { (history : History) (links : List (List Entry))
         → account_after_links (account_of history) links
         ≡ account_of (with_links history links) }
 
-    // A file of version 1 alone gives its account with a mark after it. So what is said above
-    // begins there too: an append needs version 2, and so the journal is switched first.
+    // A file of version 1 by itself gives its account with an upgrade marker after it. So a life
+    // may begin there too. Because an append needs version 2, the journal is switched first.
     ensures first_version { (file0 file1 : List ℕ) (front : FileFront)
         → IsShort file0 → IsShort file1
         → IsRead None file0 front → front.version ≡ One

@@ -1,8 +1,11 @@
-//! Recovery: the account and the journal from two files, opening them, and switching the journal to
-//! its other file so that a stop at any moment leaves the account. Laws say what becomes of a
-//! journal over any calls and stops.
+//! Recovery: gets the account and the journal from two files, opens them, and switches the journal
+//! to its other file so that a crash at any point leaves the account. Laws say what happens to a
+//! journal over any calls and crashes.
+//!
+//! A public function with an empty body is a law: its clauses are the point.
 #![tactic(auto)]
 
+mod by_age;
 mod fields;
 mod file;
 mod formatting;

@@ -1,5 +1,5 @@
-//! The calls of a journal as the laws over any list of them have it: what each call's clauses say
-//! is what those laws take for a call that is at work, and for one that was answered `Ok`.
+//! The calls of a journal in the words of the laws over any list of calls: the clauses of each call
+//! are what the laws assume of a call in progress, and of a call that returned `Ok`.
 
 ghost use Rattle.std.specs.Prelude.{◌≡◌, ◌<◌, List, Option, Some, false, length, IfOk, IfSome, OnOk};
 ghost use Rattle.board_core.specs.Doing.{looks};
@@ -18,11 +18,11 @@ use ras_account::Account;
 use ras_journal::{AppendRefused, Journal};
 use std::alloc::Global;
 
-/// Appends a link, by [`Journal::append`].
+/// Appends a link, by [`Journal::append`]. Requires what that call requires.
 ///
 /// # Errors
 ///
-/// As that call.
+/// As [`Journal::append`].
 pub fn live_append<B: Board>(
     journal: &mut Journal,
     link: &Link,
@@ -43,11 +43,12 @@ pub fn live_append<B: Board>(
     journal.append(link, board)
 }
 
-/// Switches a journal to its other file, by [`switch_file`], with the account that the files hold.
+/// Switches a journal to its other file, by [`switch_file`]. Requires what that call requires, and
+/// that the files give this account.
 ///
 /// # Errors
 ///
-/// As that call.
+/// As [`switch_file`].
 pub fn live_switch<B: Board>(
     alloc: Global,
     account: &Account,
@@ -71,7 +72,7 @@ pub fn live_switch<B: Board>(
 ///
 /// # Errors
 ///
-/// As that call.
+/// As [`open_journal`].
 pub fn live_opening<B: Board>(
     alloc: Global,
     board: &mut B,

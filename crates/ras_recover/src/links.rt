@@ -1,4 +1,4 @@
-//! The links of a journal file.
+//! Reads the links of a journal file.
 ghost use Rattle.std.specs.Prelude.{◌≡◌, ◌+◌, ◌^◌, ◌≤◌, ◌<◌, ℕ, true, length, None, Some, Ok, Err, IfSome, IfOk, OnOk, IsTrue, List};
 ghost use Rattle.std.specs.Option.{option_map};
 ghost use Rattle.std.specs.List.{All};
@@ -20,14 +20,14 @@ use ras_facts::Entry;
 use std::alloc::Global;
 use std::slice;
 
-// Counts an entry, if it is fresh. The orders that it gives are given up.
+// Counts an entry if it is new. The orders that it gives are dropped.
 fn count_entry(alloc: Global, account: &mut Account, entry: Entry) -> Result<(), ReserveRefused>
     requires { IsValidEntry entry }
     ensures state { OnOk result (account.new.state ≡ account_after account.old.state entry) }
     ensures full { result ≡ Err ReserveRefused.Full → IsWithin (account_after account.old.state entry) → ⊥ }
     ensures within { OnOk result (IsWithin (account_after account.old.state entry)) }
 {
-    // So that the clauses can tell that the account is within its numbers.
+    // With this the clauses can say that the account is within its limits.
     let _ = account.entries();
     account.reserve(slice::from_ref(&entry))?;
     let mut orders = Orders::new(alloc, entry.most_orders())?;
@@ -35,7 +35,7 @@ fn count_entry(alloc: Global, account: &mut Account, entry: Entry) -> Result<(),
     Ok(())
 }
 
-// Counts entries in order, and answers whether the account stays within its numbers after each.
+// Counts entries in order, and returns whether the account stays within its limits after each.
 fn count_entries(
     alloc: Global,
     account: &mut Account,
@@ -56,7 +56,7 @@ fn count_entries(
     Ok(true)
 }
 
-// The entries of the payload of `count` bytes after an open gate.
+// Returns the entries in the payload of `count` bytes after an open gate.
 fn payload_at(
     alloc: Global,
     version: Version,
@@ -82,8 +82,8 @@ fn payload_at(
     }
 }
 
-// Counts the entries of the link after the open gate at a place, and answers the place of the next
-// gate.
+// Counts the entries of the link after the open gate at an offset, and returns the position at the
+// next gate.
 fn link_at(alloc: Global, place: Place, account: &mut Account, file: &[u8]) -> Result<Place, Unread>
     requires gate { place.gate + 1 ≤ length file.now }
     requires links { place.links + 1 < 2 ^ 64 }
@@ -112,8 +112,8 @@ fn link_at(alloc: Global, place: Place, account: &mut Account, file: &[u8]) -> R
     }
 }
 
-// The place of the next gate, if the gate at a place is open, with the entries before it
-// counted; or none if that gate is closed.
+// Returns the position at the next gate, with the entries before it counted, if the gate at the
+// present position is open; `None` if it is closed.
 #[tactic(auto, unfolding(ras_journal::specs::File::next_front))]
 pub(crate) fn next_place(
     alloc: Global,
@@ -140,7 +140,8 @@ pub(crate) fn next_place(
     }
 }
 
-// How many bytes the gate at the front takes with the link after it, if it is open and tells.
+// Returns how many bytes the gate at the front has together with the link after it, if the gate is
+// open and the link's length is there.
 pub(crate) fn link_len(bytes: &[u8]) -> Option<usize>
     ensures some { IfSome result (λ n. (count : ℕ)
         → field (number_of 4) 1 4 bytes.now ≡ Ok count → n ≡ 5 + count) }

@@ -1,4 +1,4 @@
-//! Opening the journal.
+//! Opens the journal.
 ghost use Rattle.std.specs.Prelude.{◌≡◌, Result, Err, false, IfSome, IfOk, IfErr, OnOk};
 ghost use Rattle.board_core.specs.Cause.{disk_call, FailsAs};
 ghost use Rattle.board_core.specs.Clock.{Adds};
@@ -26,7 +26,7 @@ use ras_account::Account;
 use ras_journal::{Journal, Standing};
 use std::alloc::Global;
 
-// Formats generation 1 in file 0, with this account as its checkpoint. It is given whether each
+// Formats generation 1 in file 0, with this account as its checkpoint. `shut` says whether each
 // file is shut.
 fn format_first<B: Board>(
     alloc: Global,
@@ -63,36 +63,37 @@ fn format_first<B: Board>(
     }))
 }
 
-/// The account and the journal, as `recover` does it. If no file stands, generation 1 is then
-/// formatted in file 0. The journal hasn't failed.
+/// Recovers the account as `recover` does, and returns it with its journal, which hasn't failed. If
+/// neither file is valid, formats file 0 with generation 1. A journal of version 1 has to be
+/// switched before a link is appended.
 ///
 /// # Errors
 ///
-/// As `recover`. `Disk` and `NoMemory` also come while file 0 is formatted.
+/// As `recover`. `Disk` and `NoMemory` may also come from the formatting.
 pub fn open_journal<B: Board>(
     alloc: Global,
     board: &mut B,
 ) -> Result<(Account, Journal), OpenRefused>
-    // What is answered is what the files hold.
+    // The account is what the files contain.
     ensures recovers { IfSome (B.told board.old)
         (λ t. TellsHeld (λ r. r.0.state) result (recovered t.here.file0 t.here.file1)) }
     ensures ready { IfOk result (λ r. (r.0.waiting ≡ nothing) × (r.1.failed ≡ false)) }
     ensures standing { IfOk result (λ r. IfSome (B.told board.old)
         (λ t. r.1.standing ≡ standing_opened t.here.file0 t.here.file1)) }
 
-    // What a stop leaves of it is what a stop before it may have left, or recovers the empty
-    // account if no file stands. Once it has answered `Ok`, a stop leaves just what the board
-    // tells, and the journal's standing is that of the files.
+    // A crash leaves what a crash before may have left, or gives the empty account if no file is
+    // valid. After `Ok` a crash leaves exactly what the board's model says, and the journal's
+    // position is that of the files.
     ensures stops { (t : Told) → B.told board.old ≡ Some t
         → Adds (Opening (B.clock board.old) t.here) (B.clock board.old) (B.clock board.new) }
     ensures opened { IfOk result (λ r. (t : Told) → B.told board.old ≡ Some t
         → IsOpened r.1.standing r.0.state (B.told board.new) (B.clock board.new)) }
-    // If the files are refused, a stop then leaves just what the board told of them, the store and
-    // the text.
+    // If the files are refused, a crash afterwards leaves exactly what the board's model said of
+    // the files, the store and the text.
     ensures refused { IfErr result (λ why. OnRefusal why ((t : Told) → B.told board.old ≡ Some t
         → RestsHere t.here (B.told board.new) (B.clock board.new))) }
 
-    // What it does, as acts and as disk calls, whatever it answers.
+    // What the opening does, as acts and as disk calls, whatever it returns.
     ensures does { DoesOpening (λ refused. refused ≡ OpenRefused.Disk) result
         (B.told board.old) (B.told board.new) }
 

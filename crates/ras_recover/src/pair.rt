@@ -1,4 +1,4 @@
-//! The two files of a journal.
+//! Reads the two files of a journal.
 ghost use Rattle.std.specs.Prelude.{◌≡◌, ℕ, ◌≤◌, List, length, Ok, IfSome, IfOk};
 ghost use Rattle.std.specs.Option.{option_map};
 ghost use Rattle.board_core.specs.Told.{file_of};
@@ -14,6 +14,7 @@ ghost use Rattle.ras_recover.specs.Steps.Windows.{LooksAt};
 ghost use Rattle.ras_recover.specs.Steps.Pair.{AreRead};
 
 use crate::OpenRefused;
+use crate::by_age::read_by_age;
 use crate::place::{Place, ReadRefused};
 use crate::walking::{FileRead, read_file};
 use crate::window::SizedFile;
@@ -28,18 +29,18 @@ use std::alloc::Global;
 pub struct Recovered {
     /// The account. Nothing waits in it.
     pub account: Account,
-    /// Where the journal stands, or none if no file stands.
+    /// The journal's position, or `None` if neither file is valid.
     pub standing: Option<Standing>,
 }
 
-/// Both files as they were read: whether each is shut, and the file that counts.
+/// What was read of both files: whether each is shut, and the current file.
 #[derive(Drop)]
 pub(crate) struct BothRead {
     pub(crate) shut: (bool, bool),
     pub(crate) journal: Option<(FileNo, Place, Account)>,
 }
 
-// What counts of one of the files of a board.
+// Returns what is read of one of a board's files.
 fn read_one<B: Board>(
     alloc: Global,
     taken: Option<u64>,
@@ -61,7 +62,7 @@ fn read_one<B: Board>(
         FileNo::Zero => 0,
         FileNo::One => 1,
     };
-    match read_file(alloc, taken, file, board) {
+    match read_file(alloc, taken, None, file, board) {
         Ok(read) => Ok(read),
         Err(ReadRefused::Disk) => Err(OpenRefused::Disk),
         Err(ReadRefused::Damaged(at)) => Err(OpenRefused::Damaged {
@@ -72,7 +73,7 @@ fn read_one<B: Board>(
     }
 }
 
-// The file of the greater generation, of those that stand.
+// Returns the file of the greater generation among the valid files.
 fn greater(
     zero: Option<(Place, Account)>,
     one: Option<(Place, Account)>,
@@ -94,7 +95,7 @@ fn greater(
     }
 }
 
-// The generation of a file that stands.
+// Returns the generation of a file, if the file is valid.
 fn generation_in(front: &Option<(Place, Account)>) -> Option<u64>
     ensures { result ≡ generation_in (option_map (λ p. front_at p.0 p.1.state) front.now) }
 {
@@ -104,8 +105,8 @@ fn generation_in(front: &Option<(Place, Account)>) -> Option<u64>
     }
 }
 
-// Which of the two files is current, and what it holds.
-pub(crate) fn read_both<B: Board>(
+// Returns which of the two files is current, and what it contains. Reads file 0 first, then file 1.
+fn read_one_by_one<B: Board>(
     alloc: Global,
     sizes: (usize, usize),
     board: &mut B,
@@ -143,7 +144,44 @@ pub(crate) fn read_both<B: Board>(
     }
 }
 
-// Where a journal stands that is read up to this place of the file.
+// Returns which of the two files is current, and what it contains. Reads the older file first if
+// both are valid. A damaged file is reported as if the files were read one by one.
+pub(crate) fn read_both<B: Board>(
+    alloc: Global,
+    sizes: (usize, usize),
+    board: &mut B,
+) -> Result<BothRead, OpenRefused>
+    requires short { (sizes.0 ≤ LONGEST_FILE) × (sizes.1 ≤ LONGEST_FILE) }
+    requires sizes { IfSome (B.told board.old)
+        (λ t. (sizes.0 ≡ length t.here.file0) × (sizes.1 ≡ length t.here.file1)) }
+    ensures read { IfSome (B.told board.old)
+        (λ t. TellsHeld (λ r. option_map (λ j. record { file = j.0; front = front_at j.1 j.2.state })
+        r.journal) result (journal_of t.here.file0 t.here.file1)) }
+    ensures shut { IfOk result (λ r. IfSome (B.told board.old)
+        (λ t. (r.shut.0 ≡ is_shut t.here.file0) × (r.shut.1 ≡ is_shut t.here.file1))) }
+    ensures looks { LooksAt open_failure result (λ t. ReadsBoth t.here)
+        (B.told board.old) (B.clock board.old) (B.faults board.old)
+        (B.told board.new) (B.clock board.new) (B.faults board.new) }
+{
+    let file_zero = SizedFile {
+        no: FileNo::Zero,
+        size: sizes.0,
+    };
+    let file_one = SizedFile {
+        no: FileNo::One,
+        size: sizes.1,
+    };
+    let found = match read_by_age(alloc, file_zero, file_one, board) {
+        Ok(found) => found,
+        Err(refused) => return Err(refused),
+    };
+    match found {
+        Some(both) => Ok(both),
+        None => read_one_by_one(alloc, sizes, board),
+    }
+}
+
+// Returns the position of a journal that is read up to this place of the file.
 fn standing_at(file: FileNo, place: Place, shut: (bool, bool)) -> Standing
     ensures { (account : State) (file0 file1 : List ℕ) → shut.0 ≡ is_shut file0
         → shut.1 ≡ is_shut file1 → result
@@ -163,8 +201,8 @@ fn standing_at(file: FileNo, place: Place, shut: (bool, bool)) -> Standing
     }
 }
 
-// The account that goes on from one of this version: that of version 1 is taken over by a mark.
-// What waits is given up.
+// Returns the account that a journal continues with after one of this version: an account of
+// version 1 gets an upgrade marker. Waiting entries are dropped.
 fn taken_over(version: Version, account: Account) -> Account
     ensures state { result.state ≡ account_by version account.state }
     ensures waiting { result.waiting ≡ nothing }
@@ -178,7 +216,7 @@ fn taken_over(version: Version, account: Account) -> Account
     account
 }
 
-// What both files hold, as they were read.
+// Returns what both files contain, from what was read of them.
 pub(crate) fn recovered_of(alloc: Global, both: BothRead) -> Recovered
     ensures recovers { (file0 file1 : List ℕ) → AreRead both file0 file1
         → recovered file0 file1 ≡ Ok result.account.state }

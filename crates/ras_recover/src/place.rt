@@ -1,9 +1,9 @@
-//! Up to where a journal file is read.
+//! How far a journal file is read.
 
 use entry_format::Version;
 
-/// What was read of a journal file up to a gate, beside the account: the version, the generation,
-/// the gate's place, and how many links stand before it.
+/// What was read of a journal file up to a gate, besides the account: the version, the generation,
+/// the gate's offset, and the number of links before it.
 #[derive(Clone, Copy, Debug, PartialEq, Eq)]
 pub(crate) struct Place {
     pub(crate) version: Version,
@@ -12,21 +12,21 @@ pub(crate) struct Place {
     pub(crate) links: u64,
 }
 
-/// Why the bytes of a journal file aren't read.
+/// Why the bytes of a journal file can't be read.
 #[derive(Clone, Copy, Debug, PartialEq, Eq, Drop)]
 pub(crate) enum Unread {
-    /// It is damaged at this place.
+    /// They are damaged at this offset.
     Damaged(usize),
     /// Memory ran out.
     NoMemory,
 }
 
-/// Why a journal file of a board isn't read.
+/// Why a journal file of a board can't be read.
 #[derive(Clone, Copy, Debug, PartialEq, Eq, Drop)]
 pub(crate) enum ReadRefused {
     /// A disk call failed.
     Disk,
-    /// It is damaged at this place.
+    /// The file is damaged at this offset.
     Damaged(usize),
     /// Memory ran out.
     NoMemory,

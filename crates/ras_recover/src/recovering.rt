@@ -1,4 +1,4 @@
-//! Recovering the account and the journal from a board.
+//! Recovers the account and the journal from a board.
 ghost use Rattle.std.specs.Prelude.{◌≡◌, ◌<◌, ◌≤◌, length, All, List, Result, Option, None, Some, Ok, Err, IfSome, IfOk, IfErr, OnOk};
 ghost use Rattle.board_core.specs.Cause.{disk_call, FailsAs};
 ghost use Rattle.board_core.specs.Told.{Told, Relates, file_of};
@@ -31,7 +31,7 @@ fn sync_both<B: Board>(board: &mut B) -> Result<(), Failed>
     Ok(())
 }
 
-// The size of a file that isn't too long, or none if it is.
+// Returns the size of a file in bytes, or `None` if the file is too long.
 fn short_size<B: Board>(file: FileNo, board: &mut B) -> Result<Option<usize>, Failed>
     ensures keeps { KeepsTold (B.told board.old) (B.clock board.old) (B.told board.new) (B.clock board.new) }
     ensures short { IfOk result (λ r. IfSome r (λ size. size ≤ LONGEST_FILE)) }
@@ -50,7 +50,7 @@ fn short_size<B: Board>(file: FileNo, board: &mut B) -> Result<Option<usize>, Fa
     }
 }
 
-// The sizes of both files, or none if one is too long.
+// Returns the sizes of both files in bytes, or `None` if a file is too long.
 fn short_sizes<B: Board>(board: &mut B) -> Result<Option<(usize, usize)>, Failed>
     ensures keeps { KeepsTold (B.told board.old) (B.clock board.old) (B.told board.new) (B.clock board.new) }
     ensures short { IfOk result (λ r. IfSome r (λ sizes. (sizes.0 ≤ LONGEST_FILE) × (sizes.1 ≤ LONGEST_FILE))) }
@@ -70,7 +70,7 @@ fn short_sizes<B: Board>(board: &mut B) -> Result<Option<(usize, usize)>, Failed
     Ok(Some((zero, one)))
 }
 
-// What the files of a board hold, and whether each is shut.
+// Returns what the files of a board contain, and whether each is shut.
 fn recover_synced<B: Board>(
     alloc: Global,
     board: &mut B,
@@ -101,7 +101,7 @@ fn recover_synced<B: Board>(
     }
 }
 
-// The same of files that are synced first.
+// Syncs both files, and returns what they contain and whether each is shut.
 pub(crate) fn recover_files<B: Board>(
     alloc: Global,
     board: &mut B,
@@ -125,32 +125,35 @@ pub(crate) fn recover_files<B: Board>(
     }
 }
 
-/// What was counted so far, and where the journal stands: both files are synced, and then read,
-/// each piece by piece up to its closed gate. It writes nothing.
+/// Syncs both files, reads each piece by piece up to its closed gate, and returns the account and
+/// the journal's position. Writes nothing.
 ///
 /// # Errors
 ///
-/// The first of these: `Disk` comes only if a disk call failed. `TooLong` comes exactly if a
-/// file is longer than 67,108,864 bytes, and `Damaged` exactly if the files' bytes are damaged,
-/// with the file's number and the place. `NoMemory` comes if memory runs out.
+/// `Disk`: only if a disk call failed.
+/// `TooLong`: only if a file is longer than 67,108,864 bytes.
+/// `Damaged`: only if the files' bytes are damaged; has the file's number and the offset.
+/// `NoMemory`: only if memory runs out.
+///
+/// Unless a disk call fails or memory runs out, the files' bytes decide what is returned.
 pub fn recover<B: Board>(alloc: Global, board: &mut B) -> Result<Recovered, OpenRefused>
-    // What is answered is what the files hold.
+    // What is returned is what the files contain.
     ensures recovers { IfSome (B.told board.old)
         (λ t. TellsHeld (λ r. r.account.state) result (recovered t.here.file0 t.here.file1)) }
     ensures standing { IfOk result (λ r. IfSome (B.told board.old)
         (λ t. position_of t.here.file0 t.here.file1 ≡ r.standing)) }
     ensures waiting { IfOk result (λ r. r.account.waiting ≡ nothing) }
 
-    // What a stop leaves of it is what a stop before it may have left. Once it is done, and no disk
-    // call failed, a stop leaves just what the board tells.
+    // A crash leaves what a crash before may have left. After the call, unless a disk call failed,
+    // a crash leaves exactly what the board's model says.
     ensures keeps { KeepsTold (B.told board.old) (B.clock board.old) (B.told board.new)
         (B.clock board.new) }
     ensures rests { UnlessDisk result ((t : Told) → B.told board.old ≡ Some t
         → RestsHere t.here (B.told board.new) (B.clock board.new)) }
 
-    // Whatever it answers, files, text and device are told as before, and its disk calls are those
-    // of a recovery or a beginning of them. Once it has answered `Ok` they are all of these, and
-    // all that counts of the files was read.
+    // Whatever is returned, the model says the same of files, text and device as before, and the
+    // disk calls are the calls of a recovery or a beginning of them. After `Ok` all of them were
+    // made, and everything that counts of the files was read.
     ensures told { Relates AfterRecovery (B.told board.old) (B.told board.new) }
     ensures reads { OnOk result (Relates (λ old. Calls (IsRecoveryOf old.here) old)
         (B.told board.old) (B.told board.new)) }

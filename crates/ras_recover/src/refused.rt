@@ -1,4 +1,4 @@
-//! Why a call of this crate is refused.
+//! Why a call of this crate fails.
 
 use ras_base::NoMemory;
 use thiserror::Error;
@@ -6,18 +6,19 @@ use thiserror::Error;
 /// Why a journal wasn't switched.
 #[derive(Clone, Copy, Debug, PartialEq, Eq, Error)]
 pub enum SwitchRefused {
-    /// The other file would be too long, or the last generation is reached. Nothing was called.
+    /// The other file would be too long, or the journal has the last generation. No disk call was
+    /// made.
     #[error("the journal file would be too long, or its generation is the last one")]
     Full,
     /// A disk call failed. Its count of faults rose.
     #[error("a disk call failed")]
     Disk,
-    /// Memory ran out. Nothing was called.
+    /// Memory ran out. No disk call was made.
     #[error("memory ran out")]
     NoMemory,
 }
 
-/// Why no journal is recovered or opened, the first of them in this order.
+/// Why no journal is recovered or opened.
 #[derive(Clone, Copy, Debug, PartialEq, Eq, Error)]
 pub enum OpenRefused {
     /// A disk call failed. Its count of faults rose.
@@ -26,7 +27,7 @@ pub enum OpenRefused {
     /// A file is longer than 67,108,864 bytes.
     #[error("a journal file is too long")]
     TooLong,
-    /// The file of this number, 0 or 1, is damaged at this place.
+    /// The file with this number, 0 or 1, is damaged at this offset.
     #[error("journal file {file} is damaged at byte {place}")]
     Damaged { file: u8, place: u64 },
     /// Memory ran out.

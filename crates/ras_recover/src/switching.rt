@@ -1,4 +1,4 @@
-//! Switching the journal to its other file.
+//! Switches the journal to its other file.
 ghost use Rattle.std.specs.Prelude.{◌≡◌, ◌+◌, ◌<◌, ◌≤◌, ◌↔◌, false, IfSome, IsTrue, None};
 ghost use Rattle.board_core.specs.Doing.{Does, IsMade, looks};
 ghost use Rattle.board_core.specs.Told.{file_of};
@@ -15,7 +15,7 @@ use ras_account::Account;
 use ras_journal::{Journal, LAST_GENERATION, LONGEST_FILE, Standing};
 use std::alloc::Global;
 
-// The other of the two files.
+// Returns the other of the two files.
 fn other(file: FileNo) -> FileNo
     ensures { result ≡ other file }
 {
@@ -25,8 +25,8 @@ fn other(file: FileNo) -> FileNo
     }
 }
 
-// Where the journal stands once it is switched to the other file, or none if there is no room
-// for that.
+// Returns the journal's position after a switch to the other file, or `None` if there is no room
+// for the switch.
 fn switched(standing: Standing, account: &Account, link: &Link) -> Option<Standing>
     ensures none { (result ≡ None) ↔ IsTrue (has_no_room standing account.now.state link.now) }
     ensures is { IfSome result (λ next. next ≡ switched standing account.now.state) }
@@ -53,20 +53,20 @@ fn switched(standing: Standing, account: &Account, link: &Link) -> Option<Standi
     })
 }
 
-/// Switches a journal to its other file by four or six disk calls: the next generation is written
-/// there, in version 2, with the account as its checkpoint. All memory is taken before the first
-/// call. It needs a journal that hasn't failed, and whose standing tells whether the other file is
+/// Switches a journal to its other file by four or six disk calls: writes the next generation
+/// there, in version 2, with the account as its checkpoint. Allocates everything before the first
+/// call. Requires a journal that hasn't failed, and whose position says whether the other file is
 /// shut.
 ///
-/// While it is at work, whatever a stop leaves recovers the account that the files hold: that
-/// stands at [`crate::switch_laws`].
+/// Whatever a crash leaves at any point of the switch gives the account that the files contain, by
+/// [`crate::switch_laws`].
 ///
 /// # Errors
 ///
-/// `Full` comes exactly if the other file with this link would be longer than 67,108,864 bytes,
-/// or the journal's generation is 2^63 - 1. `NoMemory` comes if memory runs out. In both cases
-/// nothing was called, and the journal is as before. `Disk` comes only if a disk call failed;
-/// then the journal has failed.
+/// `Full`: if and only if the other file with this link would be longer than 67,108,864 bytes, or
+/// the journal's generation is 2^63 - 1. No disk call was made, and the journal is as before.
+/// `NoMemory`: only if memory runs out. No disk call was made, and the journal is as before.
+/// `Disk`: only if a disk call failed. The journal has then failed.
 pub fn switch_file<B: Board>(
     alloc: Global,
     account: &Account,

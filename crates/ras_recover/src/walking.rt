@@ -1,4 +1,4 @@
-//! Reading one journal file of a board, piece by piece.
+//! Reads one journal file of a board, piece by piece.
 ghost use Rattle.std.specs.Prelude.{◌≡◌, ◌+◌, ◌-◌, ◌<◌, ◌≤◌, ◌^◌, length, drop, None, Some, Ok, IfSome, IfOk, IfErr, OnOk};
 ghost use Rattle.std.specs.Option.{option_map};
 ghost use Rattle.board_core.specs.Told.{file_of};
@@ -19,20 +19,20 @@ use journal_format::CHECKPOINT_PLACE;
 use ras_account::Account;
 use std::alloc::Global;
 
-/// How many bytes a gate takes, with the number of its payload's bytes after it.
+/// The number of bytes of a gate and of the number after it, which counts its payload's bytes.
 const GATE_AND_COUNT: usize = 5;
 
 /// What was read of a journal file.
 #[derive(Drop)]
 pub(crate) struct FileRead {
-    /// Whether it is longer than 1 byte and its byte 0 is no open gate.
+    /// Whether the file is longer than 1 byte and has no open gate at its front.
     pub(crate) shut: bool,
-    /// The place of the closed gate that ends its chain, and the account there; or none if the
-    /// file doesn't stand.
+    /// The closed gate that ends the chain, and the account there, or `None` if the file isn't
+    /// valid.
     pub(crate) front: Option<(Place, Account)>,
 }
 
-// Sees that the link after the gate at a place is held, if that gate is open and the file has
+// Buffers the link after the gate at the present position, if that gate is open and the file has
 // the link.
 fn hold_link<B: Board>(
     file: SizedFile,
@@ -63,8 +63,8 @@ fn hold_link<B: Board>(
     window.hold(file, gate, count, board)
 }
 
-// The place of the next gate, if the gate at a place is open, with the entries before it
-// counted; or none if that gate is closed.
+// Returns the position at the next gate, with the entries before it counted, if the gate at the
+// present position is open; `None` if it is closed.
 fn next_in<B: Board>(
     alloc: Global,
     file: SizedFile,
@@ -103,7 +103,7 @@ fn next_in<B: Board>(
     }
 }
 
-// The place of the closed gate that ends the chain, with all entries before it counted.
+// Returns the position at the closed gate that ends the chain, with all entries before it counted.
 fn last_in<B: Board>(
     alloc: Global,
     file: SizedFile,
@@ -135,7 +135,7 @@ fn last_in<B: Board>(
     Err(ReadRefused::Damaged(place.gate))
 }
 
-// Sees that the checkpoint is held, if the file stands and has it.
+// Buffers the checkpoint, if the file is valid and has it.
 fn hold_front<B: Board>(
     file: SizedFile,
     window: &mut Window,
@@ -164,10 +164,12 @@ fn hold_front<B: Board>(
     window.hold(file, 0, count, board)
 }
 
-// The place of the first gate of the chain, and the account of the checkpoint.
+// Returns the position at the chain's first gate, and the account of the checkpoint. `account` may
+// be the account with which the other file ended.
 fn first_in<B: Board>(
     alloc: Global,
     taken: Option<u64>,
+    before: Option<Account>,
     file: SizedFile,
     window: &mut Window,
     board: &mut B,
@@ -198,7 +200,7 @@ fn first_in<B: Board>(
             front: None,
         });
     }
-    match first_place(alloc, taken, front) {
+    match first_place(alloc, taken, before, front) {
         Ok(first) => Ok(FileRead {
             shut: false,
             front: Some(first),
@@ -208,11 +210,13 @@ fn first_in<B: Board>(
     }
 }
 
-// The place of the closed gate that ends the chain of a file, and the account there, if the file
-// stands. The other file may have taken a generation.
+// Returns the position at the closed gate that ends the chain of a file, and the account there, if
+// the file is valid. The caller passes the generation of the other file and the account with which
+// that file ended, if it has them.
 pub(crate) fn read_file<B: Board>(
     alloc: Global,
     taken: Option<u64>,
+    before: Option<Account>,
     file: SizedFile,
     board: &mut B,
 ) -> Result<FileRead, ReadRefused>
@@ -228,7 +232,7 @@ pub(crate) fn read_file<B: Board>(
         (B.told board.new) (B.clock board.new) (B.faults board.new) }
 {
     let mut window = Window::new(alloc);
-    let FileRead { shut, front } = match first_in(alloc, taken, file, &mut window, board) {
+    let FileRead { shut, front } = match first_in(alloc, taken, before, file, &mut window, board) {
         Ok(begun) => begun,
         Err(refused) => return Err(refused),
     };

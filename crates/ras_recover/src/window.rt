@@ -1,4 +1,4 @@
-//! The piece of a journal file that is held while the file is read.
+//! The piece of a journal file that is buffered while the file is read.
 ghost use Rattle.std.specs.Prelude.{◌≡◌, ◌+◌, ◌-◌, ◌≤◌, [], length, drop, min, IfSome, IfErr, OnOk};
 ghost use Rattle.board_core.specs.Told.{file_of};
 ghost use Rattle.ras_journal.specs.declared.limits.TheConstants.{LONGEST_FILE};
@@ -9,7 +9,7 @@ use crate::place::ReadRefused;
 use board_core::{Board, Failed, FileNo};
 use std::alloc::{AllocError, Global};
 
-/// How many bytes are read at once, if the file has them and no more are wanted.
+/// How many bytes are read at once, unless the file has fewer or more are needed.
 const BLOCK: usize = 65_536;
 
 /// One of the two files, with its size in bytes.
@@ -19,7 +19,7 @@ pub(crate) struct SizedFile {
     pub(crate) size: usize,
 }
 
-/// The bytes of a file that were read from a place on.
+/// The bytes of a file that were read from an offset on.
 #[derive(Drop)]
 pub(crate) struct Window {
     pub(crate) start: usize,
@@ -27,7 +27,7 @@ pub(crate) struct Window {
 }
 
 impl Window {
-    // Holds nothing yet.
+    // Returns an empty buffer.
     pub(crate) fn new(alloc: Global) -> Self
         ensures start { result.start ≡ 0 }
         ensures bytes { result.bytes.items ≡ [] }
@@ -38,7 +38,7 @@ impl Window {
         }
     }
 
-    // The bytes that are held from a place on.
+    // Returns the buffered bytes from an offset on.
     pub(crate) fn rest(&self, place: usize) -> &[u8]
         requires from { self.now.start ≤ place }
         requires upto { place ≤ end_of self.now }
@@ -47,7 +47,7 @@ impl Window {
         &self.bytes[place - self.start..]
     }
 
-    // Reads `count` bytes from a place on, in place of those that were held.
+    // Reads `count` bytes from an offset on, replacing the buffered bytes.
     fn read<B: Board>(
         &mut self,
         file: SizedFile,
@@ -80,8 +80,8 @@ impl Window {
         }
     }
 
-    // Buffers `count` bytes from a place on, or up to the end of the file. It reads only
-    // what isn't buffered yet.
+    // Buffers `count` bytes from an offset on, or up to the end of the file. Reads only what isn't
+    // buffered yet.
     pub(crate) fn hold<B: Board>(
         &mut self,
         file: SizedFile,

@@ -25,20 +25,20 @@ use Rattle.ras_reports.specs.declared.details.Report.{Report}
 abbrev pub bank_report : BankReport → List Row → Option Report
 bank_report bank rows = option_map (λ fact. record { fact = fact; details = Bank bank ∷ [] }) (bank_fact bank rows)
 
--- what is told of a section's item: what the section says, or its type alone
+-- the detail of a section's item: what the section says, or only its type
 abbrev pub detail_of : Section → Detail
 detail_of (Sections.TheVariants.Memory section) = Memory section
 detail_of (Sections.TheVariants.Processor section) = Processor section
 detail_of (Sections.TheVariants.X64 section) = X64 section
 detail_of (Sections.TheVariants.Unknown guid) = Other guid
 
--- the same of a section that was read. One that can't be read, which no record and no block has, is
--- told as one of no type
+-- the detail of a section that was read; a section that can't be read, which no record and no block has, would have one
+-- of no type
 abbrev pub section_detail : Read → Detail
 section_detail (Ok section) = detail_of section
 section_detail (Err why) = Other []
 
--- what is told of a record's items, one for each section
+-- the details of a record's items, one for each section
 abbrev pub record_details : List ℕ → List Detail
 record_details own = map (λ i. section_detail (section_at own i)) (range_with_len 0 (section_count own))
 
@@ -46,7 +46,7 @@ record_details own = map (λ i. section_detail (section_at own i)) (range_with_l
 abbrev pub record_report : List Row → ℕ → List ℕ → Report
 record_report rows seconds own = record { fact = record_fact rows seconds own; details = record_details own }
 
--- what is told of an entry of a status block, and of all its entries
+-- the detail of an entry of a status block, and the details of all its entries
 abbrev pub entry_detail : List ℕ → Detail
 entry_detail entry = section_detail (section_of (entry_guid entry) (entry_data entry))
 
@@ -58,7 +58,7 @@ abbrev pub block_report : List Row → Name → ℕ → BlockParts → Option Re
 block_report rows name seconds block =
     option_map (λ fact. record { fact = fact; details = block_details block }) (block_fact rows name seconds block)
 
--- the report of a record of the store that was read at this time: a panic record's is the bank's
+-- the report of a record of the store that was read at this time; a panic record's is the bank's own
 abbrev pub stored_report : List Row → ℕ → List ℕ → Report
 stored_report rows seconds own =
     unwrap_or (option_and_then (λ bank. bank_report bank rows) (panic_report own)) (record_report rows seconds own)
@@ -67,8 +67,8 @@ stored_report rows seconds own =
 abbrev pub TellsOfEachItem : Report → Type 0
 TellsOfEachItem report = length report.details ≡ length report.fact.items
 
--- the label of the module that owns what a detail tells, by the rows of a topology, as a section's
--- item has it: that of a memory section, by itself alone
+-- the label of the module that owns the error of a detail, by the rows of a topology; as for a section's item, a memory
+-- section decides it by itself
 abbrev pub label_of_detail : List Row → Detail → Bytes
 label_of_detail rows (Memory section) = section_label rows (Ok (Sections.TheVariants.Memory section))
 label_of_detail rows _ = []

@@ -13,12 +13,13 @@ use ras_base::NoMemory;
 use ras_facts::{BankReport, fact_of_bank};
 use std::alloc::Global;
 
-/// The report of a bank: its fact by `fact_of_bank`, and its snapshot for the one item. It is None
-/// exactly if the bank holds no error (VAL is 0), which takes no memory.
+/// Returns the report of a bank: its fact by `fact_of_bank`, and its snapshot as the detail of the
+/// one item. It is `None` if and only if the bank has no error (VAL is 0), and then nothing is
+/// allocated.
 ///
 /// # Errors
 ///
-/// `NoMemory` comes only if memory runs out.
+/// `NoMemory`: only if memory runs out.
 pub fn report_of_bank(
     alloc: Global,
     bank: &BankReport,

@@ -11,13 +11,13 @@ use ras_base::NoMemory;
 use ras_facts::{Fact, Items, MOST_ITEMS, Name, section_item};
 use std::alloc::Global;
 
-/// The report of a status block, read at this time and named so: the fact that `fact_of_block`
-/// gives, and what each entry's section says for the entry's item. It is None exactly if the block
-/// status is 0, which takes no memory.
+/// Returns the report of a status block, read at this time and with this name: the fact that
+/// `fact_of_block` returns, and each entry's section as the detail of the entry's item. It is
+/// `None` if and only if the block status is 0, and then nothing is allocated.
 ///
 /// # Errors
 ///
-/// `NoMemory` comes only if memory runs out.
+/// `NoMemory`: only if memory runs out.
 pub fn report_of_block(
     alloc: Global,
     name: Name,

@@ -1,4 +1,4 @@
-//! What is told of the items of a report.
+//! The details of a report's items.
 
 ghost use Rattle.std.specs.Prelude.{◌≡◌, ◌++◌, [], ◌∷◌, IfOk, OnOk, OnErr};
 ghost use Rattle.ras_reports.specs.Reports.{detail_of};
@@ -10,10 +10,10 @@ use std::alloc::Global;
 use std::marker::Model;
 use uuid::Uuid;
 
-/// What a report tells of an item beside the item.
+/// What a log line prints of an item besides the item itself.
 #[derive(Clone, Copy, Debug, PartialEq, Eq)]
 pub enum Detail {
-    /// The snapshot of the bank that holds the error.
+    /// The snapshot of the bank with the error.
     Bank(BankReport),
     /// A memory section.
     Memory(MemSection),
@@ -25,7 +25,7 @@ pub enum Detail {
     Other(Uuid),
 }
 
-// What is told of a section's item.
+// The detail of a section's item.
 pub(crate) fn detail_of(section: Section) -> Detail
     ensures { result ≡ detail_of section }
 {
@@ -37,7 +37,7 @@ pub(crate) fn detail_of(section: Section) -> Detail
     }
 }
 
-/// What a report tells of each of its items, in order.
+/// The details of a report's items, in order.
 #[derive(Debug, Drop)]
 pub struct Details {
     list: Vec<Detail>,
@@ -53,7 +53,7 @@ impl Model for Details {
 }
 
 impl Details {
-    /// No details.
+    /// Returns an empty list.
     pub fn new(alloc: Global) -> Details
         ensures { result ≡ [] }
     {
@@ -62,7 +62,7 @@ impl Details {
         }
     }
 
-    /// One detail, with room for no other.
+    /// Returns a list of one detail, with room for no other.
     pub fn one(alloc: Global, detail: Detail) -> Result<Details, NoMemory>
         ensures { IfOk result (λ details. details ≡ detail ∷ []) }
     {
@@ -70,7 +70,7 @@ impl Details {
         Ok(Details { list })
     }
 
-    /// Puts a detail after the others. If memory runs out the list stays.
+    /// Appends a detail. If memory runs out the list is unchanged.
     pub fn push(&mut self, detail: Detail) -> Result<(), NoMemory>
         ensures ok { OnOk result (self.new ≡ self.old ++ detail ∷ []) }
         ensures err { OnErr result (self.new ≡ self.old) }
@@ -79,7 +79,7 @@ impl Details {
         Ok(())
     }
 
-    /// The details in order.
+    /// Returns the details in order.
     pub fn as_slice(&self) -> &[Detail]
         ensures { result.now ≡ self.now }
     {
@@ -90,8 +90,8 @@ impl Details {
 /// A report: its fact, and a detail for each of the fact's items, in order.
 #[derive(Debug, Drop)]
 pub struct Report {
-    /// What an account takes.
+    /// The report, as an account counts it.
     pub fact: Fact,
-    /// What is told of its items.
+    /// The details of the fact's items.
     pub details: Details,
 }

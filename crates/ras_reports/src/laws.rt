@@ -1,4 +1,4 @@
-//! What is said of every report.
+//! What holds of every report.
 
 ghost use Rattle.std.specs.Prelude.{◌≡◌, ◌≤◌, ℕ, List, length, IfSome};
 ghost use Rattle.apei_sources.specs.Blocks.{BlockParts};
@@ -11,7 +11,7 @@ ghost use Rattle.ras_reports.specs.Reports.{OwnLabels, TellsOfEachItem, bank_rep
 ghost use Rattle.ras_reports.specs.Reports.{record_report, stored_report};
 
 /// A report has as many details as its fact has items, and the fact of a stored record's report is
-/// that of the stored record.
+/// the fact of the stored record.
 pub fn reports_tell_of_each_item()
     ensures bank { (bank : BankReport) (rows : List Row)
         → IfSome (bank_report bank rows) TellsOfEachItem }
@@ -26,7 +26,7 @@ pub fn reports_tell_of_each_item()
 {}
 
 /// Each item that firmware reports has the label of its own section, by the rows of the machine and
-/// by what that section says: no other section, no severity and no time counts in it.
+/// by what that section says. No other section, no severity and no time matters.
 pub fn items_have_their_own_labels()
     ensures record { (rows : List Row) (seconds : ℕ) (own : List ℕ)
         → OwnLabels rows (record_report rows seconds own) }
@@ -34,8 +34,8 @@ pub fn items_have_their_own_labels()
         → IfSome (block_report rows name seconds block) (OwnLabels rows) }
 {}
 
-/// A record of at most 16,384 bytes, the most that a store holds of one, reports at most 225 items:
-/// each section takes a descriptor of 72 bytes beside the header's 128.
+/// A record of at most 16,384 bytes, the most that a store has of one, reports at most 225 items,
+/// because each section takes a descriptor of 72 bytes besides the header's 128.
 pub fn stored_reports_are_short()
     ensures { (rows : List Row) (seconds : ℕ) (own : List ℕ) → IsRecord own
         → length own ≤ 16_384

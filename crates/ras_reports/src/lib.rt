@@ -1,8 +1,10 @@
-//! Reports: what a bank, a record or a status block tells, as a fact and a detail of each of its
+//! Reports of a bank, a record or a status block: a fact, and a detail for each of the fact's
 //! items.
 //!
-//! A detail is what a log line tells beside the item. It keeps what was read, so that no text is
-//! made of a report that is no news.
+//! A detail is what a log line prints besides the item. It keeps what was read rather than a text,
+//! so that no text is made of a repeated report.
+//!
+//! A public function with an empty body is a law: its clauses are the point.
 #![tactic(auto)]
 
 mod bank;

@@ -11,12 +11,12 @@ use ras_base::NoMemory;
 use ras_facts::{Fact, Items, Name, section_item};
 use std::alloc::Global;
 
-/// The report of a record, read at this time: the fact that `fact_of_record` gives, and what each
-/// section says for the section's item.
+/// Returns the report of a record, read at this time: the fact that `fact_of_record` returns, and
+/// each section as the detail of the section's item.
 ///
 /// # Errors
 ///
-/// `NoMemory` comes only if memory runs out.
+/// `NoMemory`: only if memory runs out.
 pub fn report_of_record(
     alloc: Global,
     seconds: u64,

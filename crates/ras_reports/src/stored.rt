@@ -11,13 +11,13 @@ use ras_base::NoMemory;
 use ras_panic::panic_of;
 use std::alloc::Global;
 
-/// The report of a record of the store, read at this time: a panic record's is the bank's own, with
-/// the seconds of its report, and every other's is that of `report_of_record`. Its fact is that of
-/// `fact_of_stored`.
+/// Returns the report of a record of the store, read at this time. For a panic record it is the
+/// bank's own, with the seconds of its report; for every other record it is what `report_of_record`
+/// returns. Its fact is what `fact_of_stored` returns.
 ///
 /// # Errors
 ///
-/// `NoMemory` comes only if memory runs out.
+/// `NoMemory`: only if memory runs out.
 pub fn report_of_stored(
     alloc: Global,
     seconds: u64,

@@ -11,6 +11,7 @@ use Rattle.ras_script.specs.declared.line.Table.TheVariants.{Hest, Erst}
 use Rattle.ras_events.specs.Events.{Lists, admitted_in}
 use Rattle.ras_events.specs.Reports.{NumberedLine, driver_by, last_of, settings_told}
 use Rattle.ras_run.specs.LineActs.{lists_after}
+use Rattle.ras_run.specs.Step.{IsDrivable}
 
 abbrev IsGood : Lists → Type 0
 IsGood lists = is_admitted lists ≡ true
@@ -53,14 +54,14 @@ last_good [] good = tt
 last_good (lists ∷ []) good = good.0
 last_good (lists ∷ more ∷ all) good = last_good (more ∷ all) good.1
 
+good_admitted : (driver : Option Lists) → IfSome driver IsGood → IsDrivable driver
+good_admitted None good = tt
+good_admitted (Some lists) good = is-admitted lists good
+
 -- those that lines tell
-pub told_admitted : (before : List NumberedLine) (lists : Lists) → (settings_told before).driver ≡ Some lists → IsAdmittedTable lists
-told_admitted before lists is =
-    is-admitted lists (subst (λ (o : Option Lists). IfSome o IsGood) is (last_good (filter_map driver_by before) (all_admitted before)))
+pub drivable : (before : List NumberedLine) → IsDrivable (settings_told before).driver
+drivable before = good_admitted (settings_told before).driver (last_good (filter_map driver_by before) (all_admitted before))
 
 -- and those behind lines that tell of some
-pub lists_told : (before : List NumberedLine) (lists : Lists) → (settings_told before).driver ≡ Some lists → lists_after before ≡ lists
-lists_told before lists is = ap (λ (o : Option Lists). unwrap_or o []) is
-
 pub after_admitted : (before : List NumberedLine) (lists : Lists) → (settings_told before).driver ≡ Some lists → IsAdmittedTable (lists_after before)
-after_admitted before lists is = subst IsAdmittedTable (sym (lists_told before lists is)) (told_admitted before lists is)
+after_admitted before lists is = subst IsAdmittedTable (sym (ap (λ (o : Option Lists). unwrap_or o []) is)) (subst IsDrivable is (drivable before))

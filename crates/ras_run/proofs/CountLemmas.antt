@@ -1,8 +1,8 @@
 -- An event that counts what is made of its line, by the account that it is counted after.
-use Rattle.std.proofs.Common.{◌≡◌, ℕ, Bool, true, false, ◌||◌, List, [], ◌++◌, Result, Ok, Err, OnErr, IfErr, refl, sym, ap, subst, ◌∙◌, append-nil, arith}
+use Rattle.std.proofs.Common.{◌≡◌, ℕ, Bool, true, false, if◌then◌else◌, ◌||◌, Option, None, Some, List, [], ◌++◌, Result, Ok, Err, OnErr, IfErr, refl, sym, ap, subst, ◌∙◌, append_assoc, append-nil, arith}
 use Rattle.std.proofs.lemmas.Bool.Decides.{nat_tests}
 use Rattle.board_core.specs.Cause.{print_call}
-use Rattle.board_core.specs.Doing.{Act, Does, GoesWell, IsBad, Seen, one_end, went_well}
+use Rattle.board_core.specs.Doing.{Act, Does, IsBad, Seen, one_end, went_well}
 use Rattle.board_core.proofs.DoingLemmas.{does_first, does_then, made_one}
 use Rattle.ras_account.specs.Account.{State}
 use Rattle.ras_account.specs.Continued.{account_after_all}
@@ -16,6 +16,7 @@ use Rattle.ras_events.specs.declared.made.Piece.{Piece}
 use Rattle.ras_events.specs.Making.{entries_in}
 use Rattle.ras_events.specs.Preparing.{event_text_in, orders_along_entries, text_along}
 use Rattle.ras_events.specs.Repeats.{IsRepeat}
+use Rattle.ras_events.specs.Sizes.{IsFit}
 use Rattle.ras_events.specs.declared.settings.Settings.{Settings}
 use Rattle.ras_script.specs.declared.line.Line.{Line}
 use Rattle.ras_events.proofs.HistoryLemmas.{event_by_news, news_account}
@@ -25,9 +26,9 @@ use Rattle.ras_exit.specs.declared.exit.Exit.{Exit}
 use Rattle.ras_exit.specs.declared.exit.Exit.TheVariants.{Full, PrintFault}
 use Rattle.ras_exit.proofs.EndingLemmas.{ends_weaker}
 use Rattle.ras_exit.proofs.PrintLemmas.{as_part}
-use Rattle.ras_run.specs.LineActs.{event_prints, made_acts, news_acts}
+use Rattle.ras_run.specs.LineActs.{event_prints, made_acts, news_acts, told_acts}
 use Rattle.ras_run.specs.Places.{has_no_room_for, lacks_room_for, standing_with_news}
-use Rattle.ras_run.specs.Taking.{CountsMade, CountsNews, IsPrintExit}
+use Rattle.ras_run.specs.Taking.{CountsMade, CountsNews, CountsPolled, IsPrintExit}
 
 -- ---- room
 
@@ -36,10 +37,6 @@ within_past n within = grind (arith, nat_tests, within.names, within.entries, wi
 
 no_or : (a b : Bool) → a ≡ false → b ≡ false → (a || b) ≡ false
 no_or a b one two = rw (one, two) refl
-
-or_true : (a b : Bool) → b ≡ true → (a || b) ≡ true
-or_true true b is = refl
-or_true false b is = is
 
 pub text_told : (a now : State) (made : List Piece) (news : List Entry) (first text : List ℕ) → now ≡ a → news ≡ fresh_entries_in a (entries_in made) → first ≡ text_along a made
     → text ≡ first ++ order_lines (account_after_all now news).modules (orders_along_entries now news) → text ≡ event_text_in a made
@@ -70,6 +67,13 @@ end_is_bad starved = tt
 end_is_bad source_failed = tt
 end_is_bad (faulted kind) = tt
 
+-- what is counted stays so, if what comes then is cut short
+pub counted_still : {T : Type 0} (made : List Piece) (before after : Ledger) (result : Result T Exit) → CountsMade {T = Unit {0}} made (Ok tt) before after → IfErr result IsCutShort → CountsMade made result before after
+counted_still made before after (Ok done) counts ends = counts
+counted_still made before after (Err exit) counts ends =
+    ends_weaker ⊥ ((exit ≡ Full) × (has_no_room_for before.account.state before.journal.standing (entries_in made) ≡ true)) (Unit {0}) (Unit {0}) AnyFault
+    (λ kind. has_no_room_for before.account.state before.journal.standing (entries_in made) ≡ false) exit (λ never. absurd never) (λ memory over. over) (λ kind any. counts.0) ends
+
 module _ (made : List Piece) (news : List Entry) (before now after : Ledger) (same : now.account.state ≡ before.account.state) (still : now.journal.standing ≡ before.journal.standing)
     (news_are : news ≡ fresh_entries_in before.account.state (entries_in made)) (within : HasRoomFor before.account.state (entries_in made)) where
   abbrev a : State
@@ -84,52 +88,72 @@ module _ (made : List Piece) (news : List Entry) (before now after : Ledger) (sa
   is_not_full : lacks_room_for now.account.state now.journal.standing news ≡ false → has_no_room_for a s (entries_in made) ≡ false
   is_not_full room = no_or _ _ (within_past (numbers_with a (entries_in made)) within) (sym room_is ∙ room)
 
-  pub made_counted : (printed : Result (Unit {0}) Exit) → CountsNews news (Ok tt) now after → IfErr printed IsCutShort → CountsMade made printed before after
-  made_counted (Ok done) counts ends = (
-    is_not_full counts.0,
-    counts.1 ∙ (ap (λ (b : State). account_after_all b news) same ∙ (ap (account_after_all a) news_are ∙ news_account a (entries_in made))),
-    counts.2 ∙ (rw (same, still) (ap (standing_with_news a s) news_are)),
-  )
-  made_counted (Err exit) counts ends =
-      ends_weaker ⊥ ((exit ≡ Full) × (has_no_room_for a s (entries_in made) ≡ true)) (Unit {0}) (Unit {0}) AnyFault (λ kind. has_no_room_for a s (entries_in made) ≡ false) exit
-      (λ never. absurd never) (λ memory over. over) (λ kind any. is_not_full counts.0) ends
-
-  pub made_not_kept : (exit : Exit) → CountsNews news (Err exit) now after → CountsMade made (Err exit) before after
-  made_not_kept exit ends =
-      ends_weaker ((exit ≡ Full) × (lacks_room_for now.account.state now.journal.standing news ≡ true)) ((exit ≡ Full) × (has_no_room_for a s (entries_in made) ≡ true)) (Unit {0}) (Unit {0})
-      (λ kind. lacks_room_for now.account.state now.journal.standing news ≡ false) (λ kind. has_no_room_for a s (entries_in made) ≡ false) exit
-      (λ full. (full.0, or_true _ _ (sym room_is ∙ full.1))) (λ memory over. over) (λ kind room. is_not_full room) ends
+  pub made_counted : {T : Type 0} (printed : Result T Exit) → CountsNews news (Ok tt) now after → IfErr printed IsCutShort → CountsMade made printed before after
+  made_counted printed counts ends =
+      counted_still made before after printed (
+        is_not_full counts.0,
+        counts.1 ∙ (ap (λ (b : State). account_after_all b news) same ∙ (ap (account_after_all a) news_are ∙ news_account a (entries_in made))),
+        counts.2 ∙ (rw (same, still) (ap (standing_with_news a s) news_are)),
+      ) ends
 
   -- ---- what is done
 
   list_is : news_acts now.journal.standing now.account.state news ≡ news_acts s a (fresh_entries_in a (entries_in made))
   list_is = rw (same, still) (ap (news_acts s a) news_are)
 
-  -- the news are kept
-  pub news_kept : {X : Type 0} (see : X → Seen) (x y : X) → Does see (news_acts now.journal.standing now.account.state news) went_well x y → GoesWell (news_acts s a (fresh_entries_in a (entries_in made))) (see x) (see y)
-  news_kept see x y does = subst (λ (acts : List Act). Does see acts went_well x y) list_is does
+  module _ {X : Type 0} (see : X → Seen) where
+    -- the news aren't kept
+    pub told_not_kept : (exit : Exit) (x y : X) → Does see (news_acts now.journal.standing now.account.state news) (end_of (ending_of exit)) x y → Does see (told_acts a s made) (end_of (ending_of exit)) x y
+    told_not_kept exit x y does =
+        does_first see (news_acts s a (fresh_entries_in a (entries_in made))) (print_acts (event_text_in a made)) (end_of (ending_of exit)) x y (end_is_bad (ending_of exit))
+        (subst (λ (acts : List Act). Does see acts (end_of (ending_of exit)) x y) list_is does)
 
-  pub news_kept_not : {X : Type 0} (see : X → Seen) (exit : Exit) (x y : X) → Does see (news_acts now.journal.standing now.account.state news) (end_of (ending_of exit)) x y
-      → Does see (news_acts s a (fresh_entries_in a (entries_in made))) (end_of (ending_of exit)) x y
-  news_kept_not see exit x y does = subst (λ (acts : List Act). Does see acts (end_of (ending_of exit)) x y) list_is does
+    -- they are, and the text is printed
+    pub told_kept : (text : List ℕ) (printed : Result (Unit {0}) Exit) (x y z : X) → text ≡ event_text_in a made → Does see (news_acts now.journal.standing now.account.state news) went_well x y
+        → Does see (print_acts text) (one_end print_call printed) y z → OnErr printed (printed ≡ Err PrintFault) → Does see (told_acts a s made) (part_end printed) x z
+    told_kept text printed x y z text_is first second fault =
+        as_part see (told_acts a s made) printed x z fault
+        (does_then see (news_acts s a (fresh_entries_in a (entries_in made))) (print_acts (event_text_in a made)) (one_end print_call printed) x y z
+        (subst (λ (acts : List Act). Does see acts went_well x y) list_is first) (made_one print_call printed)
+        (subst (λ bytes. Does see (print_acts bytes) (one_end print_call printed) y z) text_is second))
 
-  module _ {X : Type 0} (see : X → Seen) (number : ℕ) where
-    pub news_not_kept : (exit : Exit) (x y : X) → Does see (news_acts now.journal.standing now.account.state news) (end_of (ending_of exit)) x y
-        → Does see (made_acts a number s made) (end_of (ending_of exit)) x y
-    news_not_kept exit x y does =
-        does_first see (news_acts s a (fresh_entries_in a (entries_in made))) (event_prints (event_text_in a made) number) (end_of (ending_of exit)) x y (end_is_bad (ending_of exit))
-        (news_kept_not see exit x y does)
+-- ---- what was made is counted unless there is a refusal, of which only the lack of room isn't known before
 
-    pub made_printed : (text done : List ℕ) (printed : Result (Unit {0}) Exit) (x y z : X) → text ≡ event_text_in a made → done ≡ done_line number
-        → Does see (news_acts now.journal.standing now.account.state news) went_well x y → Does see (print_acts text ++ print_acts done) (one_end print_call printed) y z
-        → OnErr printed (printed ≡ Err PrintFault) → Does see (made_acts a number s made) (part_end printed) x z
-    made_printed text done printed x y z text_is done_is first second fault =
-        let out : print_acts text ++ print_acts done ≡ event_prints (event_text_in a made) number =
-        ap (λ bytes. print_acts bytes ++ print_acts done) text_is ∙ ap (λ bytes. print_acts (event_text_in a made) ++ print_acts bytes) done_is in
-        as_part see (made_acts a number s made) printed x z fault
-        (does_then see (news_acts s a (fresh_entries_in a (entries_in made))) (event_prints (event_text_in a made) number) (one_end print_call printed) x y z
-        (news_kept see x y first) (made_one print_call printed)
-        (subst (λ (acts : List Act). Does see acts (one_end print_call printed) y z) out second))
+module _ (made : List Piece) (before after : Ledger) (fit : IsFit made) (refusal : Option Exit)
+    (by_room : (full : Bool) → has_no_room_for before.account.state before.journal.standing (entries_in made) ≡ full → refusal ≡ (if full then Some Full else None)) where
+  abbrev lacks : Bool
+  lacks = has_no_room_for before.account.state before.journal.standing (entries_in made)
+
+  pub counts_unless : (result : Result (Unit {0}) Exit) → CountsMade made result before after → CountsPolled refusal made result before after
+  counts_unless (Ok done) c = (by_room false c.0, fit, c.1, c.2)
+  counts_unless (Err exit) e =
+      ends_weaker ((exit ≡ Full) × (lacks ≡ true)) (refusal ≡ Some exit) (Unit {0}) (Unit {0}) (λ kind. lacks ≡ false) AnyFault exit
+      (λ full. by_room true full.1 ∙ ap (λ (e : Exit). Some e) (sym full.0)) (λ memory over. over) (λ kind room. tt) e
+
+  pub ends_unless : (result : Result (Unit {0}) Exit) → CountsMade made result before after → IfErr result (λ exit. EndsBy (Unit {0}) (Unit {0}) (λ kind. (refusal ≡ None) × IsFit made) (ending_of exit))
+  ends_unless (Ok done) c = tt
+  ends_unless (Err exit) e =
+      ends_weaker ((exit ≡ Full) × (lacks ≡ true)) (Unit {0}) (Unit {0}) (Unit {0}) (λ kind. lacks ≡ false) (λ kind. (refusal ≡ None) × IsFit made) exit
+      (λ full. tt) (λ memory over. over) (λ kind room. (by_room false room, fit)) e
+
+-- ---- its text is printed, and then its done line
+
+module _ {X : Type 0} (see : X → Seen) (a : State) (number : ℕ) (s : Standing) (made : List Piece) where
+  both_are : told_acts a s made ++ print_acts (done_line number) ≡ made_acts a number s made
+  both_are = append_assoc (news_acts s a (fresh_entries_in a (entries_in made))) (print_acts (event_text_in a made)) (print_acts (done_line number))
+
+  pub not_told : (exit : Exit) (x y : X) → Does see (told_acts a s made) (end_of (ending_of exit)) x y → Does see (made_acts a number s made) (end_of (ending_of exit)) x y
+  not_told exit x y does =
+      subst (λ (acts : List Act). Does see acts (end_of (ending_of exit)) x y) both_are
+      (does_first see (told_acts a s made) (print_acts (done_line number)) (end_of (ending_of exit)) x y (end_is_bad (ending_of exit)) does)
+
+  pub told_done : (done : List ℕ) (printed : Result (Unit {0}) Exit) (x y z : X) → done ≡ done_line number → Does see (told_acts a s made) went_well x y → Does see (print_acts done) (one_end print_call printed) y z
+      → OnErr printed (printed ≡ Err PrintFault) → Does see (made_acts a number s made) (part_end printed) x z
+  told_done done printed x y z done_is first second fault =
+      as_part see (made_acts a number s made) printed x z fault
+      (subst (λ (acts : List Act). Does see acts (one_end print_call printed) x z) both_are
+      (does_then see (told_acts a s made) (print_acts (done_line number)) (one_end print_call printed) x y z first (made_one print_call printed)
+      (subst (λ bytes. Does see (print_acts bytes) (one_end print_call printed) y z) done_is second)))
 
 -- ---- a line that reports no news
 

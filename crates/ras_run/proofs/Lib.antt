@@ -15,8 +15,7 @@ pub mod PutLemmas
 pub mod SavedLemmas
 pub mod ClearLemmas
 pub mod PolledLemmas
-pub mod LineLemmas
-pub mod DrivenLineLemmas
+pub mod StepLemmas
 pub mod PrintActLemmas
 pub mod DeviceActLemmas
 pub mod CourseLemmas

@@ -1,6 +1,8 @@
 -- What a run has come to after one line more.
-use Rattle.std.proofs.Common.{◌≡◌, ℕ, List, [], ◌∷◌, ◌++◌, Result, Ok, refl, sym, ap, ◌∙◌, append-nil}
+use Rattle.std.proofs.Common.{◌≡◌, ℕ, List, [], ◌∷◌, ◌++◌, Result, Ok, Err, refl, sym, ap, subst, ◌∙◌, append-nil}
 use Rattle.std.proofs.lemmas.List.Sums.{fold-append}
+use Rattle.board_core.specs.Doing.{Seen}
+use Rattle.board_core.specs.Told.{Told}
 use Rattle.erst_store.specs.Store.{Stored}
 use Rattle.ras_base.specs.Places.{places}
 use Rattle.ras_base.specs.Steps.PlacesLemmas.{places-snoc}
@@ -8,16 +10,18 @@ use Rattle.ras_account.specs.Continued.{account_after, account_after_all}
 use Rattle.ras_account.specs.Numbers.{fresh_entries_in}
 use Rattle.ras_journal.specs.declared.standing.Standing.{Standing}
 use Rattle.ras_script.specs.declared.line.Line.{Line}
-use Rattle.ras_events.specs.declared.event.Event.{Event}
-use Rattle.ras_events.specs.declared.event.LineRefusal.{LineRefusal}
 use Rattle.ras_events.specs.Events.{event_of, settings_after}
-use Rattle.ras_events.specs.Making.{entries_in}
-use Rattle.ras_events.specs.Reports.{NumberedLine, Place, entries_at, event_at, made_in, reports, settings_told}
+use Rattle.ras_events.specs.Reports.{NumberedLine, Place, entries_at, reports, settings_told}
+use Rattle.ras_events.specs.declared.settings.Settings.{Settings}
 use Rattle.ras_events.specs.Stores.{store_after}
 use Rattle.ras_events.proofs.ReportLemmas.{reports-cut, settings-line}
 use Rattle.ras_run.specs.declared.run.Run.{Run}
-use Rattle.ras_run.specs.Places.{Start, account_at, standing_along, standing_at, standing_with_news, store_at}
-use Rattle.ras_run.specs.Taking.{IsRunAfter}
+use Rattle.ras_exit.specs.declared.exit.Exit.{Exit}
+use Rattle.ras_run.specs.LineActs.{TakesEvent}
+use Rattle.ras_run.specs.Places.{IsBoardAfter, Start, account_at, standing_along, standing_at, standing_with_news, store_at}
+use Rattle.ras_run.specs.Step.{IsDrivable, Site, site_at, site_of}
+use Rattle.ras_run.specs.Taking.{IsRunAfter, TakesIn, TakesLine}
+use Rattle.ras_run.proofs.AdmittedLemmas.{drivable}
 
 reports-snoc : (store : List Stored) (before : List NumberedLine) (read : NumberedLine) → reports store (before ++ read ∷ []) ≡ reports store before ++ entries_at store (before, read)
 reports-snoc store before read = reports-cut store before (read ∷ []) ∙ ap (λ entries. reports store before ++ entries) (append-nil (entries_at store (before, read)))
@@ -42,27 +46,27 @@ pub standing-snoc : (start : Start) (before : List NumberedLine) (read : Numbere
 standing-snoc start before read =
     ap (standing_along start start.standing) (places-snoc before read) ∙ along-snoc start start.standing (places before) (before, read)
 
-pub event_is : (start : Start) (before : List NumberedLine) (number : ℕ) (line : Line) (run : Run) (asked : Result Event LineRefusal) → IsRunAfter start before run → event_of run.settings line ≡ asked
-    → event_at (before, (number, Ok line)) ≡ asked
-event_is start before number line run asked is event = ap (λ settings. event_of settings line) (sym is.settings) ∙ event
+-- ---- the site of a run after lines is that of all of them
 
-pub run_after : (start : Start) (before : List NumberedLine) (number : ℕ) (line : Line) (event : Event) (run after : Run) → IsRunAfter start before run → event_of run.settings line ≡ Ok event
-    → after.settings ≡ settings_after run.settings line
-    → after.ledger.account.state ≡ account_after_all (account_at start before) (entries_in (made_in (settings_told before).topology (store_at start before) (Ok event)))
-    → after.ledger.journal.standing
-    ≡ standing_with_news (account_at start before) (standing_at start before) (fresh_entries_in (account_at start before) (entries_in (made_in (settings_told before).topology (store_at start before) (Ok event))))
-    → IsRunAfter start (before ++ (number, Ok line) ∷ []) after
-run_after start before number line event run after is asked settings account standing =
-    let made : entries_at start.store (before, (number, Ok line)) ≡ entries_in (made_in (settings_told before).topology (store_at start before) (Ok event)) =
-    ap (λ (e : Result Event LineRefusal). entries_in (made_in (settings_told before).topology (store_at start before) e)) (event_is start before number line run (Ok event) is asked) in
-    record {
-      settings = settings ∙ (ap (λ told. settings_after told line) is.settings ∙ sym (settings-line before number line));
-      account =
-          account
-          ∙ (ap (λ entries. account_after_all (account_at start before) entries) (sym made)
-          ∙ sym (account-snoc start before (number, Ok line)));
-      standing =
-          standing
-          ∙ (ap (λ entries. standing_with_news (account_at start before) (standing_at start before) (fresh_entries_in (account_at start before) entries)) (sym made)
-          ∙ sym (standing-snoc start before (number, Ok line)));
-    }
+pub site_is : (start : Start) (before : List NumberedLine) (run : Run) (t : Told) → IsRunAfter start before run → IsBoardAfter start before t → site_of run t ≡ site_at start before
+site_is start before run t is board = λ i. record { settings = is.settings i; account = is.account i; standing = is.standing i; store = board.store i; slow = board.slow i }
+
+-- what was taken there, was taken at its place
+pub takes_line : (start : Start) (before : List NumberedLine) (number : ℕ) (line : Line) (result : Result (Unit {0}) Exit) (run : Run)
+    → TakesIn (site_at start before) number (settings_after (settings_told before) line) (event_of (settings_told before) line) result run → TakesLine start (before, (number, Ok line)) result run
+takes_line start before number line (Ok done) run takes = (
+  takes.0,
+  record {
+    settings = takes.1.settings ∙ sym (settings-line before number line);
+    account = takes.1.account ∙ sym (account-snoc start before (number, Ok line));
+    standing = takes.1.standing ∙ sym (standing-snoc start before (number, Ok line));
+  },
+)
+takes_line start before number line (Err exit) run ends = ends
+
+pub at_place : {X : Type 0} (see : X → Seen) (start : Start) (before : List NumberedLine) (number : ℕ) (line : Line) (result : Result (Unit {0}) Exit) (old run : Run) (t : Told) (x y : X) → IsRunAfter start before old → IsBoardAfter start before t
+    → (IsDrivable old.settings.driver → TakesEvent see (site_of old t) number (settings_after old.settings line) (event_of old.settings line) t result run x y)
+    → TakesEvent see (site_at start before) number (settings_after (settings_told before) line) (event_of (settings_told before) line) t result run x y
+at_place see start before number line result old run t x y is board takes =
+    subst (λ (site : Site). TakesEvent see site number (settings_after site.settings line) (event_of site.settings line) t result run x y) (site_is start before old t is board)
+    (takes (subst (λ (s : Settings). IsDrivable s.driver) (sym is.settings) (drivable before)))

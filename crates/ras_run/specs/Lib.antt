@@ -1,5 +1,6 @@
 pub mod Files
 pub mod Places
+pub mod Step
 pub mod Status
 pub mod Output
 pub mod Moments

@@ -16,16 +16,17 @@ use Rattle.ras_facts.specs.declared.entry.Entry.{Entry}
 use Rattle.ras_journal.specs.declared.standing.Standing.{Standing}
 use Rattle.ras_journal.specs.Recovered.{IsAt}
 use Rattle.ras_recover.specs.OpeningCalls.{IsRecoveryOf}
+use Rattle.ras_ledger.specs.declared.ledger.Ledger.{Ledger}
 use Rattle.ras_ledger.specs.Keeping.{keeping_acts}
 use Rattle.ras_events.specs.declared.event.Event.{Event}
 use Rattle.ras_events.specs.declared.event.Event.TheVariants.{Settled, Counted, Put, Saved, Polled, Reopened}
 use Rattle.ras_events.specs.declared.event.LineRefusal.{LineRefusal}
 use Rattle.ras_events.specs.declared.made.Piece.{Piece}
 use Rattle.ras_events.specs.Events.{Lists}
-use Rattle.ras_events.specs.Making.{entries_in}
+use Rattle.ras_events.specs.Making.{entries_in, polled}
 use Rattle.ras_events.specs.Preparing.{event_text_in}
 use Rattle.ras_events.specs.Reports.{NumberedLine, Place, event_at, settings_told}
-use Rattle.ras_events.specs.Sizes.{CanBeSaved}
+use Rattle.ras_events.specs.Sizes.{CanBeSaved, IsFit}
 use Rattle.ras_records.specs.Each.{each_calls}
 use Rattle.ras_records.specs.Polls.{look_calls, readable_ids}
 use Rattle.ras_exit.specs.Acts.{DoesBy, DoesSome, ended_with, print_acts}
@@ -33,9 +34,12 @@ use Rattle.ras_exit.specs.Endings.{CallEnding, answered, ending_of, faulted}
 use Rattle.ras_exit.specs.declared.exit.Exit.{Exit}
 use Rattle.ras_texts.specs.Orders.{standing_lines}
 use Rattle.ras_texts.specs.Text.{done_line}
-use Rattle.ras_run.specs.Places.{IsBoardAfter, Start, account_at, polled_at, standing_at, store_at}
-use Rattle.ras_run.specs.Status.{refusal_at}
-use Rattle.ras_run.specs.Taking.{IsAccepted}
+use Rattle.ras_events.specs.declared.settings.Settings.{Settings}
+use Rattle.ras_run.specs.declared.run.Run.{Run}
+use Rattle.ras_run.specs.Places.{IsBoardAfter, Start, account_at, standing_at}
+use Rattle.ras_run.specs.Status.{polling_refusal, site_refusal}
+use Rattle.ras_run.specs.Step.{Site, driving_lists, site_at}
+use Rattle.ras_run.specs.Taking.{CountsPolled, IsAcceptedIn, TakesIn}
 
 -- new entries are appended as one link; without any, nothing is done
 abbrev pub news_acts : Standing → State → List Entry → List Act
@@ -74,41 +78,40 @@ AreReopening account number here acts =
 abbrev pub lists_after : List NumberedLine → Lists
 lists_after before = unwrap_or (settings_told before).driver []
 
--- What a line asks of the record store before all else: a put puts its record, a panic saves the one of
--- its report, and a poll lists the store's records and reads each.
-abbrev pub asking_acts : List NumberedLine → Result Event LineRefusal → Told → List Act
-asking_acts before (Ok (Put id bytes)) t = device (put id bytes) ∷ []
-asking_acts before (Ok (Saved id bytes)) t = acts_of (write_calls (lists_after before) bytes (device_of t))
-asking_acts before (Ok (Polled seconds)) t = acts_of (look_calls (lists_after before) t)
-asking_acts before event t = []
+-- What an event asks of the record store before all else, by the lists that drive it: a put puts its
+-- record, a panic saves the one of its report, and a poll lists the store's records and reads each.
+abbrev pub asking_by : Lists → Result Event LineRefusal → Told → List Act
+asking_by lists (Ok (Put id bytes)) t = device (put id bytes) ∷ []
+asking_by lists (Ok (Saved id bytes)) t = acts_of (write_calls lists bytes (device_of t))
+asking_by lists (Ok (Polled seconds)) t = acts_of (look_calls lists t)
+asking_by lists event t = []
 
 -- What it does then, if it isn't refused, over what is told once it has asked. A line that asks for
 -- nothing does nothing.
-abbrev pub AreFollowing : Start → Place → Result Event LineRefusal → Told → List Act → Type 0
-AreFollowing start (before, (number, line)) (Ok Settled) t acts = acts ≡ event_prints [] number
-AreFollowing start (before, (number, line)) (Ok (Counted made)) t acts =
-    acts ≡ made_acts (account_at start before) number (standing_at start before) made
-AreFollowing start (before, (number, line)) (Ok (Put id bytes)) t acts = acts ≡ print_acts (done_line number)
-AreFollowing start (before, (number, line)) (Ok (Saved id bytes)) t acts = acts ≡ print_acts (done_line number)
-AreFollowing start (before, (number, line)) (Ok (Polled seconds)) t acts =
+abbrev pub AreFollowingIn : Site → ℕ → Result Event LineRefusal → Told → List Act → Type 0
+AreFollowingIn site number (Ok Settled) t acts = acts ≡ event_prints [] number
+AreFollowingIn site number (Ok (Counted made)) t acts = acts ≡ made_acts site.account number site.standing made
+AreFollowingIn site number (Ok (Put id bytes)) t acts = acts ≡ print_acts (done_line number)
+AreFollowingIn site number (Ok (Saved id bytes)) t acts = acts ≡ print_acts (done_line number)
+AreFollowingIn site number (Ok (Polled seconds)) t acts =
     acts
-    ≡ polled_acts (lists_after before) (account_at start before) number (standing_at start before) (polled_at start before seconds)
-    (readable_ids (store_at start before)) t
-AreFollowing start (before, (number, line)) (Ok Reopened) t acts = AreReopening (account_at start before) number t.here acts
-AreFollowing start place event t acts = acts ≡ []
+    ≡ polled_acts (driving_lists site) site.account number site.standing
+    (polled site.settings.topology seconds site.store) (readable_ids site.store) t
+AreFollowingIn site number (Ok Reopened) t acts = AreReopening site.account number t.here acts
+AreFollowingIn site number event t acts = acts ≡ []
 
 -- A line that is refused does no more than ask.
 abbrev pub AreUnlessRefused : Option Exit → (List Act → Type 0) → List Act → Type 0
 AreUnlessRefused (Some why) Are acts = acts ≡ []
 AreUnlessRefused None Are acts = Are acts
 
--- the acts of a line at its place, over a board that tells this
-pub record AreLineActs (start : Start) (place : Place) (t : Told) (acts : List Act) : Type 0 where
+-- the acts of an event at a site, over a board that tells this
+pub record AreActsIn (site : Site) (number : ℕ) (event : Result Event LineRefusal) (t : Told) (acts : List Act) : Type 0 where
   pub rest : List Act
-  pub is : acts ≡ asking_acts place.0 (event_at place) t ++ rest
+  pub is : acts ≡ asking_by (driving_lists site) event t ++ rest
   pub follow :
-      AreUnlessRefused (refusal_at start place)
-      (AreFollowing start place (event_at place) (after_acts (asking_acts place.0 (event_at place) t) t)) rest
+      AreUnlessRefused (site_refusal site number event)
+      (AreFollowingIn site number event (after_acts (asking_by (driving_lists site) event t) t)) rest
 
 -- What its calls of the device showed: that what is told of it is a device, and that a record that it
 -- saves is one.
@@ -117,20 +120,42 @@ CanAsk (Ok (Saved id bytes)) t = CanBeSaved id bytes × IsDevice (device_of t)
 CanAsk (Ok (Polled seconds)) t = IsDevice (device_of t)
 CanAsk event t = Unit {0}
 
--- The acts that a line began, by how it ended: all of its own; but if the device failed before it was
--- known whether the line is refused, no more than those by which it asks.
+-- The acts that it began, by how it ended: all of its own; but if the device failed before it was known
+-- whether it is refused, no more than those by which it asks.
+abbrev pub AreBegunIn : Site → ℕ → Result Event LineRefusal → Told → CallEnding → List Act → Type 0
+AreBegunIn site number event t answered acts = CanAsk event t × AreActsIn site number event t acts
+AreBegunIn site number event t (faulted kind) acts =
+    CanAsk event t
+    × ((IsAcceptedIn site number event × AreActsIn site number event t acts)
+    ⊎ ((kind ≡ device_call) × (acts ≡ asking_by (driving_lists site) event t)))
+AreBegunIn site number event t ending acts = AreActsIn site number event t acts
+
+abbrev pub DoesIn : {X : Type 0} → (X → Seen) → Site → ℕ → Result Event LineRefusal → Told → Result (Unit {0}) Exit → X → X → Type 0
+DoesIn see site number event t result old new =
+    (acts : List Act) × AreBegunIn site number event t (ended_with result) acts × DoesBy see acts (ended_with result) old new
+
+-- An event was taken at a site, and did its acts. From then on this is told of the machine.
+pub record TakesEvent {X : Type 0} (see : X → Seen) (site : Site) (number : ℕ) (told : Settings) (event : Result Event LineRefusal) (t : Told) (result : Result (Unit {0}) Exit) (run : Run) (old new : X) : Type 0 where
+  pub takes : TakesIn site number told event result run
+  pub does : DoesIn see site number event t result old new
+
+-- what a line asks of the record store, what it does then, and all its acts, at its place
+abbrev pub asking_acts : List NumberedLine → Result Event LineRefusal → Told → List Act
+asking_acts before event t = asking_by (lists_after before) event t
+
+abbrev pub AreFollowing : Start → Place → Result Event LineRefusal → Told → List Act → Type 0
+AreFollowing start place event t acts = AreFollowingIn (site_at start place.0) place.1.0 event t acts
+
+abbrev pub AreLineActs : Start → Place → Told → List Act → Type 0
+AreLineActs start place t acts = AreActsIn (site_at start place.0) place.1.0 (event_at place) t acts
+
 abbrev pub AreBegun : Start → Place → Told → CallEnding → List Act → Type 0
-AreBegun start place t answered acts = CanAsk (event_at place) t × AreLineActs start place t acts
-AreBegun start place t (faulted kind) acts =
-    CanAsk (event_at place) t
-    × ((IsAccepted start place × AreLineActs start place t acts)
-    ⊎ ((kind ≡ device_call) × (acts ≡ asking_acts place.0 (event_at place) t)))
-AreBegun start place t ending acts = AreLineActs start place t acts
+AreBegun start place t ending acts = AreBegunIn (site_at start place.0) place.1.0 (event_at place) t ending acts
 
 -- A line does its acts, and so does an opening in the midst of a run.
 abbrev pub DoesLine : {X : Type 0} → (X → Seen) → Start → Place → Told → Result (Unit {0}) Exit → X → X → Type 0
 DoesLine see start place t result old new =
-    (acts : List Act) × AreBegun start place t (ended_with result) acts × DoesBy see acts (ended_with result) old new
+    DoesIn see (site_at start place.0) place.1.0 (event_at place) t result old new
 
 abbrev pub DoesReopening : {X : Type 0} → (X → Seen) → State → ℕ → Left → Result (Unit {0}) Exit → X → X → Type 0
 DoesReopening see account number here result old new =
@@ -149,6 +174,18 @@ AskingEnds see Can Accepted asked rest ending old new = DoesSome see asked old n
 abbrev pub DoesAsking : {X : Type 0} → (X → Seen) → Type 0 → Type 0 → List Act → List Act → Result (Unit {0}) Exit → X → X → Type 0
 DoesAsking see Can Accepted asked rest (Ok done) old new = Can × GoesWell (asked ++ rest) (see old) (see new)
 DoesAsking see Can Accepted asked rest (Err exit) old new = AskingEnds see Can Accepted asked rest (ending_of exit) old new
+
+-- A poll that finds these pieces, and these identifiers of records that can be read: it counts the pieces
+-- unless it is refused, and does its acts.
+abbrev pub DoesPoll : {X : Type 0} → (X → Seen) → Lists → Told → ℕ → List Piece → List ℕ → Result (Unit {0}) Exit → Ledger → Ledger → X → X → Type 0
+DoesPoll see lists t number made ids result ledger ledger' old new =
+    let account = ledger.account.state in
+    let standing = ledger.journal.standing in
+    let refusal = polling_refusal t.volatile.slow t.here.store account standing (entries_in made) in
+    let asked = acts_of (look_calls lists t) in
+    CountsPolled refusal made result ledger ledger'
+    × DoesAsking see (IsDevice (device_of t)) ((refusal ≡ None) × IsFit made) asked
+    (polled_acts lists account number standing made ids (after_acts asked t)) result old new
 
 -- The files hold the account that a run has come to after these lines, and the record store is what
 -- they left.

@@ -13,13 +13,14 @@ use Rattle.ras_events.specs.declared.event.Event.{Event}
 use Rattle.ras_events.specs.declared.event.Event.TheVariants.{Counted, Put, Saved, Polled}
 use Rattle.ras_events.specs.declared.event.LineRefusal.{LineRefusal}
 use Rattle.ras_events.specs.declared.event.LineRefusal.TheVariants.{Bad, NoTable}
-use Rattle.ras_events.specs.Making.{entries_in}
+use Rattle.ras_events.specs.Making.{entries_in, polled}
 use Rattle.ras_events.specs.Reports.{Place, event_at}
 use Rattle.ras_records.specs.Polls.{is_busy_for_reads}
 use Rattle.ras_exit.specs.declared.reason.Reason.TheVariants as reason
 use Rattle.ras_exit.specs.declared.exit.Exit.{Exit}
 use Rattle.ras_exit.specs.declared.exit.Exit.TheVariants.{BadLine, RegisterFault, Full, ErstRefused, ErstBusy, ErstStatus, NoMemory}
-use Rattle.ras_run.specs.Places.{Start, account_at, has_no_room_for, polled_at, standing_at, store_at}
+use Rattle.ras_run.specs.Places.{Start, has_no_room_for}
+use Rattle.ras_run.specs.Step.{Site, site_at}
 
 -- how a run ends at a line that is refused by what it asks for
 abbrev pub refused_exit : ℕ → LineRefusal → Exit
@@ -53,20 +54,22 @@ abbrev pub polling_refusal : ℕ → List Stored → State → Standing → List
 polling_refusal slow store account standing entries =
     if is_busy_for_reads slow store then Some ErstBusy else counting_refusal account standing entries
 
--- Why a line is refused at its place, if it is: it can't be read, or what it asks for can't be
+-- Why an event is refused at a site, if it is: its line can't be read, or what it asks for can't be
 -- done; there is no room for what it reports; the record store refuses the record that it puts or
 -- saves, or its device is too slow.
+abbrev pub site_refusal : Site → ℕ → Result Event LineRefusal → Option Exit
+site_refusal site number (Err why) = Some (refused_exit number why)
+site_refusal site number (Ok (Counted made)) = counting_refusal site.account site.standing (entries_in made)
+site_refusal site number (Ok (Put id bytes)) = put_refusal number (refusal_of id bytes site.store)
+site_refusal site number (Ok (Saved id bytes)) = saving_refusal site.slow id site.store
+site_refusal site number (Ok (Polled seconds)) =
+    polling_refusal site.slow site.store site.account site.standing
+    (entries_in (polled site.settings.topology seconds site.store))
+site_refusal site number (Ok event) = None
+
+-- why a line is refused at its place
 abbrev pub event_refusal : Start → Place → Result Event LineRefusal → Option Exit
-event_refusal start (before, (number, line)) (Err why) = Some (refused_exit number why)
-event_refusal start (before, (number, line)) (Ok (Counted made)) =
-    counting_refusal (account_at start before) (standing_at start before) (entries_in made)
-event_refusal start (before, (number, line)) (Ok (Put id bytes)) =
-    put_refusal number (refusal_of id bytes (store_at start before))
-event_refusal start (before, (number, line)) (Ok (Saved id bytes)) = saving_refusal start.slow id (store_at start before)
-event_refusal start (before, (number, line)) (Ok (Polled seconds)) =
-    polling_refusal start.slow (store_at start before) (account_at start before) (standing_at start before)
-    (entries_in (polled_at start before seconds))
-event_refusal start place (Ok event) = None
+event_refusal start place event = site_refusal (site_at start place.0) place.1.0 event
 
 abbrev pub refusal_at : Start → Place → Option Exit
 refusal_at start place = event_refusal start place (event_at place)

@@ -20,7 +20,10 @@ use Rattle.ras_ledger.specs.Keeping.{Stands}
 use Rattle.ras_events.specs.declared.preparing.News.{News}
 use Rattle.ras_events.specs.declared.made.Piece.{Piece}
 use Rattle.ras_events.specs.Making.{entries_in}
-use Rattle.ras_events.specs.Reports.{NumberedLine, Place, pieces_at, settings_told}
+use Rattle.ras_events.specs.Reports.{NumberedLine, Place, event_at, made_in, settings_told}
+use Rattle.ras_events.specs.declared.event.Event.{Event}
+use Rattle.ras_events.specs.declared.event.LineRefusal.{LineRefusal}
+use Rattle.ras_events.specs.declared.settings.Settings.{Settings}
 use Rattle.ras_events.specs.Sizes.{IsFit}
 use Rattle.ras_exit.specs.declared.exit.Exit.{Exit}
 use Rattle.ras_exit.specs.declared.exit.Exit.TheVariants.{DiskFault, Damaged, Full, NoMemory, TooLong}
@@ -30,7 +33,8 @@ use Rattle.ras_run.specs.declared.run.Run.{Run}
 use Rattle.ras_run.specs.Files.{refusal_exit}
 use Rattle.ras_run.specs.Moments.{CourseMoment, course_at}
 use Rattle.ras_run.specs.Places.{Start, account_at, has_no_room_for, lacks_room_for, standing_at, standing_with_news}
-use Rattle.ras_run.specs.Status.{refusal_at}
+use Rattle.ras_run.specs.Status.{refusal_at, site_refusal}
+use Rattle.ras_run.specs.Step.{Site, site_at}
 
 -- What a run has at hand after these lines: what they told of the machine, and the account of what
 -- was reported with its journal.
@@ -58,13 +62,30 @@ IsPrintExit exit = EndsBy ⊥ ⊤ (OnlyFault print_call) (ending_of exit)
 
 -- ---- a line
 
--- a line is accepted at its place: it isn't refused, and what it makes can be one link
-pub record IsAccepted (start : Start) (place : Place) : Type 0 where
-  pub taken : refusal_at start place ≡ None
-  pub fit : IsFit (pieces_at start.store place)
+-- an event is accepted at a site: it isn't refused, and what it makes can be one link
+pub record IsAcceptedIn (site : Site) (number : ℕ) (event : Result Event LineRefusal) : Type 0 where
+  pub taken : site_refusal site number event ≡ None
+  pub fit : IsFit (made_in site.settings.topology site.store event)
 
--- A line was taken at its place, or the run ends there: the line is refused, or memory ran out, or a
--- call of the board failed.
+-- What a run has at hand once this is told of the machine, and these pieces are counted after a site.
+pub record HasCounted (site : Site) (told : Settings) (made : List Piece) (run : Run) : Type 0 where
+  pub settings : run.settings ≡ told
+  pub account : run.ledger.account.state ≡ account_after_all site.account (entries_in made)
+  pub standing :
+      run.ledger.journal.standing
+      ≡ standing_with_news site.account site.standing (fresh_entries_in site.account (entries_in made))
+
+-- An event was taken at a site, or the run ends there: it is refused, or memory ran out, or a call of
+-- the board failed.
+abbrev pub TakesIn : Site → ℕ → Settings → Result Event LineRefusal → Result (Unit {0}) Exit → Run → Type 0
+TakesIn site number told event (Ok done) run =
+    IsAcceptedIn site number event × HasCounted site told (made_in site.settings.topology site.store event) run
+TakesIn site number told event (Err exit) run = EndsBy (site_refusal site number event ≡ Some exit) ⊤ AnyFault (ending_of exit)
+
+-- the same of a line at its place
+abbrev pub IsAccepted : Start → Place → Type 0
+IsAccepted start place = IsAcceptedIn (site_at start place.0) place.1.0 (event_at place)
+
 abbrev pub TakesLine : Start → Place → Result (Unit {0}) Exit → Run → Type 0
 TakesLine start place (Ok done) run = IsAccepted start place × IsRunAfter start (place.0 ++ place.1 ∷ []) run
 TakesLine start place (Err exit) run = EndsBy (refusal_at start place ≡ Some exit) ⊤ AnyFault (ending_of exit)
@@ -101,7 +122,7 @@ CountsNews news (Ok done) old new =
 CountsNews news (Err exit) old new = EndsByRoom (lacks_room_for old.account.state old.journal.standing news) exit
 
 -- The same of what is made of a line: what is news of it was counted.
-abbrev pub CountsMade : List Piece → Result (Unit {0}) Exit → Ledger → Ledger → Type 0
+abbrev pub CountsMade : {T : Type 0} → List Piece → Result T Exit → Ledger → Ledger → Type 0
 CountsMade made (Ok done) old new =
     (has_no_room_for old.account.state old.journal.standing (entries_in made) ≡ false)
     × (new.account.state ≡ account_after_all old.account.state (entries_in made))

@@ -1,27 +1,24 @@
 //! An event that counts what was made of its line.
 
-ghost use Rattle.std.specs.Prelude.{◌≡◌, ◌++◌, false, true, IfErr, IfOk, IfSome, OnOk, ⊤};
+ghost use Rattle.std.specs.Prelude.{◌≡◌, ◌++◌, IfErr, IfOk, IfSome, OnOk};
 ghost use Rattle.board_core.specs.Doing.{Does, looks};
 ghost use Rattle.ras_account.specs.Continued.{account_after_all};
-ghost use Rattle.ras_account.specs.Numbers.{HasRoomFor, are_past, numbers_with};
-ghost use Rattle.ras_events.specs.Making.{entries_in};
-ghost use Rattle.ras_events.specs.Preparing.{CanTake, IsPrepared, IsReady as IsReadyFor};
+ghost use Rattle.ras_events.specs.Preparing.{CanTake};
 ghost use Rattle.ras_events.specs.Preparing.{news_entries, orders_along_entries};
 ghost use Rattle.ras_events.specs.Sizes.{IsFit};
 ghost use Rattle.ras_exit.specs.Acts.{part_end};
 ghost use Rattle.ras_exit.specs.Causes.{BoardCause, Causes};
-ghost use Rattle.ras_exit.specs.Endings.{EndsBy, IsStop, ending_of};
-ghost use Rattle.ras_run.specs.LineActs.{made_acts, news_acts};
+ghost use Rattle.ras_exit.specs.Endings.{IsStop};
+ghost use Rattle.ras_run.specs.LineActs.{made_acts, news_acts, told_acts};
 ghost use Rattle.ras_run.specs.Taking.{CanBeKept, CountsMade, CountsNews};
 ghost use Rattle.ras_run.specs.Taking.{IsReady};
 ghost use Rattle.ras_texts.specs.OrderRoom.{HasOrderRoom};
 ghost use Rattle.ras_texts.specs.Orders.{order_lines};
+ghost use Rattle.ras_texts.specs.Text.{done_line};
 
-use crate::printing::print_event;
 use board_core::Board;
-use ras_account::Account;
 use ras_events::{Made, News, PrepareRefused, Prepared, count, prepare};
-use ras_exit::Exit;
+use ras_exit::{Exit, print};
 use ras_ledger::{KeepRefused, Ledger};
 use std::alloc::Global;
 
@@ -51,47 +48,51 @@ pub fn take_made<B: Board>(
     ensures stop { IfErr result IsStop }
     ensures faults { Causes BoardCause result (B.faults board.old) (B.faults board.new) }
 {
+    let done = tell_made(alloc, number, made, ledger, board)?;
+    print(&done, board)
+}
+
+/// Returns the done line of the event, once all but that line is done: all memory is taken first,
+/// then what is news of what was made of the line of this number is kept in the journal, then it is
+/// counted, and then the event's text is printed.
+///
+/// # Errors
+///
+/// As `take_made`.
+pub(crate) fn tell_made<B: Board>(
+    alloc: Global,
+    number: u64,
+    made: Made,
+    ledger: &mut Ledger,
+    board: &mut B,
+) -> Result<Vec<u8>, Exit>
+    requires fit { IsFit made }
+    requires ready { IsReady ledger.old (B.told board.old) (B.clock board.old) }
+
+    ensures counts { CountsMade made result ledger.old ledger.new }
+    ensures does { Does (looks B.told B.clock B.faults)
+        (told_acts ledger.old.account.state ledger.old.journal.standing made)
+        (part_end result) board.old board.new }
+    ensures ready { OnOk result (IsReady ledger.new (B.told board.new) (B.clock board.new)) }
+    ensures done { IfOk result (λ done. done.items ≡ done_line number) }
+{
     let Prepared {
         news,
         mut text,
         done,
-    } = prepare_made(alloc, number, made, &mut ledger.account)?;
+    } = match prepare(alloc, number, made, &mut ledger.account) {
+        Ok(event) => event,
+        Err(PrepareRefused::Full) => return Err(Exit::Full),
+        Err(PrepareRefused::NoMemory) => return Err(Exit::NoMemory),
+    };
     keep(alloc, news, &mut text, ledger, board)?;
-    print_event(&text, &done, board)
+    print(&text, board)?;
+    Ok(done)
 }
 
-/// Takes all the memory of an event that counts what was made of the line of this number, as
-/// `prepare` of ras_events.
-///
-/// # Errors
-///
-/// `Full` comes exactly if the account has no room for the news, and `NoMemory` only if memory runs
-/// out.
-pub(crate) fn prepare_made(
-    alloc: Global,
-    number: u64,
-    made: Made,
-    account: &mut Account,
-) -> Result<Prepared, Exit>
-    requires fit { IsFit made }
-    ensures prepared { IfOk result (IsPrepared account.old.state number made) }
-    ensures ready { IfOk result (IsReadyFor account.new) }
-    ensures state { account.new.state ≡ account.old.state }
-    ensures room { OnOk result (HasRoomFor account.old.state (entries_in made)) }
-    ensures ends { IfErr result (λ exit. EndsBy ((exit ≡ Exit.Full)
-        × (are_past (numbers_with account.old.state (entries_in made)) ≡ true)) ⊤ (λ kind. ⊥)
-        (ending_of exit)) }
-{
-    match prepare(alloc, number, made, account) {
-        Ok(event) => Ok(event),
-        Err(PrepareRefused::Full) => Err(Exit::Full),
-        Err(PrepareRefused::NoMemory) => Err(Exit::NoMemory),
-    }
-}
-
-/// Keeps in the journal what is news of an event, counts it, and puts the lines of its orders after
-/// the event's text.
-pub(crate) fn keep<B: Board>(
+// Keeps in the journal what is news of an event, counts it, and puts the lines of its orders after
+// the event's text.
+fn keep<B: Board>(
     alloc: Global,
     news: Option<News>,
     text: &mut Vec<u8>,

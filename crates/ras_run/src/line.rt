@@ -6,13 +6,17 @@ ghost use Rattle.board_core.specs.Doing.{Does, looks};
 ghost use Rattle.board_core.specs.Told.{Told};
 ghost use Rattle.ras_events.specs.Reports.{NumberedLine};
 ghost use Rattle.ras_script.specs.Line.{line_of};
+ghost use Rattle.ras_script.specs.LineLaws.{IsInRange};
 ghost use Rattle.ras_script.specs.declared.reader.TheConstants.{LONGEST_LINE};
 ghost use Rattle.ras_exit.specs.Acts.{part_end};
 ghost use Rattle.ras_exit.specs.Causes.{BoardCause, Causes};
 ghost use Rattle.ras_exit.specs.Endings.{IsStop};
-ghost use Rattle.ras_run.specs.LineActs.{DoesLine, DoesReopening, event_prints};
+ghost use Rattle.ras_events.specs.Events.{event_of, settings_after};
+ghost use Rattle.ras_events.specs.Sizes.{IsShortLine};
+ghost use Rattle.ras_run.specs.LineActs.{DoesLine, DoesReopening, TakesEvent, event_prints};
 ghost use Rattle.ras_run.specs.Places.{IsBoardAfter, Start};
 ghost use Rattle.ras_run.specs.Status.{refused_exit};
+ghost use Rattle.ras_run.specs.Step.{IsDrivable, site_of};
 ghost use Rattle.ras_run.specs.Taking.{IsPrintExit, IsReady, IsRunAfter, LedgerStands};
 ghost use Rattle.ras_run.specs.Taking.{Reopens, TakesLine};
 ghost use Rattle.ras_texts.specs.Text.{known_line};
@@ -68,11 +72,34 @@ pub fn take_line<B: Board>(
     ensures stop { IfErr result IsStop }
     ensures faults { Causes BoardCause result (B.faults board.old) (B.faults board.new) }
 {
-    let line = match read_line(alloc, bytes) {
-        Ok(Line::Nothing) => return Ok(()),
-        Ok(line) => line,
-        Err(refused) => return Err(Exit::of_unread(number, refused)),
-    };
+    match read_line(alloc, bytes) {
+        Ok(line) => take_read(alloc, number, line, run, board),
+        Err(refused) => Err(Exit::of_unread(number, refused)),
+    }
+}
+
+// Takes a line of this number that was read, at the site that the run has come to.
+fn take_read<B: Board>(
+    alloc: Global,
+    number: u64,
+    line: Line,
+    run: &mut Run,
+    board: &mut B,
+) -> Result<(), Exit>
+    requires range { IsInRange line }
+    requires short { IsShortLine line }
+    requires ready { IsReady run.old.ledger (B.told board.old) (B.clock board.old) }
+
+    ensures takes { (t : Told) → B.told board.old ≡ Some t → IsDrivable run.old.settings.driver
+        → let site = site_of run.old t in
+        TakesEvent (looks B.told B.clock B.faults) site number
+        (settings_after site.settings line) (event_of site.settings line) t result
+        run.new board.old board.new }
+    ensures ready { OnOk result
+        (IsReady run.new.ledger (B.told board.new) (B.clock board.new)) }
+    ensures stop { IfErr result IsStop }
+    ensures faults { Causes BoardCause result (B.faults board.old) (B.faults board.new) }
+{
     if let Some(name) = run.settings.repeat_of(&line, &run.ledger.account) {
         return end_repeat(number, &name, &run.ledger.account, &mut run.text, board);
     }

@@ -1,4 +1,4 @@
--- What a word of a line says, and what a few of them say together.
+-- What a word of a line means, and what several words mean together.
 use Rattle.std.specs.Prelude.{ℕ, ◌-◌, ◌^◌, ◌==◌, List, [], ◌∷◌, Result, Ok, Err, if◌then◌else◌}
 use Rattle.std.specs.Option.{ok_or}
 use Rattle.dimm_topology.specs.Labels.{is_label}
@@ -33,11 +33,11 @@ positive_of most word = read_number most word >>= λ n. if n == 0 then Err Numbe
 abbrev pub hex_u64_of : List ℕ → Result ℕ LineRefused
 hex_u64_of word = ok_or (hexadecimal_of word) Number
 
--- bytes
+-- bytes, as a word in hexadecimal writes them
 abbrev pub hex_bytes_of : List ℕ → Result (List ℕ) LineRefused
 hex_bytes_of word = ok_or (bytes_of word) Hex
 
--- a label
+-- a label, which is its own word
 abbrev pub read_label : List ℕ → Result (List ℕ) LineRefused
 read_label word = if is_label word then Ok word else Err NoLabel
 

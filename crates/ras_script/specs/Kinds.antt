@@ -1,4 +1,4 @@
--- What each kind of line asks for. Numbers are decimal unless it says that they are hexadecimal.
+-- What each kind of line asks for. Numbers are decimal unless they are called hexadecimal.
 use Rattle.std.specs.Prelude.{ℕ, ◌==◌, List, [], ◌∷◌, length, Result, Ok, Err, if◌then◌else◌, nat_le}
 use Rattle.dimm_topology.specs.declared.row.Row.TheVariants.{Cpu, Module, Range, Place}
 use Rattle.ras_base.specs.Chaining.{◌>>=◌}
@@ -61,7 +61,7 @@ place_asks (label ∷ node ∷ card ∷ number ∷ []) = do
   Ok (asks.Row (Place label node card number))
 place_asks words = Err Words
 
--- a limit for pages, and one for modules
+-- a limit for pages, and a limit for modules
 abbrev pub limit_asks : Reading
 limit_asks words = do
   limit ← read_limit words
@@ -85,7 +85,7 @@ erst_asks (bytes ∷ []) = do
   Ok (asks.Table (Erst bytes))
 erst_asks words = Err Words
 
--- a boot error region: boot, seconds, the bytes of the boot error record table, and the region's
+-- a boot error region: boot, seconds, the bytes of the boot error record table, and the bytes of the region
 abbrev pub bert_asks : Reading
 bert_asks (boot ∷ seconds ∷ table ∷ region ∷ []) = do
   boot ← u64_of boot
@@ -136,7 +136,7 @@ panic_asks (id ∷ words) = if length words == BANK_WORDS then (do
   bank ← read_report words
   Ok (asks.Panic id bank)) else Err Words
 
--- the account made again from its file: no word stands after `restart`
+-- the account made again from its files: `restart` has no other word
 abbrev pub restart_asks : Reading
 restart_asks [] = Ok asks.Restart
 restart_asks words = Err Words

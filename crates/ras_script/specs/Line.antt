@@ -31,13 +31,15 @@ line_of_words [] = Ok Nothing
 line_of_words (kind ∷ words) =
     if slice_index kind 0 == 35 then Ok Nothing else line_named kinds kind words
 
+-- what a line asks for, by its bytes without the line feed
 abbrev pub line_of : List ℕ → Result Line LineRefused
 line_of bytes = line_of_words (words_of bytes)
 
--- Reading gave what a line asks for, or memory ran out.
+-- What was read is what a line asks for, or memory ran out.
 abbrev pub GivesLine : {A : Type 0} → Result A LineRefused → Result A LineRefused → Type 0
 GivesLine (Err NoMemory) line = ⊤
 GivesLine read line = line ≡ read
 
+-- a reader of these bytes returned what the line asks for, or ran out of memory
 abbrev pub ReadsLine : Result Line LineRefused → List ℕ → Type 0
 ReadsLine read bytes = GivesLine read (line_of bytes)

@@ -1,4 +1,4 @@
--- What the laws of lines speak of: a line's words in their ranges, and a line as text.
+-- Terms that the laws of lines use: a line's words in their ranges, and a line as text.
 use Rattle.std.specs.Prelude.{ℕ, ◌^◌, ◌<◌, ◌≤◌, IsTrue, List, [], ◌∷◌, codes, ⊤, false}
 use Rattle.std.specs.Fmt.{decimal, digits}
 use Rattle.std.specs.List.{AllByRecursion, join_with_byte}
@@ -47,12 +47,12 @@ IsReportInRange (Block boot seconds source number bytes) =
 IsReportInRange (Boot boot seconds table region) =
     (boot < 2 ^ 64) × (seconds < 2 ^ 64) × AreBytes table × AreBytes region
 
--- No line asks for a fact as an entry: facts are those of reports.
+-- No line asks for a fact as an entry: only reports give facts.
 abbrev pub IsEntryInRange : Entry → Type 0
 IsEntryInRange (Fact fact) = ⊥
 IsEntryInRange entry = IsValidEntry entry
 
--- the numbers of a line are within their ranges, its label is one, and its bytes are bytes
+-- the numbers of a line are in their ranges, its label is a label, and its bytes are bytes
 abbrev pub IsInRange : Line → Type 0
 IsInRange asks.Nothing = ⊤
 IsInRange (asks.Row row) = IsRowInRange row

@@ -3,7 +3,7 @@ use Rattle.std.specs.Prelude.{◌≡◌, ℕ, ◌==◌, List, [], ◌∷◌, len
 use Rattle.std.specs.List.{slice_split}
 use Rattle.ras_script.specs.declared.splitting.TheConstants.{HELD_WORDS}
 
--- the parts of a text round a byte, without a last part that is empty
+-- the parts of a text around a byte, without an empty last part
 abbrev pub without_empty_last : List (List ℕ) → List (List ℕ)
 without_empty_last [] = []
 without_empty_last (part ∷ []) = if length part == 0 then [] else part ∷ []
@@ -13,11 +13,10 @@ without_empty_last (part ∷ next ∷ parts) = part ∷ without_empty_last (next
 abbrev pub lines_of : List ℕ → List (List ℕ)
 lines_of script = without_empty_last (slice_split (λ b. b == 10) script)
 
--- Words are separated by one or more spaces, and spaces may stand before the first and after the
--- last.
+-- Words are separated by one or more spaces, and spaces may come before the first word and after the last.
 abbrev pub words_of : List ℕ → List (List ℕ)
 words_of line = filter (λ word. nat_lt 0 (length word)) (slice_split (λ b. b == 32) line)
 
--- the words of a line that are held
+-- the words of a line that are stored
 abbrev pub AreHeldWords : List (List ℕ) → List ℕ → Type 0
 AreHeldWords words line = words ≡ take HELD_WORDS (words_of line)

@@ -1,20 +1,20 @@
--- What the laws of lines and words speak of.
+-- Terms that the laws of lines and words use.
 use Rattle.std.specs.Prelude.{◌≡◌, ℕ, ◌==◌, List, [], ◌∷◌, ◌++◌, ◌<◌, length, if◌then◌else◌}
 use Rattle.std.specs.List.{flat_map, AllByRecursion}
 
--- a byte doesn't stand in a text
+-- a byte isn't in a text
 abbrev pub Lacks : ℕ → List ℕ → Type 0
 Lacks byte text = AllByRecursion (λ b. ¬ (b ≡ byte)) text
 
--- a word stands between spaces: it isn't empty, and holds none
+-- a word is between spaces: it isn't empty, and has no space
 abbrev pub IsWord : List ℕ → Type 0
 IsWord word = (0 < length word) × Lacks 32 word
 
--- lines as a script: a line feed ends each
+-- lines as a script: each ends with a line feed
 abbrev pub script_of : List (List ℕ) → List ℕ
 script_of lines = flat_map (λ line. line ++ 10 ∷ []) lines
 
--- a script with a line feed at its end: one is added if its last byte is another one
+-- a script with a line feed at its end: one is added if its last byte is another byte
 abbrev pub with_last_line_feed : List ℕ → List ℕ
 with_last_line_feed [] = []
 with_last_line_feed (b ∷ []) = if b == 10 then b ∷ [] else b ∷ 10 ∷ []

@@ -1,4 +1,4 @@
-//! The places of a byte in a text, found by blocks of bytes.
+//! The indices of a byte in a text, found by blocks of bytes.
 
 ghost use Rattle.std.specs.Prelude.{◌≡◌, ◌≢◌, ℕ, ◌+◌, ◌-◌, ◌<◌, ◌≤◌, ◌==◌, length, IfSome};
 ghost use Rattle.std.specs.Int.{bit_at};
@@ -8,11 +8,11 @@ ghost use Rattle.ras_script.specs.declared.blocks.TheConstants.{BLOCK_BYTES};
 
 use std::simd::prelude::*;
 
-/// The bytes of a block, which are looked at together.
+/// The bytes of a block, which are compared together.
 pub(crate) const BLOCK_BYTES: usize = 16;
 
-/// The first place of a byte in a text. A place that is near is found by few steps: words and parts
-/// of lines are short.
+/// Returns the first index of a byte in a text, if it is there. A near index is found in few steps,
+/// because words and parts of lines are short.
 #[inline(always)]
 pub fn position_of(byte: u8, text: &[u8]) -> Option<usize>
     ensures place { result ≡ position (λ b. b == byte) text.now }
@@ -29,8 +29,8 @@ pub fn position_of(byte: u8, text: &[u8]) -> Option<usize>
     position_in_rest(byte, text, at)
 }
 
-// The first place of a byte in a text whose bytes from `from` on are less than a block, and which has
-// none before them.
+// The first index of a byte in a text that doesn't have it before `from` and that has less than a
+// block from there on.
 #[inline(always)]
 fn position_in_rest(byte: u8, text: &[u8], from: usize) -> Option<usize>
     requires within { from ≤ length text.now }
@@ -50,7 +50,7 @@ fn position_in_rest(byte: u8, text: &[u8], from: usize) -> Option<usize>
     None
 }
 
-// The first place of a byte in a text which has none before its last block.
+// The first index of a byte in a text that doesn't have it before its last block.
 #[inline(always)]
 fn position_in_last(byte: u8, text: &[u8]) -> Option<usize>
     requires room { BLOCK_BYTES ≤ length text.now }
@@ -66,7 +66,7 @@ fn position_in_last(byte: u8, text: &[u8]) -> Option<usize>
     Some(last + lowest(places))
 }
 
-/// The places of a byte in the block from `at` on: a bit for each.
+/// Returns where a byte is in the block from `at` on, as a bit for each.
 #[inline(always)]
 pub(crate) fn places_at(byte: u8, text: &[u8], at: usize) -> u64
     requires { at + BLOCK_BYTES ≤ length text.now }
@@ -76,7 +76,7 @@ pub(crate) fn places_at(byte: u8, text: &[u8], at: usize) -> u64
     block.simd_eq(u8x16::splat(byte)).to_bitmask()
 }
 
-/// The lowest bit that is set.
+/// Returns the index of the lowest bit that is set.
 #[inline(always)]
 pub(crate) fn lowest(bits: u64) -> usize
     requires { bits ≢ 0 }
@@ -87,7 +87,7 @@ pub(crate) fn lowest(bits: u64) -> usize
     bits.trailing_zeros() as usize
 }
 
-/// The bits without one that is set.
+/// Returns the bits without one that is set.
 #[inline(always)]
 pub(crate) fn without(bits: u64, bit: usize) -> u64
     requires small { bit < 64 }

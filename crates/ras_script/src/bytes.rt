@@ -11,8 +11,10 @@ use mca_codes::Text;
 use ras_base::NoMemory;
 use std::alloc::Global;
 
-/// The bytes that a word writes, each with two hexadecimal digits of either case. None if the word
-/// is empty, has an odd number of bytes, or has a byte that is no such digit.
+/// Returns the bytes that a word writes, each with two hexadecimal digits of either case. It is
+/// `None` if the word is empty, has an odd number of bytes, or has a byte that isn't such a digit.
+///
+/// `NoMemory`: only if memory runs out.
 pub fn bytes_of(alloc: Global, word: &[u8]) -> Result<Option<Text>, NoMemory>
     ensures { IfOk result (λ bytes. bytes ≡ bytes_of word.now) }
 {
@@ -27,8 +29,8 @@ pub fn bytes_of(alloc: Global, word: &[u8]) -> Result<Option<Text>, NoMemory>
     }
 }
 
-// Writes the byte of each two digits of a word, and returns whether all its bytes are digits. That is
-// asked once, of all of them together: most words have no other byte.
+// Writes the byte of each two digits of a word, and returns whether all its bytes are digits. All
+// bytes are tested together at the end, because most words have no others.
 fn decode_into(word: &[u8], bytes: &mut [u8]) -> bool
     requires { length word.now ≡ 2 * length bytes.old }
     ensures { result_ok (decode_of word.now) ≡ (if result then Some bytes.new else None) }
@@ -43,9 +45,8 @@ fn decode_into(word: &[u8], bytes: &mut [u8]) -> bool
     together < 16
 }
 
-/// A bytes word has an even number, at least 2, of hexadecimal digits. Bytes that are written in
-/// hexadecimal, with small or with large letters, are read as these bytes. The function does
-/// nothing: its clauses are what it is for.
+/// A word for bytes has an even number of hexadecimal digits, at least 2. Bytes written in
+/// hexadecimal, with small or with large letters, are read back.
 pub fn written_bytes_are_read()
     ensures digits { (word : List ℕ) → IsSome (bytes_of word)
         ↔ ((0 < length word) × (length word % 2 ≡ 0) × AllPass is_hex_digit word) }

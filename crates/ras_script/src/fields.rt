@@ -1,4 +1,4 @@
-//! What a word of a line says, and what a few of them say together.
+//! What a word of a line means, and what several words mean together.
 
 ghost use Rattle.std.specs.Prelude.{◌≡◌, ◌≤◌, map, IfOk};
 ghost use Rattle.ras_script.specs.Fields.{hex_bytes_of, hex_u64_of, read_label, read_limit, read_number};
@@ -14,7 +14,7 @@ use page_policy::{Limit, MOST_CAPACITY, MOST_PERIOD};
 use ras_facts::BankReport;
 use std::alloc::Global;
 
-/// How many words stand for the snapshot of a bank.
+/// How many words give the snapshot of a bank.
 pub const BANK_WORDS: usize = 10;
 
 // A word as a decimal number of at most `most`.

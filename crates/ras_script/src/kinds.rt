@@ -19,10 +19,10 @@ use std::alloc::Global;
 /// The greatest number of a memory channel.
 pub const LAST_CHANNEL: u64 = 14;
 
-/// The most words of a line of any kind: of `panic`, its name, an identifier, and a bank.
+/// The most words of a line of any kind: `panic`, an identifier, and a bank.
 pub const MOST_WORDS: usize = 2 + BANK_WORDS;
 
-// What a line asks for whose first word is this and whose other words are these.
+// What a line asks for, by its first word and its other words.
 pub(crate) fn event_of(alloc: Global, kind: &[u8], words: &[&[u8]]) -> Result<Line, LineRefused>
     ensures { GivesLine result (line_named kinds kind.now (map (λ word. word.now) words.now)) }
 {
@@ -283,7 +283,7 @@ fn panic_asks(words: &[&[u8]]) -> Result<Line, LineRefused>
     Ok(Line::Panic { id, bank })
 }
 
-// No word stands after `restart`.
+// A `restart`, which has no other word.
 fn restart_asks(words: &[&[u8]]) -> Result<Line, LineRefused>
     ensures { result ≡ restart_asks (map (λ word. word.now) words.now) }
 {

@@ -7,8 +7,7 @@ ghost use Rattle.ras_script.specs.declared.number.TheConstants.{DECIMAL_DIGITS, 
 ghost use Rattle.ras_script.specs.declared.reader.TheConstants.{LONGEST_LINE, LONGEST_SCRIPT};
 ghost use Rattle.ras_script.specs.declared.splitting.TheConstants.{HELD_WORDS};
 
-/// The numbers that the definitions of lines and words name, in digits. The function does nothing:
-/// its clauses are what it is for.
+/// The numbers that the definitions of lines and words name have these digits.
 pub fn numbers_in_digits()
     ensures line { LONGEST_LINE ≡ 40000 }
     ensures script { LONGEST_SCRIPT ≡ 67108864 }

@@ -1,4 +1,6 @@
 //! The lines of a script: where each ends, its words, and what it asks for.
+//!
+//! A public function with an empty body is a law: its clauses are the point.
 #![tactic(auto)]
 
 mod blocks;

@@ -21,21 +21,21 @@ use thiserror::Error;
 pub enum Line {
     /// Nothing: the line has no words, or is a comment.
     Nothing,
-    /// A row of the machine is to be taken: of `cpu`, `module`, `range` or `place`.
+    /// Add a row to the machine description: of `cpu`, `module`, `range` or `place`.
     Row(Row),
-    /// A table of the firmware is to be taken: of `hest` or `erst`.
+    /// Read a table of the firmware: of `hest` or `erst`.
     Table(Table),
-    /// A report is to be counted: of `bank`, `ghes` or `bert`.
+    /// Count a report: of `bank`, `ghes` or `bert`.
     Report(ErrorReport),
-    /// An entry is to be taken: of `limit`, `module-limit` or `retire`.
+    /// Count an entry: of `limit`, `module-limit` or `retire`.
     Entry(Entry),
-    /// A record is to be put into the record store, under an identifier.
+    /// Put a record into the record store, under an identifier.
     Put { id: u64, bytes: Text },
-    /// The report of a bank is to be saved in the record store, under an identifier.
+    /// Save the report of a bank in the record store, under an identifier.
     Panic { id: u64, bank: BankReport },
-    /// The records of the record store are to be counted, as read at a time in seconds.
+    /// Count the records of the record store, as read at a time in seconds.
     Poll { seconds: u64 },
-    /// The account is to be made again from its file.
+    /// Make the account again from its files.
     Restart,
 }
 
@@ -61,7 +61,7 @@ pub enum ErrorReport {
         number: u64,
         bytes: Text,
     },
-    /// A boot error region: the bytes of the boot error record table, and those of the region.
+    /// A boot error region: the bytes of the boot error record table, and the bytes of the region.
     Boot {
         boot: u64,
         seconds: u64,
@@ -70,24 +70,24 @@ pub enum ErrorReport {
     },
 }
 
-/// Why a line is refused: the first that applies, and of its words from left to right. The numbers
-/// are those by which a refusal is printed.
+/// Why a line is refused: the first reason that applies, going through the words from left to
+/// right. A refusal is printed by its number.
 #[derive(Clone, Copy, Debug, Error, PartialEq, Eq)]
 pub enum LineRefused {
-    /// 1: the first word is no kind of line.
+    /// 1: the first word isn't a kind of line.
     #[error("the first word is no kind of line")]
     Kind,
-    /// 2: the number of words isn't that of the kind.
+    /// 2: the kind has another number of words.
     #[error("the number of words isn't that of the kind of line")]
     Words,
-    /// 3: a decimal or hexadecimal word is no number, or isn't in its range, or a range has its
-    /// first address above its last.
+    /// 3: a decimal or hexadecimal word isn't a number in its range, or a range has its first
+    /// address above its last.
     #[error("a word is no number in its range")]
     Number,
-    /// 4: a word that has to be bytes is no even number of hexadecimal digits.
+    /// 4: a word for bytes isn't an even number of hexadecimal digits.
     #[error("a word is no even number of hexadecimal digits")]
     Hex,
-    /// 6: a word that has to be a label is none.
+    /// 6: a word for a label isn't a label.
     #[error("a word is no label")]
     Label,
     /// Memory ran out.
@@ -96,7 +96,7 @@ pub enum LineRefused {
 }
 
 impl LineRefused {
-    /// The number by which the refusal is printed, or None if memory ran out.
+    /// Returns the number by which the refusal is printed, or `None` if memory ran out.
     pub fn number(self) -> Option<u8>
         ensures { result ≡ line_number self }
     {
@@ -111,15 +111,15 @@ impl LineRefused {
     }
 }
 
-/// What a line asks for, whose bytes these are without its line feed.
+/// Returns what a line asks for, given its bytes without the line feed.
 ///
 /// # Errors
 ///
-/// The first that applies: `Kind` if the first word is no kind of line, `Words` if the number of
-/// words isn't the kind's; then from left to right `Number` if a word that has to be a number is
-/// none or is out of its range, `Hex` if a word that has to be bytes is no even number of
-/// hexadecimal digits, and `Label` if a word that has to be a label is none. `NoMemory` comes only
-/// if memory runs out.
+/// The first that applies. `Kind`: the first word isn't a kind of line. `Words`: the kind has
+/// another number of words. Then, from left to right, `Number`: a word for a number isn't one in
+/// its range; `Hex`: a word for bytes isn't an even number of hexadecimal digits; `Label`: a word
+/// for a label isn't a label. Last, `Number`: the first address of a range is above its last.
+/// `NoMemory`: only if memory runs out.
 pub fn read_line(alloc: Global, bytes: &[u8]) -> Result<Line, LineRefused>
     ensures read { ReadsLine result bytes.now }
     ensures range { IfOk result IsInRange }
@@ -130,7 +130,7 @@ pub fn read_line(alloc: Global, bytes: &[u8]) -> Result<Line, LineRefused>
     line_of_words(alloc, &words(bytes))
 }
 
-// Whether a line's first byte tells that it asks for nothing: there is none, or it begins a
+// Whether a line's first byte shows that it asks for nothing: there is no byte, or it begins a
 // comment.
 #[tactic(auto, using(crate::proofs::SpaceLemmas::empty_asks, crate::proofs::SpaceLemmas::comment_asks))]
 fn asks_nothing(bytes: &[u8]) -> bool
@@ -139,7 +139,7 @@ fn asks_nothing(bytes: &[u8]) -> bool
     bytes.is_empty() || bytes[0] == b'#'
 }
 
-// What a line asks for, whose words `words` gave.
+// What a line asks for, by its words.
 fn line_of_words(alloc: Global, words: &[&[u8]]) -> Result<Line, LineRefused>
     ensures read { GivesLine result (line_of_words (map (λ word. word.now) words.now)) }
     ensures line { (bytes : List ℕ) → AreHeldWords (map (λ word. word.now) words.now) bytes
@@ -155,21 +155,18 @@ fn line_of_words(alloc: Global, words: &[&[u8]]) -> Result<Line, LineRefused>
     event_of(alloc, kind, rest)
 }
 
-/// The numbers of a line that is read are within their ranges: a bank's registers below 2^64, its
-/// CPU below 2^16 and its number below 2^8. Labels are labels, and there are no empty bytes. The
-/// function does nothing: its clause is what it is for.
+/// The numbers of a line that was read are in their ranges: a bank's registers below 2^64, its CPU
+/// below 2^16 and its number below 2^8. Labels are labels, and no bytes are empty.
 pub fn numbers_are_in_range()
     ensures { (bytes : List ℕ) → IfOk (line_of bytes) IsInRange }
 {}
 
-/// A line written with single spaces, plain numbers and hexadecimal bytes is read as what was
-/// written. The function does nothing: its clause is what it is for.
+/// A line written with single spaces, plain numbers and hexadecimal bytes is read back.
 pub fn written_lines_are_read()
     ensures { (line : Line) → IsInRange line → line_of (line_text line) ≡ Ok line }
 {}
 
-/// A line is refused only for a word: a line without words never is. The function does nothing: its
-/// clause is what it is for.
+/// A line is refused only for a word, so a line without words never is.
 pub fn refused_lines_have_words()
     ensures { (bytes : List ℕ) → IsErr (line_of bytes) → 0 < length (words_of bytes) }
 {}

@@ -5,16 +5,16 @@ ghost use Rattle.std.specs.Char.{digit_value};
 ghost use Rattle.std.specs.Fmt.{decimal, digits};
 ghost use Rattle.ras_script.specs.Number.{numeral_value, decimal_of, hexadecimal_of};
 
-/// The most digits that a decimal word may have.
+/// The most digits of a decimal word.
 pub const DECIMAL_DIGITS: usize = 20;
 
-/// The most digits that a hexadecimal word may have.
+/// The most digits of a hexadecimal word.
 pub const HEXADECIMAL_DIGITS: usize = 16;
 
-// This many digits, in any radix up to 16, are a value below 2^64.
+// This many digits, in any radix up to 16, give a value below 2^64.
 const FITTING_DIGITS: usize = 16;
 
-// What stands in the table for a byte that is no digit of any radix.
+// The table's value for a byte that is a digit of no radix.
 const NONE: u8 = 36;
 
 // The value of each byte as a digit, of a radix up to 36.
@@ -36,7 +36,8 @@ static DIGIT_VALUES: [u8; 256] = [
     NONE, NONE, NONE, NONE, NONE, NONE, NONE, NONE, NONE, NONE, NONE,
 ];
 
-/// The value of a decimal word of 1 to 20 digits, if it is at most `most`.
+/// Returns the value of a decimal word of 1 to 20 digits. It is `None` for every other word, and
+/// for a value above `most`.
 pub fn decimal(word: &[u8], most: u64) -> Option<u64>
     ensures value { result ≡ decimal_of most word.now }
     ensures within { IfSome result (λ n. n ≤ most) }
@@ -44,15 +45,16 @@ pub fn decimal(word: &[u8], most: u64) -> Option<u64>
     number(word, 10, DECIMAL_DIGITS, most)
 }
 
-/// The value of a hexadecimal word of 1 to 16 digits of either case.
+/// Returns the value of a hexadecimal word of 1 to 16 digits of either case. It is `None` for every
+/// other word.
 pub fn hexadecimal(word: &[u8]) -> Option<u64>
     ensures { result ≡ hexadecimal_of word.now }
 {
     number(word, 16, HEXADECIMAL_DIGITS, u64::MAX)
 }
 
-/// What `{}` writes of a number is a decimal word of it, and what `{:x}` and `{:X}` write are
-/// hexadecimal words of it. The function does nothing: its clauses are what it is for.
+/// What `{}` writes of a number is read back as a decimal word, and what `{:x}` and `{:X}` write as
+/// hexadecimal words.
 pub fn written_numbers_are_read()
     ensures in_decimal { (most n : ℕ) → n ≤ most → most < 2 ^ 64
         → decimal_of most (decimal n) ≡ Some n }
@@ -60,8 +62,8 @@ pub fn written_numbers_are_read()
         → hexadecimal_of (digits 16 upper n) ≡ Some n }
 {}
 
-// The value of a word of 1 to `longest` digits, if it is at most `most`. It is inlined, so that the
-// radix is known at each use: most words of a script are numbers.
+// The value of a word of 1 to `longest` digits, if it is at most `most`. It is inlined so that the
+// radix is known at each use, because most words of a script are numbers.
 #[inline(always)]
 fn number(word: &[u8], radix: u32, longest: usize, most: u64) -> Option<u64>
     requires some_radix { 10 ≤ radix }
@@ -100,7 +102,7 @@ fn digit_of(byte: u8, radix: u32) -> Option<u64>
     }
 }
 
-// The value of a byte as a digit, `NONE` if it is none.
+// The value of a byte as a digit, `NONE` if it isn't one.
 #[inline(always)]
 pub(crate) fn value_of(byte: u8) -> u8
     ensures { result ≡ digit_value byte }

@@ -1,4 +1,4 @@
-//! The lines of a script, from a source that gives its bytes in pieces.
+//! The lines of a script, from a source that returns its bytes in pieces.
 
 ghost use Rattle.std.specs.Prelude.{◌≡◌, ◌+◌, ◌<◌, ◌≤◌, ◌↔◌, true, [], length, take, drop, IfOk, IfErr, IfSome, OnErr, OnOk, Ok, Err, IsTrue, MatchOption, Contains, ℕ, List, ◌-◌, ◌∷◌, ◌++◌};
 ghost use Rattle.board_core.specs.Cause.{HasCause};
@@ -32,8 +32,7 @@ pub enum NextRefused {
     /// The line has more than `LONGEST_LINE` bytes.
     #[error("the line has more than 40,000 bytes")]
     LineTooLong,
-    /// The script has more than `LONGEST_SCRIPT` bytes, and the first too many is one of the
-    /// line's.
+    /// The script has more than `LONGEST_SCRIPT` bytes, and this line has the first byte too many.
     #[error("the script has more than 67,108,864 bytes")]
     TooLong,
 }
@@ -46,11 +45,10 @@ impl From<Failed> for NextRefused {
     }
 }
 
-/// A line feed cuts the lines of a script: those of two texts with a line feed between them are
-/// those of the one and then those of the other, and within the limits a line that is ended by a
-/// line feed comes first, and then the lines of what follows, whose limit is lower by the bytes of
-/// that line and its line feed.
-/// The function does nothing: its clauses are what it is for.
+/// A line feed cuts the lines of a script: two texts with a line feed between them have the lines
+/// of the first, then the lines of the second. Within the limits, a line that a line feed ends
+/// comes first, and then the lines of what follows, whose limit is lower by the bytes of that line
+/// and its line feed.
 pub fn line_feeds_cut_scripts()
     ensures cut { (front rest : List ℕ)
         → lines_of (front ++ 10 ∷ rest) ≡ lines_of (front ++ 10 ∷ []) ++ lines_of rest }
@@ -60,14 +58,13 @@ pub fn line_feeds_cut_scripts()
 {}
 
 /// The lines of a script within the limits, each with a line feed at its end, are the script again,
-/// unless their list ends early: before a line that is too long, or before the one in which the
-/// script gets too long. The function does nothing: its clause is what it is for.
+/// unless their list ends early: before a line that is too long, or before the line in which the
+/// script gets too long.
 pub fn lines_within_limits_are_the_script()
     ensures { (most : ℕ) (text : List ℕ) → AreLinesOf most text (lines_within most text) }
 {}
 
-/// A reader of the lines of a script. Of the bytes that it took from its source it holds at most a
-/// line and a byte.
+/// A reader of the lines of a script. It buffers at most a line and a byte.
 #[derive(Drop)]
 pub struct LineReader {
     window: Window,
@@ -91,11 +88,12 @@ impl Model for LineReader {
 }
 
 impl LineReader {
-    /// A reader that has taken no byte. It takes all its memory here: a line and a byte.
+    /// Returns a reader at the start of a script. It allocates everything it needs: a line and a
+    /// byte.
     ///
     /// # Errors
     ///
-    /// `NoMemory` if memory runs out.
+    /// `NoMemory`: only if memory runs out.
     pub fn new(alloc: Global) -> Result<LineReader, NoMemory>
         ensures { IfOk result (λ reader. reader ≡ record { line = []; held = []; taken = 0 }) }
     {
@@ -103,30 +101,31 @@ impl LineReader {
         Ok(LineReader { window, taken: 0 })
     }
 
-    /// The line that `advance` gave last, without its line feed.
+    /// Returns the line that `advance` read last, without its line feed.
     pub fn line(&self) -> &[u8]
         ensures { result.now ≡ self.now.line }
     {
         self.window.line()
     }
 
-    /// Whether a line is held with its line feed, so that `advance` reads nothing.
+    /// Returns whether a whole line is in the buffer, so that `advance` reads nothing from the
+    /// source.
     pub fn has_line(&self) -> bool
         ensures { IsTrue result ↔ Contains self.now.held 10 }
     {
         self.first_line_feed().is_some()
     }
 
-    /// Goes to the next line, which `line` then gives, and returns whether there was one. It reads
-    /// only while it holds no line feed, and takes no memory. With each line the number of bytes
-    /// given grows, so a loop over the lines ends, whatever its source gives.
+    /// Goes to the next line, which `line` then returns, and returns whether there was one. It
+    /// reads only while the buffer has no line feed, and allocates nothing. With each line the
+    /// number of bytes returned grows, so a loop over the lines ends, whatever its source returns.
     ///
     /// # Errors
     ///
-    /// `Source` if the source failed: no byte is lost. `LineTooLong` if the next line has more than
-    /// `LONGEST_LINE` bytes, and `TooLong` if one of its bytes, or its line feed, is past
+    /// `Source`: the source failed; no byte is lost. `LineTooLong`: the next line has more than
+    /// `LONGEST_LINE` bytes. `TooLong`: one of its bytes, or its line feed, is past
     /// `LONGEST_SCRIPT`; no more than one byte past it is read. After either of these two, each
-    /// further call is refused in the same way.
+    /// further call returns the same error.
     pub fn advance<S: Source>(&mut self, source: &mut S) -> Result<bool, NextRefused>
         ensures lines { IfSome (S.left source.old) (λ before. IfSome (S.left source.new) (λ now.
             GivesNext result (lines_to_come self.old before) self.new now)) }
@@ -142,7 +141,7 @@ impl LineReader {
         }
     }
 
-    // Reads until a line feed is held, and returns its place: None at the script's end.
+    // Reads until the buffer has a line feed, and returns its index, or `None` at the script's end.
     #[tactic(auto, using(crate::proofs::ReaderLemmas::lacks_not_contains))]
     fn find_line<S: Source>(&mut self, source: &mut S) -> Result<Option<usize>, NextRefused>
         ensures finds { Finds result self.new (S.left source.new) }
@@ -224,7 +223,8 @@ impl LineReader {
         Ok(count)
     }
 
-    // Gives the bytes held before a line feed, unless the line feed is past the longest script.
+    // Returns the bytes before a line feed as a line, unless the line feed is past the longest
+    // script.
     fn give_line(&mut self, size: usize) -> Result<bool, NextRefused>
         requires { FeedAt size self.old.held }
         ensures { GivesLine result size self.old self.new }
@@ -237,7 +237,7 @@ impl LineReader {
         Ok(true)
     }
 
-    // Gives all bytes held as the last line, if there are any.
+    // Returns all bytes in the buffer as the last line, if there are any.
     fn give_rest(&mut self) -> bool
         requires { self.old.taken ≤ LONGEST_SCRIPT }
         ensures some { IsTrue result ↔ (0 < length self.old.held) }

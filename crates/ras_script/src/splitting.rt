@@ -11,12 +11,12 @@ use crate::blocks::{BLOCK_BYTES, lowest, places_at, without};
 use crate::kinds::MOST_WORDS;
 use arrayvec::ArrayVec;
 
-/// The words of a line that are held: one more than a line of any kind has, so that a line of too
-/// many words is known as one.
+/// The words of a line that are stored: one more than a line of any kind has, so that a line of too
+/// many words is recognized.
 pub(crate) const HELD_WORDS: usize = MOST_WORDS + 1;
 
-/// The words of a line, which spaces separate, up to the first `HELD_WORDS`. They take no memory,
-/// and the line is read no further than they reach.
+/// Returns the words of a line, which spaces separate, up to the first `HELD_WORDS`. Allocates
+/// nothing, and reads the line no further than these words.
 pub(crate) fn words(line: &[u8]) -> ArrayVec<&[u8], HELD_WORDS>
     ensures { AreHeldWords (map (λ word. word.now) result.items) line.now }
 {
@@ -34,8 +34,8 @@ pub(crate) fn words(line: &[u8]) -> ArrayVec<&[u8], HELD_WORDS>
     words
 }
 
-// Holds the words that end in the block from `at` on, of which the first begins at `first`, and
-// returns where the next one begins.
+// Stores the words that end in the block from `at` on, of which the first begins at `first`, and
+// returns where the next word begins.
 #[inline(always)]
 fn hold_in_block<'a>(
     words: &mut ArrayVec<&'a [u8], HELD_WORDS>,
@@ -99,9 +99,9 @@ fn hold<'a>(words: &mut ArrayVec<&'a [u8], HELD_WORDS>, text: &'a [u8])
     }
 }
 
-/// The lines of a script, each with a line feed at its end, are the script, which gets one if its
-/// last byte is no line feed. No line holds a line feed, an empty script has no lines, and each
-/// line costs at least a byte. The function does nothing: its clauses are what it is for.
+/// The lines of a script, each with a line feed at its end, are the script, with a line feed added
+/// if its last byte isn't one. No line has a line feed, an empty script has no lines, and each line
+/// has at least a byte of the script.
 pub fn lines_are_the_script()
     ensures none { lines_of [] ≡ [] }
     ensures whole { (script : List ℕ) → script_of (lines_of script) ≡ with_last_line_feed script }
@@ -109,10 +109,9 @@ pub fn lines_are_the_script()
     ensures unbroken { (script : List ℕ) → AllByRecursion (Lacks 10) (lines_of script) }
 {}
 
-/// A text without a space is one word, unless it is empty, and a space separates: the words of two
-/// texts with a space between them are those of the one and then those of the other. No word is
-/// empty or holds a space, and words joined by single spaces are read as these words. The function
-/// does nothing: its clauses are what it is for.
+/// A text without a space is one word, unless it is empty. Two texts with a space between them have
+/// the words of the first, then the words of the second. No word is empty or has a space, and words
+/// joined by single spaces are read back.
 pub fn spaces_separate_words()
     ensures none { words_of [] ≡ [] }
     ensures single { (word : List ℕ) → IsWord word → words_of word ≡ word ∷ [] }

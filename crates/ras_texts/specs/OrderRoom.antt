@@ -8,7 +8,7 @@ use Rattle.ras_texts.specs.declared.order.TheConstants.{ORDER_LENGTH}
 abbrev pub HasOrderRoom : ℕ → Vec ℕ → Type 0
 HasOrderRoom orders text = vec_len text + ORDER_LENGTH * orders ≤ vec_capacity text
 
--- a text took one line at most, and kept its room
+-- a text took at most one line, and kept its room
 pub record StaysWithin (old new : Vec ℕ) : Type 0 where
   pub length : vec_len new ≤ vec_len old + ORDER_LENGTH
   pub room : vec_capacity old ≤ vec_capacity new

@@ -1,4 +1,4 @@
--- The lines of orders: to take pages out of use, and to replace modules.
+-- The lines of orders: to take pages offline, and to replace modules.
 use Rattle.std.specs.Prelude.{ℕ, List, [], ◌++◌, codes, if◌then◌else◌, slice_get}
 use Rattle.std.specs.List.{flat_map}
 use Rattle.std.specs.Option.{option_map_or}
@@ -13,7 +13,7 @@ use Rattle.ras_account.specs.Account.{State}
 use Rattle.ras_account.specs.Modules.{Module}
 use Rattle.ras_texts.specs.Text.{address_text, label_text}
 
--- the line of a page in a state: none, if it is kept in use
+-- the line of a page in a state: none if the page stays in use
 abbrev pub state_line : ℕ → PageState → List ℕ
 state_line page Kept = []
 state_line page Soft = line_with (codes "order soft page=" ++ address_text page)
@@ -23,7 +23,7 @@ state_line page Hard = line_with (codes "order hard page=" ++ address_text page)
 abbrev pub module_line : Bytes → List ℕ
 module_line label = line_with (codes "order module label=" ++ label_text label)
 
--- the label of the module at a place
+-- the label of the module at an index
 abbrev pub module_label : List (Bytes × Module) → ℕ → Bytes
 module_label modules place = option_map_or (λ (row : Bytes × Module). row.0) (slice_get modules place) []
 
@@ -36,14 +36,14 @@ order_line modules (Ordered.TheVariants.Module place) = module_line (module_labe
 abbrev pub order_lines : List (Bytes × Module) → List Order → List ℕ
 order_lines modules orders = flat_map (order_line modules) orders
 
--- the lines of pages and of modules that stand under an order
+-- the lines of pages and of modules with an outstanding order
 abbrev pub page_line : ℕ × PageRow → List ℕ
 page_line row = state_line row.0 row.1.state
 
 abbrev pub replaced_line : Bytes × Module → List ℕ
 replaced_line row = if row.1.replace then module_line row.0 else []
 
--- the lines of the orders that an account's pages and then its modules stand under, each in the
--- order in which they were first seen
+-- the lines of the outstanding orders of an account, for pages and then for modules, each in the order in which they
+-- were first seen
 abbrev pub standing_lines : State → List ℕ
 standing_lines account = flat_map page_line account.pages ++ flat_map replaced_line account.modules

@@ -38,8 +38,8 @@ class_text Recoverable = codes "recoverable"
 class_text Fatal = codes "fatal"
 class_text Informational = codes "informational"
 
--- A page is printed as the address of its first byte in 16 hexadecimal digits: the page's number in
--- 13, and after it the three zeros of its 4,096 bytes.
+-- A page is printed as the address of its first byte in 16 hexadecimal digits: the page's number in 13 digits, and the
+-- three zeros of its 4,096 bytes after it.
 abbrev pub address_text : ℕ → List ℕ
 address_text page = drop 3 (encode_lower (to_be_bytes w64 page)) ++ codes "000"
 
@@ -53,7 +53,7 @@ state_text Kept = codes "kept"
 state_text Soft = codes "soft"
 state_text Hard = codes "hard"
 
--- a module's label, if one is known
+-- a module's label, or `-` if there is none
 abbrev pub label_text : List ℕ → List ℕ
 label_text label = if length label == 0 then codes "-" else label
 
@@ -63,13 +63,13 @@ item_head fact item =
     codes "log " ++ name_text fact.name ++ codes " t=" ++ decimal fact.seconds
     ++ codes " class=" ++ class_text item.class ++ codes " weight=" ++ decimal item.weight
 
--- the line of an item of a fresh fact, with the detail that is told of it
+-- the line of an item of a new fact, with its detail
 unfoldable pub item_line : Fact → List ℕ → Item → List ℕ
 item_line fact detail item = line_with (
     item_head fact item ++ codes " label=" ++ label_text item.label
     ++ codes " page=" ++ page_text item.page ++ codes " " ++ detail)
 
--- the line of a fresh limit, for pages or for modules
+-- the line of a new limit, for pages or for modules
 abbrev pub limit_text : Limit → List ℕ
 limit_text limit = codes "capacity=" ++ decimal limit.capacity ++ codes " period=" ++ decimal limit.period
 
@@ -79,29 +79,28 @@ limit_line limit = line_with (codes "limit " ++ limit_text limit)
 abbrev pub module_limit_line : Limit → List ℕ
 module_limit_line limit = line_with (codes "module-limit " ++ limit_text limit)
 
--- the line of a fresh retire, with how many names it drops
+-- the line of a new retire, with how many names it drops
 abbrev pub retire_line : ℕ → ℕ → List ℕ
 retire_line boot dropped =
     line_with (codes "retire boot=" ++ decimal boot ++ codes " names=" ++ decimal dropped)
 
--- the line of a name that an account knows: stale if its boot is retired, and else a repeat
+-- the line of a name that an account knows: `stale` if its boot is retired, else `repeat`
 abbrev pub known_line : State → Name → List ℕ
 known_line account name =
     line_with ((if is_retired account.floor name then codes "stale " else codes "repeat ") ++ name_text name)
 
--- the line of an entry that isn't fresh in an account: that of a fact's name; other entries have
--- none
+-- the line of an entry that isn't new in an account: the line of a fact's name; other entries have none
 abbrev pub repeat_line : State → Entry → List ℕ
 repeat_line account (FactEntry fact) = known_line account fact.name
 repeat_line account (PageLimit limit) = []
 repeat_line account (Retire boot) = []
 repeat_line account (ModuleLimit limit) = []
 
--- the line that an event ends with, by the number of its line
+-- the done line of an event, by the number of its line
 abbrev pub done_line : ℕ → List ℕ
 done_line number = line_with (codes "done " ++ decimal number)
 
--- the line that a whole run ends with: the numbers of entries and of names in the account
+-- the line that ends a whole run: how many entries and how many names the account has
 abbrev pub end_line : State → List ℕ
 end_line account = line_with (
     codes "end entries=" ++ decimal account.entries

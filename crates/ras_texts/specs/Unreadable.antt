@@ -7,7 +7,7 @@ use Rattle.cper_records.specs.declared.refusals.RecordRefused.TheVariants.{Short
 use Rattle.cper_records.specs.declared.refusals.Unreadable.{Unreadable}
 use Rattle.cper_records.specs.declared.refusals.Unreadable.TheVariants.{NoRecord, OtherId}
 
--- why it can't be read
+-- the reason why a record can't be read
 abbrev pub unreadable_word : Unreadable → List ℕ
 unreadable_word (NoRecord Short) = codes "short"
 unreadable_word (NoRecord Signature) = codes "signature"
@@ -17,7 +17,7 @@ unreadable_word (NoRecord SectionOut) = codes "section-out"
 unreadable_word (NoRecord Section) = codes "section"
 unreadable_word OtherId = codes "identifier"
 
--- the record's identifier in 16 hexadecimal digits, and the reason
+-- the line: the record's identifier in 16 hexadecimal digits, and the reason
 unfoldable pub unreadable_line : ℕ → Unreadable → List ℕ
 unreadable_line id why = line_with (
     codes "unreadable record=" ++ encode_lower (to_be_bytes w64 id)

@@ -1,4 +1,4 @@
-//! What a log line tells of a bank's registers.
+//! What a log line prints of a bank's registers.
 
 ghost use Rattle.std.specs.Prelude.{◌≡◌, ◌++◌, codes, OnOk};
 ghost use Rattle.ras_texts.specs.Detail.{bank_detail, code_detail, error_detail, flags_detail};
@@ -9,7 +9,9 @@ use mca_status::{Cap, GlobalStatus, Status, Threshold, threshold_of};
 use ras_base::NoMemory;
 use ras_facts::BankReport;
 
-/// Adds what a bank's registers tell beside the class, the weight and the page.
+/// Appends what a bank's registers say besides the class, the weight and the page.
+///
+/// `NoMemory`: only if memory runs out.
 pub fn push_bank(text: &mut Vec<u8>, bank: &BankReport) -> Result<(), NoMemory>
     ensures { OnOk result (text.new.items ≡ text.old.items ++ bank_detail bank.now) }
 {
@@ -17,7 +19,7 @@ pub fn push_bank(text: &mut Vec<u8>, bank: &BankReport) -> Result<(), NoMemory>
     push_flags(text, GlobalStatus(bank.mcg))
 }
 
-// Adds what an error's registers tell.
+// Adds what an error's registers say.
 #[tactic(auto, unfolding(crate::specs::Detail::error_detail))]
 fn push_error(text: &mut Vec<u8>, cap: Cap, status: Status) -> Result<(), NoMemory>
     ensures { OnOk result (text.new.items ≡ text.old.items ++ error_detail cap status) }

@@ -1,4 +1,4 @@
-//! The line that an event ends with, and the one that a whole run ends with.
+//! The line that ends an event, and the line that ends a whole run.
 
 ghost use Rattle.std.specs.Prelude.{◌≡◌, ◌++◌, IfOk, OnOk};
 ghost use Rattle.ras_texts.specs.Text.{done_line, end_line};
@@ -7,14 +7,14 @@ use ras_account::Account;
 use ras_base::{NoMemory, push_number};
 use std::alloc::Global;
 
-// The most bytes of a done line, for which room is taken at once.
+// The most bytes of a done line: memory for them is allocated at once.
 const DONE_LENGTH: usize = 26;
 
-/// The line that an event ends with, by the number of its line.
+/// Returns the done line of an event, by the number of its line.
 ///
 /// # Errors
 ///
-/// `NoMemory` comes only if memory runs out.
+/// `NoMemory`: only if memory runs out.
 pub fn done_line(alloc: Global, number: u64) -> Result<Vec<u8>, NoMemory>
     ensures { IfOk result (λ text. text.items ≡ done_line number) }
 {
@@ -23,12 +23,12 @@ pub fn done_line(alloc: Global, number: u64) -> Result<Vec<u8>, NoMemory>
     Ok(text)
 }
 
-/// Adds the line that an event ends with, by the number of its line. It takes no memory if the
-/// text has room for the line.
+/// Appends the done line of an event, by the number of its line. Allocates nothing if the text has
+/// room for it.
 ///
 /// # Errors
 ///
-/// `NoMemory` comes only if memory runs out.
+/// `NoMemory`: only if memory runs out.
 pub fn push_done(text: &mut Vec<u8>, number: u64) -> Result<(), NoMemory>
     ensures { OnOk result (text.new.items ≡ text.old.items ++ done_line number) }
 {
@@ -38,11 +38,11 @@ pub fn push_done(text: &mut Vec<u8>, number: u64) -> Result<(), NoMemory>
     Ok(())
 }
 
-/// The line that a whole run ends with: the numbers of entries and of names in the account.
+/// Returns the line that ends a whole run: how many entries and how many names the account has.
 ///
 /// # Errors
 ///
-/// `NoMemory` comes only if memory runs out.
+/// `NoMemory`: only if memory runs out.
 pub fn end_line(alloc: Global, account: &Account) -> Result<Vec<u8>, NoMemory>
     ensures { IfOk result (λ text. text.items ≡ end_line account.now.state) }
 {

@@ -1,4 +1,4 @@
-//! The lines of entries that aren't reports, and the line of an entry that isn't fresh.
+//! The lines of entries that aren't reports, and the line of an entry that isn't new.
 
 ghost use Rattle.std.specs.Prelude.{◌≡◌, ◌++◌, count_by, OnOk};
 ghost use Rattle.ras_base.specs.Text.{line_with};
@@ -11,16 +11,16 @@ use ras_account::Account;
 use ras_base::{NoMemory, push_number};
 use ras_facts::{Entry, Name};
 
-// The most bytes of the line of a repeat: of a bank's name with the greatest numbers. Room for them
-// is taken at once, since most lines of a failing module are repeats.
+// The most bytes of the line of a repeat, which has a bank's name with the greatest numbers. Memory
+// for them is allocated at once, because most lines of a failing module are repeats.
 const REPEAT_LENGTH: usize = 65;
 
-/// Adds the line of an entry that isn't fresh in an account: that of a fact whose name it holds, or
-/// whose boot is retired. Other entries have none.
+/// Appends the line of an entry that isn't new in an account: a fact whose name is counted, or
+/// whose boot is retired. Other entries have no such line.
 ///
 /// # Errors
 ///
-/// `NoMemory` comes only if memory runs out.
+/// `NoMemory`: only if memory runs out.
 pub fn push_repeat(text: &mut Vec<u8>, account: &Account, entry: &Entry) -> Result<(), NoMemory>
     ensures { OnOk result
         (text.new.items ≡ text.old.items ++ repeat_line account.now.state entry.now) }
@@ -32,12 +32,12 @@ pub fn push_repeat(text: &mut Vec<u8>, account: &Account, entry: &Entry) -> Resu
     Ok(())
 }
 
-/// Adds the line of a name that an account knows: stale if its boot is retired, and else a repeat.
-/// It takes no memory if the text has room for the line.
+/// Appends the line of a name that an account knows: `stale` if its boot is retired, else `repeat`.
+/// Allocates nothing if the text has room for it.
 ///
 /// # Errors
 ///
-/// `NoMemory` comes only if memory runs out.
+/// `NoMemory`: only if memory runs out.
 pub fn push_known(text: &mut Vec<u8>, account: &Account, name: &Name) -> Result<(), NoMemory>
     ensures { OnOk result
         (text.new.items ≡ text.old.items ++ known_line account.now.state name.now) }
@@ -49,7 +49,7 @@ pub fn push_known(text: &mut Vec<u8>, account: &Account, name: &Name) -> Result<
     Ok(())
 }
 
-// How many names an account holds of boots below one.
+// How many names of boots below one an account has.
 fn retired_names(account: &Account, boot: u64) -> u64
     ensures { result ≡ count_by (is_retired boot) account.now.state.names }
 {
@@ -62,7 +62,7 @@ fn retired_names(account: &Account, boot: u64) -> u64
     count
 }
 
-/// Adds the line of a fresh limit, which begins with this word.
+/// Appends the line of a new limit, which begins with this word.
 pub(crate) fn push_limit(text: &mut Vec<u8>, word: &[u8], limit: Limit) -> Result<(), NoMemory>
     ensures { OnOk result
         (text.new.items ≡ text.old.items ++ line_with (word.now ++ limit_text limit)) }
@@ -76,7 +76,7 @@ pub(crate) fn push_limit(text: &mut Vec<u8>, word: &[u8], limit: Limit) -> Resul
     Ok(())
 }
 
-/// Adds the line of a retire that is fresh in an account, with how many names it drops.
+/// Appends the line of a retire that is new in an account, with how many names it drops.
 pub(crate) fn push_retire(text: &mut Vec<u8>, account: &Account, boot: u64) -> Result<(), NoMemory>
     ensures { OnOk result (text.new.items ≡ text.old.items
         ++ retire_line boot (count_by (is_retired boot) account.now.state.names)) }

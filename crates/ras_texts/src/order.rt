@@ -1,4 +1,4 @@
-//! The lines of orders: to take pages out of use, and to replace modules.
+//! The lines of orders: to take pages offline, and to replace modules.
 
 ghost use Rattle.std.specs.Prelude.{◌≡◌, ◌++◌, ◌+◌, ◌≤◌, IfOk, OnOk, length, vec_capacity, vec_len};
 ghost use Rattle.std.specs.List.{flat_map};
@@ -15,11 +15,11 @@ use ras_account::{Account, Orders};
 use ras_base::NoMemory;
 use std::alloc::Global;
 
-/// How many bytes the line of an order has at most: that of a module, with a label of 32 bytes.
+/// The most bytes of the line of an order: of a module with a label of 32 bytes.
 pub const ORDER_LENGTH: usize = 52;
 
-/// Adds the lines of orders to a text that has room for them, with the labels of an account. It
-/// takes no memory.
+/// Appends the lines of orders, with the labels of an account. Requires a text with room for them.
+/// Allocates nothing.
 pub fn push_orders(text: &mut Vec<u8>, orders: &Orders, account: &Account)
     requires { HasOrderRoom (length orders.now.orders) text.old }
     ensures { text.new.items
@@ -30,12 +30,12 @@ pub fn push_orders(text: &mut Vec<u8>, orders: &Orders, account: &Account)
     }
 }
 
-/// The lines of the orders that an account's pages and modules stand under, each in the order in
-/// which they were first seen.
+/// Returns the lines of the outstanding orders of an account, for pages and then for modules, each
+/// in the order in which they were first seen.
 ///
 /// # Errors
 ///
-/// `NoMemory` comes only if memory runs out.
+/// `NoMemory`: only if memory runs out.
 pub fn standing_lines(alloc: Global, account: &Account) -> Result<Vec<u8>, NoMemory>
     ensures { IfOk result (λ text. text.items ≡ standing_lines account.now.state) }
 {
@@ -45,7 +45,7 @@ pub fn standing_lines(alloc: Global, account: &Account) -> Result<Vec<u8>, NoMem
     Ok(text)
 }
 
-// Adds the lines of the pages that stand under an order.
+// Adds the lines of the pages with an outstanding order.
 fn push_standing_pages(text: &mut Vec<u8>, account: &Account) -> Result<(), NoMemory>
     ensures { OnOk result (text.new.items
         ≡ text.old.items ++ flat_map page_line account.now.state.pages) }
@@ -87,7 +87,7 @@ fn push_order(text: &mut Vec<u8>, order: Order, account: &Account)
     }
 }
 
-// The label of the module at a place.
+// The label of the module at an index.
 fn module_label(account: &Account, place: usize) -> Label
     ensures { result ≡ module_label account.now.state.modules place }
 {
@@ -135,7 +135,7 @@ fn push_module(text: &mut Vec<u8>, label: &Label)
     push_within(text, b"\n");
 }
 
-// Adds a label, or `-` for none, to a text that has room for it.
+// Adds a label, or `-` if there is none, to a text that has room for it.
 #[tactic(auto, using(crate::proofs::LabelLemmas::label_short))]
 fn push_label_within(text: &mut Vec<u8>, label: &Label)
     requires { vec_len text.old + 32 ≤ vec_capacity text.old }

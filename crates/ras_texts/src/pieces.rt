@@ -1,4 +1,4 @@
-//! The pieces of which lines are made: names, classes, pages and labels.
+//! The pieces of lines: names, classes, pages and labels.
 
 ghost use Rattle.std.specs.Prelude.{◌≡◌, ◌++◌, drop, OnOk};
 ghost use Rattle.std.specs.Int.{to_be_bytes, w64};
@@ -25,7 +25,9 @@ pub const CLASSES: [ItemClass; CLASS_COUNT] = [
     ItemClass::Informational,
 ];
 
-/// Adds the name of a report.
+/// Appends the name of a report, as lines print it.
+///
+/// `NoMemory`: only if memory runs out.
 pub fn push_name(text: &mut Vec<u8>, name: &Name) -> Result<(), NoMemory>
     ensures { OnOk result (text.new.items ≡ text.old.items ++ name_text name.now) }
 {
@@ -69,7 +71,7 @@ pub fn push_name(text: &mut Vec<u8>, name: &Name) -> Result<(), NoMemory>
     }
 }
 
-/// The text of a class.
+/// Returns the word for a class.
 pub fn class_word(class: ItemClass) -> &'static [u8]
     ensures { result.now ≡ class_text class }
 {
@@ -87,7 +89,7 @@ pub fn class_word(class: ItemClass) -> &'static [u8]
     }
 }
 
-/// The word of a page's state.
+/// Returns the word for a page's state.
 pub fn state_word(state: PageState) -> &'static [u8]
     ensures { result.now ≡ state_text state }
 {
@@ -98,8 +100,8 @@ pub fn state_word(state: PageState) -> &'static [u8]
     }
 }
 
-/// The number of a page in 13 hexadecimal digits. With three zeros after it, it is the address of
-/// the page's first byte.
+/// Returns the number of a page in 13 hexadecimal digits. With three zeros after it, it is the
+/// address of the page's first byte.
 pub fn page_digits(page: u64) -> [u8; 13]
     ensures { result ≡ drop 3 (encode_lower (to_be_bytes w64 page)) }
 {
@@ -108,7 +110,7 @@ pub fn page_digits(page: u64) -> [u8; 13]
     digits
 }
 
-/// A number in 16 hexadecimal digits.
+/// Returns a number as 16 hexadecimal digits.
 pub fn hexadecimal_digits(number: u64) -> [u8; 16]
     ensures { result ≡ encode_lower (to_be_bytes w64 number) }
 {
@@ -117,7 +119,9 @@ pub fn hexadecimal_digits(number: u64) -> [u8; 16]
     digits
 }
 
-/// Adds a page as the address of its first byte, or `-` for none.
+/// Appends a page as the address of its first byte, or `-` if there is none.
+///
+/// `NoMemory`: only if memory runs out.
 pub fn push_page(text: &mut Vec<u8>, page: Option<u64>) -> Result<(), NoMemory>
     ensures { OnOk result (text.new.items ≡ text.old.items ++ page_text page) }
 {
@@ -131,7 +135,9 @@ pub fn push_page(text: &mut Vec<u8>, page: Option<u64>) -> Result<(), NoMemory>
     Ok(())
 }
 
-/// Adds the label of a module, or `-` for none.
+/// Appends the label of a module, or `-` if there is none.
+///
+/// `NoMemory`: only if memory runs out.
 pub fn push_label(text: &mut Vec<u8>, label: &Label) -> Result<(), NoMemory>
     ensures { OnOk result (text.new.items ≡ text.old.items ++ label_text label.now) }
 {
@@ -139,7 +145,7 @@ pub fn push_label(text: &mut Vec<u8>, label: &Label) -> Result<(), NoMemory>
     Ok(())
 }
 
-/// The label of a module, or `-` for none.
+/// Returns the label of a module, or `-` if there is none.
 pub fn label_word(label: &Label) -> &[u8]
     ensures { result.now ≡ label_text label.now }
 {

@@ -1,4 +1,4 @@
-//! The lines of a fresh entry: of a report one for each item, with what is told of the item.
+//! The lines of a new entry: for a report one for each item, with the item's detail.
 
 ghost use Rattle.std.specs.Prelude.{◌≡◌, ◌++◌, OnOk};
 ghost use Rattle.std.specs.List.{flat_map, zip};
@@ -14,12 +14,12 @@ use ras_base::{NoMemory, push_number};
 use ras_facts::{Entry, Fact, Item};
 use ras_reports::Detail;
 
-/// Adds the lines of an entry that is fresh in an account, with the details of its items: those of
-/// a fact's report, and none of other entries. The details are beside the items, one for each.
+/// Appends the lines of an entry that is new in an account. `details` are the details of its items,
+/// one for each, and none unless it is a fact.
 ///
 /// # Errors
 ///
-/// `NoMemory` comes only if memory runs out.
+/// `NoMemory`: only if memory runs out.
 pub fn push_entry(
     text: &mut Vec<u8>,
     details: &[Detail],
@@ -37,12 +37,12 @@ pub fn push_entry(
     }
 }
 
-/// Adds the lines of a fresh report: one for each item with its detail, or the one that it lists
-/// nothing. The details are beside the items, one for each.
+/// Appends the lines of a new report: one for each item with its detail, or one line that it lists
+/// nothing. `details` are the details of its items, one for each.
 ///
 /// # Errors
 ///
-/// `NoMemory` comes only if memory runs out.
+/// `NoMemory`: only if memory runs out.
 pub fn push_report(text: &mut Vec<u8>, fact: &Fact, details: &[Detail]) -> Result<(), NoMemory>
     ensures { OnOk result (text.new.items ≡ text.old.items ++ report_lines fact.now details.now) }
 {
@@ -53,11 +53,11 @@ pub fn push_report(text: &mut Vec<u8>, fact: &Fact, details: &[Detail]) -> Resul
     }
 }
 
-/// Adds what is told of an item beside the item.
+/// Appends the detail of an item.
 ///
 /// # Errors
 ///
-/// `NoMemory` comes only if memory runs out.
+/// `NoMemory`: only if memory runs out.
 pub fn push_detail(text: &mut Vec<u8>, detail: &Detail) -> Result<(), NoMemory>
     ensures { OnOk result (text.new.items ≡ text.old.items ++ detail_text detail.now) }
 {

@@ -1,4 +1,4 @@
-//! What a log line tells of a section of firmware.
+//! What a log line prints of a section of firmware.
 
 ghost use Rattle.std.specs.Prelude.{◌≡◌, ◌++◌, codes, decimal, MatchOption, OnOk};
 ghost use Rattle.ras_texts.specs.Sections.{digits_text, memory_text, other_text, processor_text};
@@ -9,7 +9,9 @@ use cper_sections::{MemSection, ProcSection, X64Section};
 use ras_base::{NoMemory, push_number};
 use uuid::Uuid;
 
-/// Adds what a memory section tells: the type of the error, where it is, and the address's mask.
+/// Appends what a memory section says: the type of the error, where it is, and the address's mask.
+///
+/// `NoMemory`: only if memory runs out.
 #[tactic(auto, unfolding(crate::specs::Sections::memory_text))]
 pub fn push_memory(text: &mut Vec<u8>, memory: &MemSection) -> Result<(), NoMemory>
     ensures { OnOk result (text.new.items ≡ text.old.items ++ memory_text memory.now) }
@@ -23,7 +25,9 @@ pub fn push_memory(text: &mut Vec<u8>, memory: &MemSection) -> Result<(), NoMemo
     Ok(())
 }
 
-/// Adds what a processor section tells.
+/// Appends what a processor section says.
+///
+/// `NoMemory`: only if memory runs out.
 #[tactic(auto, unfolding(crate::specs::Sections::processor_text))]
 pub fn push_processor(text: &mut Vec<u8>, processor: &ProcSection) -> Result<(), NoMemory>
     ensures { OnOk result (text.new.items ≡ text.old.items ++ processor_text processor.now) }
@@ -36,7 +40,9 @@ pub fn push_processor(text: &mut Vec<u8>, processor: &ProcSection) -> Result<(),
     Ok(())
 }
 
-/// Adds what an IA32/X64 section tells.
+/// Appends what an IA32/X64 section says.
+///
+/// `NoMemory`: only if memory runs out.
 #[tactic(auto, unfolding(crate::specs::Sections::x64_text))]
 pub fn push_x64(text: &mut Vec<u8>, x64: &X64Section) -> Result<(), NoMemory>
     ensures { OnOk result (text.new.items ≡ text.old.items ++ x64_text x64.now) }
@@ -46,7 +52,9 @@ pub fn push_x64(text: &mut Vec<u8>, x64: &X64Section) -> Result<(), NoMemory>
     push_field(text, b" contexts=", x64.contexts)
 }
 
-/// Adds the type of another section.
+/// Appends the type of a section of another type.
+///
+/// `NoMemory`: only if memory runs out.
 #[tactic(auto, unfolding(crate::specs::Sections::other_text))]
 pub fn push_other(text: &mut Vec<u8>, guid: Uuid) -> Result<(), NoMemory>
     ensures { OnOk result (text.new.items ≡ text.old.items ++ other_text guid) }
@@ -57,7 +65,7 @@ pub fn push_other(text: &mut Vec<u8>, guid: Uuid) -> Result<(), NoMemory>
     Ok(())
 }
 
-// Adds the type of a memory error, if it is told.
+// Adds the type of a memory error, if it is there.
 fn push_type(text: &mut Vec<u8>, kind: Option<u8>) -> Result<(), NoMemory>
     ensures { OnOk result (text.new.items ≡ text.old.items ++ told_text type_text kind) }
 {
@@ -112,7 +120,7 @@ fn push_field(text: &mut Vec<u8>, head: &[u8], value: u8) -> Result<(), NoMemory
     push_number(text, u64::from(value))
 }
 
-// Adds a field that is a number, if it is told.
+// Adds a field that is a number, if it is there.
 fn push_place(text: &mut Vec<u8>, head: &[u8], value: Option<u16>) -> Result<(), NoMemory>
     ensures { OnOk result
         (text.new.items ≡ text.old.items ++ (head.now ++ told_text decimal value)) }
@@ -124,7 +132,7 @@ fn push_place(text: &mut Vec<u8>, head: &[u8], value: Option<u16>) -> Result<(),
     }
 }
 
-// Adds a field of 16 hexadecimal digits, if it is told.
+// Adds a field of 16 hexadecimal digits, if it is there.
 fn push_digits(text: &mut Vec<u8>, head: &[u8], value: Option<u64>) -> Result<(), NoMemory>
     ensures { OnOk result
         (text.new.items ≡ text.old.items ++ (head.now ++ told_text digits_text value)) }

@@ -7,11 +7,11 @@ use crate::pieces::hexadecimal_digits;
 use cper_records::{RecordRefused, Unreadable};
 use ras_base::NoMemory;
 
-/// Adds the line of a record of the store that can't be read: its identifier, and why.
+/// Appends the line of a record of the store that can't be read: its identifier, and why.
 ///
 /// # Errors
 ///
-/// `NoMemory` comes only if memory runs out.
+/// `NoMemory`: only if memory runs out.
 pub fn push_unreadable(text: &mut Vec<u8>, id: u64, why: Unreadable) -> Result<(), NoMemory>
     ensures { OnOk result (text.new.items ≡ text.old.items ++ unreadable_line id why) }
 {

@@ -24,7 +24,7 @@ module _ {K R : Type 0} where
   abbrev pub waiting_rows : R → List K → List (K × R)
   waiting_rows row keys = map {B = K × R} (λ key. (key, row)) keys
 
-  -- entries without those of the first `held` whose keys fail a test
+  -- the entries, without those among the first `held` whose keys fail a test
   abbrev pub kept_entries : (K → Bool) → ℕ → List (K × R) → List (K × R)
   kept_entries test zero entries = entries
   kept_entries test (suc held) [] = []
@@ -51,14 +51,14 @@ module _ {K R : Type 0} where
     abbrev pub waiting_with : Held K R → List K → List K
     waiting_with held keys = held.waiting ++ added_keys same (all_keys held) keys
 
-    -- the table with this row at a key, which is held already or is held now after the others
+    -- the table with this row at a key that is held, or that is now held after the others
     abbrev pub with_row : Held K R → K → R → Held K R
     with_row held key row = record {
       rows = updated_rows same key row (λ old. row) held.rows;
       waiting = if is_held held.rows key then held.waiting else drop 1 held.waiting;
     }
 
-    -- a row is put at the key that stands at a place
+    -- a row is put at the key at an index
     abbrev pub PutsAt : Held K R → Held K R → ℕ → R → Type 0
     PutsAt old new place row =
         (key : K) → IsPlace same key (all_keys old) place → new ≡ with_row old key row

@@ -1,6 +1,6 @@
--- Tables that a list of elements gives: each element may name a key, and each key has one row, in
--- the order in which the keys were first named. A row says what the elements of its key, and they
--- alone, give. The test `same` says whether two keys are the same.
+-- Tables that a list of elements gives: each element may name a key, and each key has one row, in the order in which
+-- the keys were first named. A key's row depends only on the elements of that key. The test `same` says whether two
+-- keys are the same.
 use Rattle.std.specs.Prelude.{Bool, false, if◌then◌else◌, Option, None, Some, List, [], ◌∷◌, ◌++◌, filter, map}
 use Rattle.std.specs.List.{list_any, filter_map}
 
@@ -23,7 +23,7 @@ module _ {K : Type 0} (same : K → K → Bool) where
   abbrev pub of_key : {X : Type 0} → (X → Option K) → List X → K → List X
   of_key key xs k = filter (λ x. is_key k (key x)) xs
 
-  -- the table of a list: each key in first-seen order, with the row that its own elements give
+  -- the table of a list: each key in the order in which it was first seen, with the row that its own elements give
   abbrev pub table : {X R : Type 0} → (X → Option K) → (List X → R) → List X → List (K × R)
   table {X} {R} key row xs = map {B = K × R} (λ k. (k, row (of_key key xs k))) (distinct_keys (filter_map key xs))
 

@@ -1,5 +1,5 @@
-//! Tables whose first rows are held, in the order in which their keys came, and whose other keys
-//! wait to be held, so that their rows can begin with no memory.
+//! Tables of rows by key. Keys that are held have a row each, in the order in which they came;
+//! after them keys may wait, so that their rows can begin later without allocating memory.
 #![tactic(auto)]
 
 mod row_table;

@@ -1,4 +1,4 @@
-//! The table of keys that are held, each with its row, and of keys that wait.
+//! The table: the held keys, each with its row, and the keys that wait.
 
 ghost use Rattle.std.specs.Prelude.{◌≡◌, ◌↔◌, ◌<◌, ◌≤◌, ◌^◌, ◌++◌, [], ◌∷◌, not, map, IsTrue, Some, Err, IfOk, OnOk, OnErr, length, slice_get, take, drop, filter, nat_eq, ◌-◌, ◌||◌, Bool};
 ghost use Rattle.std.specs.Bool.{IsFalse, OnTrue};
@@ -15,11 +15,11 @@ use std::alloc::Global;
 use std::hash::Hash;
 use std::marker::Model;
 
-/// A test of keys, by which a table keeps its rows.
+/// A test of keys, by which a table keeps or removes rows.
 pub trait KeyTest<K> {
     ghost passes: { Self → K → Bool };
 
-    /// Whether a key passes.
+    /// Returns whether a key passes.
     fn passes(&self, key: &K) -> bool
         ensures { result ≡ passes self.now key.now };
 }
@@ -33,10 +33,10 @@ pub enum RowRefused {
     NoMemory,
 }
 
-/// Keys in the order in which they came, each with its row, and after them keys that wait to be
-/// held.
+/// Keys in the order in which they came, each with its row, and after them keys that wait for a
+/// row.
 ///
-/// A key waits so that its row can begin later with no memory. Each key is there once.
+/// A key waits so that its row can begin later without allocating memory. Each key is there once.
 #[derive(Drop)]
 pub struct RowTable<K: Hash + ExactEq + Copy, R: Copy> {
     table: IndexMap<K, R>,
@@ -59,7 +59,7 @@ impl<K: Hash + ExactEq + Copy, R: Copy> Model for RowTable<K, R> {
 }
 
 impl<K: Hash + ExactEq + Copy, R: Copy> RowTable<K, R> {
-    /// A table with no rows, in which no key waits.
+    /// Returns a table with no rows, in which no key waits.
     pub fn new(alloc: Global) -> RowTable<K, R>
         ensures rows { result.rows ≡ [] }
         ensures waiting { result.waiting ≡ [] }
@@ -70,28 +70,28 @@ impl<K: Hash + ExactEq + Copy, R: Copy> RowTable<K, R> {
         }
     }
 
-    /// How many keys are held.
+    /// Returns how many keys are held.
     pub fn len(&self) -> usize
         ensures { result ≡ length self.now.rows }
     {
         self.held
     }
 
-    /// Whether no key is held.
+    /// Returns whether no key is held.
     pub fn is_empty(&self) -> bool
         ensures { IsTrue result ↔ (self.now.rows ≡ []) }
     {
         self.held == 0
     }
 
-    /// How many keys are held or wait.
+    /// Returns how many keys are held or wait.
     pub fn len_with_waiting(&self) -> usize
         ensures { result ≡ length (all_keys self.now) }
     {
         self.table.len()
     }
 
-    /// The key that is held at a place, from 0.
+    /// Returns the key that is held at a place, from 0.
     pub fn key(&self, place: usize) -> &K
         requires { place < length self.now.rows }
         ensures { slice_get (keys_of self.now.rows) place ≡ Some result.now }
@@ -99,7 +99,7 @@ impl<K: Hash + ExactEq + Copy, R: Copy> RowTable<K, R> {
         &self.table.keys().as_slice()[place]
     }
 
-    /// The row at a place, from 0.
+    /// Returns the row at a place, from 0.
     pub fn row(&self, place: usize) -> &R
         requires { place < length self.now.rows }
         ensures { slice_get (values_of self.now.rows) place ≡ Some result.now }
@@ -107,7 +107,7 @@ impl<K: Hash + ExactEq + Copy, R: Copy> RowTable<K, R> {
         &self.table[place]
     }
 
-    /// Whether a key is held.
+    /// Returns whether a key is held.
     pub fn holds(&self, key: &K) -> bool
         ensures { result ≡ is_held K.eq self.now.rows key.now }
     {
@@ -117,7 +117,8 @@ impl<K: Hash + ExactEq + Copy, R: Copy> RowTable<K, R> {
         }
     }
 
-    /// Whether a key is the first that waits. A key that is held never waits. It hashes nothing.
+    /// Returns whether a key is the first that waits, by one comparison and without a hash. A held
+    /// key never waits.
     pub fn waits_first(&self, key: &K) -> bool
         ensures first { result ≡ list_any (K.eq key.now) (take 1 self.now.waiting) }
         ensures apart { OnTrue result (IsFalse (is_held K.eq self.now.rows key.now)) }
@@ -125,7 +126,8 @@ impl<K: Hash + ExactEq + Copy, R: Copy> RowTable<K, R> {
         self.held < self.table.len() && *key == self.table.keys().as_slice()[self.held]
     }
 
-    /// The place of a key that is held or waits first, and its row if it is held.
+    /// Returns the index of a key, and its row if it is held. Requires that the key is held or is
+    /// the first that waits.
     pub fn find(&self, key: &K) -> (usize, Option<R>)
         requires { IsTrue (is_ready K.eq self.now key.now) }
         ensures place { IsPlace K.eq key.now (all_keys self.now) result.0 }
@@ -137,19 +139,19 @@ impl<K: Hash + ExactEq + Copy, R: Copy> RowTable<K, R> {
         (place, row_at(&self.table, self.held, place))
     }
 
-    /// Puts a row at a place that `find` gave. A key that waited is held now.
+    /// Puts a row at an index that `find` returned. If the key there was waiting, it is held now.
     pub fn put(&mut self, place: usize, row: R)
         requires there { place < length (all_keys self.old) }
         requires next { place ≤ length self.old.rows }
         ensures { PutsAt K.eq self.old self.new place row }
     {
-        // What the length says bounds the place.
+        // The length fits a `usize`, so `place + 1` does too.
         let _len = self.table.len();
         self.table[place] = row;
         self.held = self.held.max(place + 1);
     }
 
-    /// Puts a row at the place of a key that is held.
+    /// Replaces the row of the held key at an index.
     pub fn set_row(&mut self, place: usize, row: R)
         requires { place < length self.old.rows }
         ensures rows { self.new.rows ≡ set_value_at self.old.rows place row }
@@ -158,7 +160,8 @@ impl<K: Hash + ExactEq + Copy, R: Copy> RowTable<K, R> {
         self.table[place] = row;
     }
 
-    /// Begins the row of the first key that waits, which is held now after the others.
+    /// Begins the row of the first key that waits, which is now held, after the others. Requires
+    /// that a key waits.
     pub fn begin_next(&mut self, row: R)
         requires { 0 < length self.old.waiting }
         ensures rows { self.new.rows ≡ self.old.rows ++ waiting_rows row (take 1 self.old.waiting) }
@@ -169,9 +172,10 @@ impl<K: Hash + ExactEq + Copy, R: Copy> RowTable<K, R> {
         self.held += 1;
     }
 
-    /// Puts the row of a key after the others. After a refusal all stays as it was.
+    /// Appends a key with its row. Requires that no key waits. After an error the rows are
+    /// unchanged.
     ///
-    /// `Repeated` comes exactly if the key is held.
+    /// `Repeated`: if and only if the key is held.
     pub fn push_row(&mut self, key: K, row: R) -> Result<(), RowRefused>
         requires { self.old.waiting ≡ [] }
         ensures ok { OnOk result (self.new.rows ≡ self.old.rows ++ (key, row) ∷ []) }
@@ -189,8 +193,8 @@ impl<K: Hash + ExactEq + Copy, R: Copy> RowTable<K, R> {
         }
     }
 
-    /// Takes room for this many keys more at once, so that the table needn't grow again and again
-    /// as it is filled. What it holds stays.
+    /// Reserves memory for this many more keys at once, so that the table needn't grow again and
+    /// again as it is filled. Its contents don't change.
     pub fn make_room(&mut self, additional: usize) -> Result<(), NoMemory>
         ensures { self.new ≡ self.old }
     {
@@ -198,7 +202,7 @@ impl<K: Hash + ExactEq + Copy, R: Copy> RowTable<K, R> {
         Ok(())
     }
 
-    /// Lets no key wait any longer.
+    /// Removes all keys that wait.
     pub fn give_up(&mut self)
         ensures rows { self.new.rows ≡ self.old.rows }
         ensures waiting { self.new.waiting ≡ [] }
@@ -206,7 +210,8 @@ impl<K: Hash + ExactEq + Copy, R: Copy> RowTable<K, R> {
         self.table.truncate(self.held);
     }
 
-    /// Keeps the rows of the held keys that pass the test, in their order. What waits stays.
+    /// Removes the rows of the held keys that fail the test. The other rows keep their order, and
+    /// waiting keys stay.
     pub fn retain<T: KeyTest<K>>(&mut self, test: &T)
         ensures rows { self.new.rows ≡ filter (λ e. T.passes test.now e.0) self.old.rows }
         ensures waiting { self.new.waiting ≡ self.old.waiting }
@@ -216,8 +221,8 @@ impl<K: Hash + ExactEq + Copy, R: Copy> RowTable<K, R> {
         self.held = self.table.len() - waiting;
     }
 
-    /// Lets a key wait after the others that do, if it is neither held nor waits yet: then the
-    /// answer is true. Nothing reads `row` while the key waits.
+    /// Lets a key wait after the others that do, unless it is held or waits already. Returns
+    /// whether it was new. Nothing reads `row` while the key waits.
     pub fn let_wait(&mut self, key: K, row: R) -> Result<bool, NoMemory>
         ensures rows { self.new.rows ≡ self.old.rows }
         ensures ok { OnOk result (self.new.waiting ≡ waiting_with K.eq self.old (key ∷ [])) }
@@ -227,8 +232,8 @@ impl<K: Hash + ExactEq + Copy, R: Copy> RowTable<K, R> {
         insert_last(&mut self.table, key, row)
     }
 
-    /// Lets these keys wait: those that aren't held, in the order in which they are first seen,
-    /// each once. What waited before is given up, and after `NoMemory` no key waits.
+    /// Lets those of these keys wait that aren't held, in the order in which they first appear,
+    /// each once. Keys that waited before no longer do, and after `NoMemory` no key waits.
     pub fn reserve(&mut self, keys: &[K], row: R) -> Result<(), NoMemory>
         ensures rows { self.new.rows ≡ self.old.rows }
         ensures ok { OnOk result (self.new.waiting ≡ new_keys K.eq self.old.rows keys.now) }
@@ -272,7 +277,7 @@ fn row_at<K: Hash + ExactEq + Copy, R: Copy>(
     }
 }
 
-// Inserts a key after the others, unless it is there: then the answer is false.
+// Inserts a key after the others unless it is there, and returns whether it was new.
 fn insert_last<K: Hash + ExactEq + Copy, R: Copy>(
     table: &mut IndexMap<K, R>,
     key: K,

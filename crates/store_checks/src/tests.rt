@@ -1,5 +1,4 @@
-//! Each operation is played on a board in memory, and each table run, by functions that state
-//! nothing.
+//! Functions without a contract run each operation on a board in memory, and each table.
 
 mod accesses;
 mod admission;

@@ -6,8 +6,9 @@ import uuid
 from reference import load, reports
 from reference.account import CLASSES, MOST_NAMES, STATES, text_of_name
 from reference.base import Refused, Stop
+from reference.firmware import lines_ghes
 from reference.journal import recover
-from reference.kernel import decimal_of, klog, lines_klog, lines_trace
+from reference.kernel import LAST_SECOND, decimal_of, klog, lines_klog, lines_trace
 from reference.reports import bit, digits, number_at
 from reference.script import lines_of, read_line
 
@@ -228,6 +229,14 @@ def boot_and_cap(words, is_capped=True):
     return None if boot is None else (boot, *(int(word, 16) for word in words[1:]))
 
 
+def boot_and_second(words):
+    """The number of a boot and the second at which it began; None where the words say none."""
+    if len(words) != 2 or not all(NUMBER.fullmatch(word) for word in words):
+        return None
+    numbers = decimal_of(words[0]), decimal_of(words[1], LAST_SECOND)
+    return None if None in numbers else numbers
+
+
 def answer(words, data, files):
     """What a command prints over an input and two files, and its status; None where the words are none of these."""
     if (told := told_of_rasd(words)) is not None:
@@ -245,4 +254,6 @@ def answer(words, data, files):
         return lines_klog(*numbers, data)
     if words[:2] == [b"lines", b"trace"] and (numbers := boot_and_cap(words[2:], is_capped=False)):
         return lines_trace(*numbers, data)
+    if words[:2] == [b"lines", b"ghes"] and (numbers := boot_and_second(words[2:])):
+        return lines_ghes(*numbers, data)
     return None

@@ -3,11 +3,11 @@ use Rattle.std.specs.Prelude.{ℕ, ◌+◌, ◌<◌, ◌≤◌, List, length, Op
 use Rattle.memchr.specs.Find.{FindsNeedle, OccursAt}
 use Rattle.bank_lines.specs.EdacLines.{edac_mark}
 use Rattle.bank_lines.specs.LogLines.{log_mark}
-use Rattle.bank_lines.specs.declared.mark.Mark.{Mark}
-use Rattle.bank_lines.specs.declared.mark.Mark.TheVariants.{AtPlain, AtEdac}
+use Rattle.bank_lines.specs.declared.mark.LogMark.{LogMark}
+use Rattle.bank_lines.specs.declared.mark.LogMark.TheVariants.{AtPlain, AtEdac}
 
 -- a mark stands within a line
-abbrev pub IsWithin : Mark → List ℕ → Type 0
+abbrev pub IsWithin : LogMark → List ℕ → Type 0
 IsWithin (AtPlain place) line = place + length log_mark ≤ length line
 IsWithin (AtEdac place) line = place + length edac_mark ≤ length line
 

@@ -1,4 +1,4 @@
--- That what a board in memory tells, and its clock, keep the laws of a board.
+-- The model and the clock of a board in memory keep the laws of a board.
 use Rattle.std.specs.Prelude.{◌≡◌, ℕ, ◌≤◌, List, [], ◌∷◌, ◌++◌, length, Some, refl}
 use Rattle.std.proofs.Common.{sym, ◌∙◌, ap, subst, inl, inr, arith}
 use Rattle.erst_store.specs.Store.{Stored}
@@ -44,7 +44,7 @@ pub told_left : (s : State) (t : Told) → Some (told_of s) ≡ Some t → LeftN
 told_left s t is = subst (λ (u : Told). LeftNow (clock_of s.past) u.here) (some_is (told_of s) t is)
     (now_counts (settled_disk s.past.first.here) (calls_of s.past.changes s.past.first) (length (calls_of s.past.changes s.past.first)) (held_of s.past).here (omega arith) (here_left s.past))
 
--- what a stop leaves now has the store and the text that are held
+-- what a crash leaves now has the store and the text that are held
 kept_left : (past : Past) (left : Left) → LeftNow (clock_of past) left → (left.store ≡ (held_of past).here.store) × (left.out ≡ (held_of past).here.out)
 kept_left past left now =
     let may : MayLeave (disk_of past) rests left = now_left past left now in
@@ -128,7 +128,7 @@ module _ (past : Past) where
       (call_of (printed piece) (held_of past)) (InOut (Appends piece)) (calls_of-more past.changes (printed piece) past.first)
       (λ left may. print_appends (disk_of past) piece left may)
 
--- a step of the device that keeps the store changes nothing that a stop leaves
+-- a step of the device that keeps the store changes nothing that a crash leaves
 
 becomes_store : (store old new : List Stored) → store ≡ old → Becomes store old new → new ≡ old
 becomes_store store old new is (inl same) = same

@@ -1,4 +1,4 @@
--- How a law on what stops leave goes on over one call, and over several.
+-- How a law on what a crash leaves goes on over one call, and over several.
 use Rattle.std.specs.Prelude.{◌≡◌, ℕ, ◌≤◌, List, Option, None, Some, refl}
 use Rattle.std.proofs.Common.{sym, ◌∙◌, ap, subst, inl, inr, arith}
 use Rattle.std.specs.Option.{option_map}
@@ -10,21 +10,20 @@ use Rattle.board_core.specs.Clock.{Clock, LeftNow, After, Passes, Leads, IsSynce
 use Rattle.board_core.specs.Stop.{Left, file_in, with_file_in, Same, InFile, InStore, InOut, Appends}
 use Rattle.board_core.specs.Told.{Told, file_of, with_call, after_print, Steps}
 
--- a board that tells nothing tells not this
+-- a board that isn't modelled has no model
 pub not_told : (t : Told) → None ≡ Some t → ⊥
 not_told t e = cc
 
 -- One call
 
--- Whatever a stop during a call or after it leaves has a property, if every Left that its step
--- leads to has it.
+-- Whatever a crash during a call or after it leaves has a property, if every Left that its step leads to has it.
 pub adds_after : (Step : Left → Left → Type 0) (P : Left → Type 0) (old new : Clock) → Passes Step old new → ((left : Left) → After old Step left → P left) → Adds P old new
 adds_after Step P old new passes leads = record {
   later = passes.later;
   each = λ t left within may. elim (passes.each t left within may) [ inl before ↦ inl before | inr after ↦ inr (leads left after) ];
 }
 
--- the same if a stop before the call leaves just what is told
+-- the same if a crash before the call leaves just what the model says
 pub at_rest : (Step : Left → Left → Type 0) (t : Told) (told : Option Told) (old : Clock) (left : Left) → Rests t told old → After old Step left → Step t.here left
 at_rest Step t told old left rests after = subst (λ (l : Left). Step l left) (rests.only after.from after.was) after.by
 
@@ -49,20 +48,20 @@ adds_weaker P Q old new adds weaker = record {
   each = λ t left within may. elim (adds.each t left within may) [ inl before ↦ inl before | inr has ↦ inr (weaker left has) ];
 }
 
--- A law on all that a stop since moment t leaves goes on over calls that add nothing else.
+-- A law on all that a crash since moment t leaves goes on over calls that add nothing else.
 pub always_goes_on : (P : Left → Type 0) (t : ℕ) (old new : Clock) → Always old t P → t ≤ old.now → Adds P old new → Always new t P
 always_goes_on P t old new always within adds left may = elim (adds.each t left within may) [ inl before ↦ always left before | inr has ↦ has ]
 
--- Since the present moment a stop leaves what is told.
+-- Since the present moment a crash leaves what the model says.
 pub always_at_rest : (P : Left → Type 0) (t : Told) (told : Option Told) (clock : Clock) → Rests t told clock → P t.here → Always clock clock.now P
 always_at_rest P t told clock rests has left now = subst P (sym (rests.only left now)) has
 
--- What is told, and nothing else
+-- What the model says, and nothing else
 
 some_told : (t u : Told) → Some t ≡ Some u → t ≡ u
 some_told t u e = cc
 
--- then the record store is what is told, too
+-- then the record store is what the model says, too
 pub rests_store : (t : Told) (told : Option Told) (clock : Clock) → Rests t told clock → StoreIsLeft told clock
 rests_store t told clock rests u is left now = ap (λ (l : Left). l.store) (rests.only left now) ∙ ap (λ (v : Told). v.here.store) (some_told t u (sym rests.is ∙ is))
 
@@ -70,7 +69,7 @@ pub file_in-with : (file : FileNo) (bytes : List ℕ) (left : Left) → file_in 
 file_in-with Zero bytes left = refl
 file_in-with One bytes left = refl
 
--- A call that goes on by a step of what is told, and whose Lefts go on alike.
+-- A call that goes on by a step of what the model says, and whose Lefts go on alike.
 pub rests_on : (step : Told → Told) (Step : Left → Left → Type 0) (t : Told) (told_old told_new : Option Told) (old new : Clock) → Rests t told_old old → Steps step told_old told_new
     → Leads Step old new → ((left : Left) → Step t.here left → left ≡ (step t).here) → Rests (step t) told_new new
 rests_on step Step t told_old told_new old new rests steps leads same = record {
@@ -82,12 +81,12 @@ rests_on step Step t told_old told_new old new rests steps leads same = record {
 pub rests_listed : (call : DiskCall) (t : Told) (told_old told_new : Option Told) (old new : Clock) → Rests t told_old old → Steps (with_call call) told_old told_new → Passes Same old new → Rests (with_call call t) told_new new
 rests_listed call t told_old told_new old new rests steps passes = rests_on (with_call call) Same t told_old told_new old new rests steps passes.ends (λ left is. is)
 
--- a print that ended well
+-- a print that succeeded
 pub rests_printed : (piece : List ℕ) (t : Told) (told_old told_new : Option Told) (old new : Clock) → Rests t told_old old → Steps (after_print piece) told_old told_new → Leads (InOut (Appends piece)) old new → Rests (after_print piece t) told_new new
 rests_printed piece t told_old told_new old new rests steps leads = rests_on (after_print piece) (InOut (Appends piece)) t told_old told_new old new rests steps leads
     (λ left by. by.rest ∙ ap (λ text. record t.here { out = text }) by.step)
 
--- a sync that ended well, of a file of which a stop left this or that
+-- a sync that succeeded, of a file of which a crash left this or that
 pub synced_over : (file : FileNo) (bytes : List ℕ) (old new : Clock) → IsSynced file bytes old → Passes Same old new → IsSynced file bytes new
 synced_over file bytes old new synced passes left now =
     let after : After old Same left = passes.ends left now in
@@ -100,7 +99,7 @@ all_same t left zero one store out =
     ∙ (ap (λ (records : List Stored). record left { file0 = t.here.file0; file1 = t.here.file1; store = records }) store
     ∙ ap (λ text. record t.here { out = text }) out))
 
--- A file was changed and then synced, if a stop left just what was told.
+-- A file was changed and then synced, if a crash left just what the model said.
 pub rests_through : (file : FileNo) (Step : List ℕ → List ℕ → Type 0) (t there : Told) (told_old told_new : Option Told) (old mid new : Clock) → Rests t told_old old
     → Passes (InFile file Step) old mid → Passes Same mid new → IsSynced file (file_of file there) new → told_new ≡ Some there
     → there.here ≡ with_file_in file (file_of file there) t.here → Rests there told_new new
@@ -114,8 +113,8 @@ rests_through file Step t there told_old told_new old mid new rests writes syncs
       left_is ∙ (ap (λ bytes. with_file_in file bytes t.here) bytes_are ∙ sym frame));
 }
 
--- Both files are synced: a stop leaves just what is told. (That the store and the text are told
--- comes of the syncs and of the board's laws.)
+-- Both files are synced: a crash leaves just what the model says. (That the store and the text are told comes of the
+-- syncs and of the board's laws.)
 pub rests_synced : (t : Told) (told : Option Told) (clock : Clock) → told ≡ Some t → IsSynced Zero t.here.file0 clock → IsSynced One t.here.file1 clock
     → IsStored t.here.store clock → ((left : Left) → LeftNow clock left → left.out ≡ t.here.out) → Rests t told clock
 rests_synced t told clock is zero one store out = record {
@@ -123,7 +122,7 @@ rests_synced t told clock is zero one store out = record {
   only = λ left now. all_same t left (zero left now) (one left now) (store left now) (out left now);
 }
 
--- A call of the device that changed nothing but its store, of which a stop leaves what is told.
+-- A call of the device that changed nothing but its store, of which a crash leaves what the model says.
 pub rests_stored : (Step : List Stored → List Stored → Type 0) (t there : Told) (told_old told_new : Option Told) (old new : Clock) → Rests t told_old old → told_new ≡ Some there
     → Passes (InStore Step) old new → IsStored there.here.store new → there.here ≡ record t.here { store = there.here.store } → Rests there told_new new
 rests_stored Step t there told_old told_new old new rests is passes stored frame = record {

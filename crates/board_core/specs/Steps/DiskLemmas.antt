@@ -80,7 +80,7 @@ torn_more file place count old new may torn = record {
       omega arith);
 }
 
--- a write that ended well, after others
+-- a write that succeeded, after others
 pub overlay_more : (file : DiskFile) (place : ℕ) (bytes old : List ℕ) → MayLeaveFile file old → MayLeaveFile (with_range place (length bytes) file) (overlay place bytes old)
 overlay_more file place bytes old may = record {
   stays = λ k below outside.

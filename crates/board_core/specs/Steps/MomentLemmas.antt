@@ -45,7 +45,7 @@ since_kept disk (x ∷ xs) call zero left (inl may) = inl may
 since_kept disk (x ∷ xs) call zero left (inr may) = inr (since_kept (after x disk) xs call zero left may)
 since_kept disk (x ∷ xs) call (suc t) left may = since_kept (after x disk) xs call t left may
 
--- what a stop during the last call may leave
+-- what a crash during the last call may leave
 pub last_counts : (disk : Disk) (calls : List Call) (call : Call) (left : Left) → MayLeave (after_all calls disk) call left → MayLeaveSince disk (calls ++ call ∷ []) (length calls) left
 last_counts disk [] call left may = inl may
 last_counts disk (x ∷ xs) call left may = last_counts (after x disk) xs call left may
@@ -79,7 +79,7 @@ pub record AfterDisk (disk : Disk) (Step : Left → Left → Type 0) (left : Lef
 pub after_disk : (disk : Disk) (calls : List Call) (Step : Left → Left → Type 0) (left : Left) → AfterDisk (after_all calls disk) Step left → After (disk_clock disk calls) Step left
 after_disk disk calls Step left step = record { from = step.from; was = now_counts disk calls (length calls) step.from (omega arith) step.was; by = step.by }
 
--- one call more, of which it is known what a stop during it and after it leaves
+-- one call more, of which it is known what a crash during it and after it leaves
 pub leads_call : (disk : Disk) (calls more : List Call) (call : Call) (Step : Left → Left → Type 0) → more ≡ calls ++ call ∷ []
     → ((left : Left) → MayLeave (after call (after_all calls disk)) rests left → AfterDisk (after_all calls disk) Step left)
     → Leads Step (disk_clock disk calls) (disk_clock disk more)

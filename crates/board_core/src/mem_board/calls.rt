@@ -159,7 +159,7 @@ impl Board for MemBoard {
     }
 }
 
-// Copies a file's bytes from a place on into the front of a buffer, and says how many.
+// Copies a file's bytes from an offset on into the front of a buffer, and returns how many.
 fn copy_from(file: &[u8], place: usize, buf: &mut [u8]) -> usize
     ensures within { result ≤ length buf.old }
     ensures read { ReadsBytes place result buf.new file.now }

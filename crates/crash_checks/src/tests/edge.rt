@@ -10,7 +10,7 @@ use super::{ANOTHER, EVERYDAY, MODULE, joined};
 use board_core::MemSource;
 use host_system::{Effect, LeftFolder, MemSystem, NamePick, StopPick, WriteLeft, system_laws};
 use ras_daemon::{Exit, RasWord, rasd};
-use ras_host::{FileBoard, Use};
+use ras_host::{Alone, FileBoard, Reading, Use};
 use std::alloc::Global;
 use std::test::Fail;
 
@@ -64,11 +64,10 @@ enum Trouble {
 }
 
 // A call of the daemon over a folder, and what befalls it.
-fn call_over(
+fn call_over<U: Use>(
     alloc: Global,
     words: &[RasWord],
     script: Vec<u8>,
-    how: Use,
     start: &LeftFolder,
     trouble: Trouble,
 ) -> Result<(Exit, MemSystem), Fail> {
@@ -83,7 +82,7 @@ fn call_over(
         Trouble::Failure(call, effect) => system.fail_at(call, effect)?,
     }
     let mut source = MemSource::new(script, 7, Vec::new(alloc));
-    let mut board = FileBoard::new(alloc, how, system);
+    let mut board: FileBoard<MemSystem, U> = FileBoard::new(alloc, system);
     let exit = rasd(alloc, words, &mut source, &mut board);
     Ok((exit, board.into_system()))
 }
@@ -96,14 +95,7 @@ fn run_over(
     trouble: Trouble,
 ) -> Result<(Exit, MemSystem), Fail> {
     let words = vec![in alloc; RasWord::new(alloc, b"run")?]?;
-    call_over(
-        alloc,
-        &words,
-        joined(alloc, script)?,
-        Use::Alone,
-        start,
-        trouble,
-    )
+    call_over::<Alone>(alloc, &words, joined(alloc, script)?, start, trouble)
 }
 
 // The names of the account that a folder has.
@@ -112,14 +104,8 @@ fn names_in(alloc: Global, start: &LeftFolder) -> Result<Vec<u8>, Fail> {
         RasWord::new(alloc, b"report")?,
         RasWord::new(alloc, b"names")?,
     ]?;
-    let (_, system) = call_over(
-        alloc,
-        &words,
-        Vec::new(alloc),
-        Use::Reading,
-        start,
-        Trouble::Nothing,
-    )?;
+    let nothing = Trouble::Nothing;
+    let (_, system) = call_over::<Reading>(alloc, &words, Vec::new(alloc), start, nothing)?;
     Ok(now(&system)?.out)
 }
 

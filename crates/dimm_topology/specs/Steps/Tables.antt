@@ -1,4 +1,4 @@
--- What a topology keeps beside its rows, to find what they tell with no walk through them.
+-- What a topology keeps beside its rows, to find what they say without a walk through them.
 use Rattle.std.specs.Prelude.{◌≡◌, ℕ, Bool, false, nat_eq, if◌then◌else◌, Option, None, Some, List, [], ◌∷◌, filter}
 use Rattle.std.specs.List.{list_any, find}
 use Rattle.std.specs.Option.{option_map}
@@ -31,7 +31,7 @@ joined None label = Some label
 joined (Some None) label = None
 joined (Some (Some held)) label = if same_label held label then Some held else None
 
--- tables tell what rows tell
+-- the tables say what the rows say
 pub record Tells (rows : List Row) (tables : Tables) : Type 0 where
   -- the sockets of CPUs
   pub sockets : (cpu : ℕ) → get nat_eq tables.sockets cpu ≡ socket_by_rows rows cpu

@@ -17,12 +17,12 @@ use Rattle.erst_driver.specs.declared.step.Step.{Step}
 use Rattle.erst_driver.specs.Operations.{after_step, after_steps, actions_of, write_steps, checks, listings, ids_steps, told_by, device_calls, put_in_range, fetch_calls, write_calls}
 use Rattle.erst_driver.specs.Answers.{answer_of}
 
--- if a board tells a device
+-- if a board's model has a device
 abbrev pub Over : (Told → Type 0) → Option Told → Type 0
 Over P None = Unit {0}
 Over P (Some t) = IsDevice (device_of t) → P t
 
--- What was told is a device, as it is if a call of the device was made by an admitted table.
+-- What the model said is a device, as it is if a call of the device was made by an admitted table.
 pub record HasDevice (lists : List (List InstructionEntry)) (told : Option Told) : Type 0 where
   pub admitted : IsAdmittedTable lists
   pub device : IfSome told (λ t. IsDevice (device_of t))
@@ -31,7 +31,7 @@ pub record HasDevice (lists : List (List InstructionEntry)) (told : Option Told)
 abbrev pub Called : List (List InstructionEntry) → ℕ → Option Told → Option Told → Type 0
 Called lists count old new = ((count ≡ 0) × (new ≡ old)) ⊎ HasDevice lists old
 
--- ---- what is told of calls
+-- ---- what the model says of calls
 
 -- a call at least
 abbrev pub HasCall : List DeviceCall → Type 0
@@ -46,14 +46,14 @@ pub record Begins (calls : List DeviceCall) (old : Told) (new : Option Told) : T
   pub some : HasCall done
   pub told : new ≡ Some (after_acts (acts_of done) old)
 
--- A board that told this did these calls. If a call failed, it did them up to this call, and if
+-- A board with this model did these calls. If a call failed, it did them up to this call, and if
 -- memory ran out, some of them.
 abbrev pub Leaves : {T : Type 0} → Result T DriverRefused → Told → Option Told → List DeviceCall → Type 0
 Leaves (Err Register) old new calls = IsCutShort calls old new
 Leaves (Err NoMemory) old new calls = Begins calls old new
 Leaves result old new calls = new ≡ Some (after_acts (acts_of calls) old)
 
--- If no call failed, and a stop before leaves the store that is told, so does one after.
+-- If no call failed, and a crash before leaves the store in the model, so does one after.
 abbrev pub KeepsStored : {T : Type 0} → Result T DriverRefused → Seen → Seen → Type 0
 KeepsStored (Err Register) old new = Unit {0}
 KeepsStored result old new = StoreIsLeft old.told old.clock → StoreIsLeft new.told new.clock
@@ -80,7 +80,7 @@ asks_within most busy = if nat_lt busy most then checks (busy + 1) else checks m
 abbrev pub answers_within : ℕ → ℕ → Result (Unit {0}) DriverRefused
 answers_within most busy = if nat_lt busy most then Ok tt else Err Busy
 
--- what is told after actions that were done
+-- what the model says after actions that were done
 pub record Tells (lists : List (List InstructionEntry)) (steps : List Step) (t : Told) (new : Option Told) : Type 0 where
   pub told : new ≡ Some (told_by lists steps t)
   pub device : device_of (told_by lists steps t) ≡ after_steps steps (device_of t)
@@ -91,7 +91,7 @@ pub record Done (lists : List (List InstructionEntry)) (plan : Plan) (old new : 
   pub well : GoesWell (StoreIn plan old.told) old new
   pub tells : Over (λ t. Tells lists (plan (device_of t)) t new.told) old.told
 
--- what is told of a plan in which a call failed
+-- what the model says of a plan in which a call failed
 abbrev pub CutIn : List (List InstructionEntry) → Plan → Option Told → Option Told → Type 0
 CutIn lists plan old new = Over (λ t. IsCutShort (device_calls lists (plan (device_of t)) (device_of t)) t new) old
 
@@ -119,7 +119,7 @@ Runs lists plan (Ok done) old new = Done lists plan old new
 Runs lists plan (Err Register) old new = FailsIn lists plan old new
 Runs lists plan (Err why) old new = ⊥
 
--- a plan that was done to its end, with this answer over a board that tells a device
+-- a plan that was done to its end, with this answer over a board whose model has a device
 pub record Answered (lists : List (List InstructionEntry)) (plan : Plan) (answer : Device → Result (Unit {0}) DriverRefused) (result : Result (Unit {0}) DriverRefused) (old new : Seen) : Type 0 where
   pub done : Done lists plan old new
   pub answers : Over (λ t. result ≡ answer (device_of t)) old.told
@@ -149,7 +149,7 @@ Reads lists steps buffer (Err why) old new = Operates lists (actions_of steps) (
 
 -- ---- listings
 
--- the record store stays, or is what was told
+-- the record store stays, or is what the model said
 abbrev pub Quietly : Option Told → List Stored → List Stored → Type 0
 Quietly None old new = Unit {0}
 Quietly (Some t) old new = IsDevice (device_of t) → (new ≡ old) ⊎ (new ≡ t.here.store)

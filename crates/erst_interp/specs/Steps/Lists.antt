@@ -15,7 +15,7 @@ pub record AreEmpty (lists : List (List InstructionEntry)) : Type 0 where
 abbrev pub with_entry : InstructionEntry → List (List InstructionEntry) → List (List InstructionEntry)
 with_entry e lists = set lists e.action (list_of e.action lists ++ e ∷ [])
 
--- the answer of a reader that takes no memory
+-- the answer of a reader that allocates nothing
 abbrev pub ReadsTable : {X Y : Type 0} → (X → Y) → Result X ErstTableRefused → Result Y ErstTableRefused → Type 0
 ReadsTable view (Ok value) answer = answer ≡ Ok (view value)
 ReadsTable view (Err why) answer = answer ≡ Err why

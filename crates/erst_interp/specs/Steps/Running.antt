@@ -1,4 +1,4 @@
--- What private functions of a run say of what a board tells, keeps and counts.
+-- What private functions of a run say of what a board's model says, keeps and counts.
 use Rattle.std.specs.Prelude.{◌≡◌, ◌≢◌, ℕ, ◌+◌, ◌-◌, ◌≤◌, ◌⊎◌, true, false, List, [], Option, Some, None, Result, Ok, Err, IfSome}
 use Rattle.erst_store.specs.Store.{Stored}
 use Rattle.erst_store.specs.Actions.{range_address, range_length}
@@ -15,8 +15,8 @@ use Rattle.erst_interp.specs.Machine.{MachineState, Outcome, goes, stops, new_va
 use Rattle.erst_interp.specs.Run.{KeepsButDevice, IsCutShort, acts_of}
 use Rattle.erst_interp.specs.Steps.Parts.{uses_register}
 
--- Calls went well, or the last of them failed. The record store may have changed so. If a stop before
--- calls that went well leaves the store that is told, so does one after them.
+-- Calls succeeded, or the last of them failed. The record store may have changed so. If a crash before calls that
+-- succeeded leaves the store in the model, so does one after them.
 pub record GoesWell (Store : List Stored → List Stored → Type 0) (old new : Seen) : Type 0 where
   pub kept : Relates KeepsButDevice old.told new.told
   pub stops : Passes (InStore Store) old.clock new.clock
@@ -38,12 +38,12 @@ Stays old new = new ≡ old
 
 -- ---- calls of the device
 
--- it stays, or is what a stop during these calls leaves of it
+-- it stays, or is what a crash during these calls leaves of it
 abbrev pub StoreIn : List DeviceCall → Option Told → List Stored → List Stored → Type 0
 StoreIn calls None old new = Unit {0}
 StoreIn calls (Some t) old new = (new ≡ old) ⊎ Moment (acts_of calls) t (record t.here { store = new })
 
--- These calls were made and went well, or one of them failed and was the last.
+-- These calls were made and succeeded, or one of them failed and was the last.
 pub record Made (calls : List DeviceCall) (old new : Seen) : Type 0 where
   pub told : Steps (after_acts (acts_of calls)) old.told new.told
   pub well : GoesWell (StoreIn calls old.told) old new
@@ -54,7 +54,7 @@ pub record Cut (calls : List DeviceCall) (old new : Seen) : Type 0 where
 
 -- ---- parts of a turn
 
--- the state that variables and what is told make
+-- the state that variables and what the model says make
 abbrev pub state_in : Variables → Told → MachineState
 state_in v t = record { variables = v; device = device_of t; calls = [] }
 
@@ -62,7 +62,7 @@ abbrev pub state_of : Outcome → MachineState
 state_of (goes s) = s
 state_of (stops why s) = s
 
--- the calls that a part of a turn makes; of a board that tells nothing none are known
+-- the calls that a part of a turn makes; none are known of a board that isn't modelled
 abbrev pub calls_in : (MachineState → Outcome) → Variables → Option Told → List DeviceCall
 calls_in part v None = []
 calls_in part v (Some t) = (state_of (part (state_in v t))).calls
@@ -94,7 +94,7 @@ IsPlace address count (Some place) = (is_inside address count ≡ true) × (plac
 
 -- ---- runs
 
--- the state of a run that begins over what is told, and its end
+-- the state of a run that begins over what the model says, and its end
 abbrev pub start_over : ℕ → Told → MachineState
 start_over input t = state_in (new_variables input) t
 

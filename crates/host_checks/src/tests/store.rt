@@ -6,7 +6,7 @@ use erst_store::actions::{
     BEGIN_CLEAR_OPERATION, EXECUTE_OPERATION, GET_COMMAND_STATUS, GET_RECORD_COUNT,
     SET_RECORD_IDENTIFIER,
 };
-use ras_host::{FileBoard, RealSystem, Use};
+use ras_host::{Alone, FileBoard, RealSystem};
 use std::fs;
 use std::fs::Permissions;
 use std::os::unix::fs::{MetadataExt, PermissionsExt, chown, symlink};
@@ -24,12 +24,14 @@ const NONE: &[u8] = b"RASERST1\0\0\0\0";
 // The longest file of a store has a byte less.
 const TOO_LONG: u64 = 16_789_517;
 
-fn act(board: &mut FileBoard<RealSystem>, action: u64) -> bool {
+type RunBoard = FileBoard<RealSystem, Alone>;
+
+fn act(board: &mut RunBoard, action: u64) -> bool {
     board.reg_write(Reg::Action, action).is_ok()
 }
 
 // Does an action that answers in the register Value.
-fn ask(board: &mut FileBoard<RealSystem>, action: u64) -> Option<u64> {
+fn ask(board: &mut RunBoard, action: u64) -> Option<u64> {
     if !act(board, action) {
         return None;
     }
@@ -37,11 +39,11 @@ fn ask(board: &mut FileBoard<RealSystem>, action: u64) -> Option<u64> {
 }
 
 fn count_anew(rt: HostRuntime) -> Option<u64> {
-    ask(&mut board(rt, Use::Alone), GET_RECORD_COUNT)
+    ask(&mut board::<Alone>(rt), GET_RECORD_COUNT)
 }
 
 // Clears the record of an identifier, and answers the status.
-fn clear(board: &mut FileBoard<RealSystem>, id: u64) -> Option<u64> {
+fn clear(board: &mut RunBoard, id: u64) -> Option<u64> {
     let is_set = board.reg_write(Reg::Value, id).is_ok() && act(board, SET_RECORD_IDENTIFIER);
     if !is_set || !act(board, BEGIN_CLEAR_OPERATION) || !act(board, EXECUTE_OPERATION) {
         return None;
@@ -50,12 +52,12 @@ fn clear(board: &mut FileBoard<RealSystem>, id: u64) -> Option<u64> {
 }
 
 // Puts the record (id, 00).
-fn put(board: &mut FileBoard<RealSystem>, id: u64) -> Result<(), BoardPut> {
+fn put(board: &mut RunBoard, id: u64) -> Result<(), BoardPut> {
     board.put(id, &[0])
 }
 
 fn put_anew(rt: HostRuntime) -> Result<(), BoardPut> {
-    put(&mut board(rt, Use::Alone), 6)
+    put(&mut board::<Alone>(rt), 6)
 }
 
 // A file is made by the first change and replaced by each later one, under its owner and its mode.
@@ -63,7 +65,7 @@ fn put_anew(rt: HostRuntime) -> Result<(), BoardPut> {
 #[test]
 fn file_follows_the_store(rt: HostRuntime) -> Result<(), Fail> {
     enter(&rt, "changes")?;
-    let mut board = board(rt, Use::Alone);
+    let mut board = board::<Alone>(rt);
     assert!(rt; ask(&mut board, GET_RECORD_COUNT) == Some(0) && clear(&mut board, 6) == Some(4));
     assert!(rt; is_missing(&rt, STORE) && put(&mut board, 6) == Ok(()));
     assert!(rt; holds(&rt, STORE, ONE) && count_anew(rt) == Some(1));
@@ -100,7 +102,7 @@ fn failed_change_ends_the_device(rt: HostRuntime) -> Result<(), Fail> {
     enter(&rt, "failed")?;
     fs::write(&rt, STORE, NONE)?;
     fs::create_dir(&rt, NEW_STORE)?;
-    let mut board = board(rt, Use::Alone);
+    let mut board = board::<Alone>(rt);
     assert!(rt; put(&mut board, 6) == Err(BoardPut::Failed) && holds(&rt, STORE, NONE));
     fs::remove_dir(&rt, NEW_STORE)?;
     assert!(rt; !act(&mut board, GET_RECORD_COUNT) && put(&mut board, 6) == Err(BoardPut::Failed));

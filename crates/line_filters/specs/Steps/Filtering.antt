@@ -70,8 +70,8 @@ Ends see exit result text old new =
 
 -- ---- how far the lines were taken
 
--- Of a text so much was printed, and so much behind it waits. A stop now leaves what one before the
--- call may have left, with all that was printed.
+-- Of a text so much was printed, and so much behind it waits. A crash now leaves what one before the call may have
+-- left, with all that was printed.
 pub record Said (text : List ℕ) (before : Told) (old : Clock) (printed waiting : List ℕ) (now : Told) (new : Clock) : Type 0 where
   pub is : now ≡ after_print printed before
   pub begins : IsPrefixOf (printed ++ waiting) text
@@ -116,7 +116,7 @@ Gathers whole script before old exit filter waiting reader left now new =
     Waits whole script before old exit filter waiting reader left now new
     ⊎ ((exit ≡ PrintFault) × LinesEnd whole script before old exit filter reader left now new)
 
--- the same if source and board tell at the end
+-- the same if source and board are modelled at the end
 abbrev pub GathersBoth : Filter → List ℕ → Told → Clock → Exit → Filter → List ℕ → Reader → Option (List ℕ) → Option Told → Clock → Type 0
 GathersBoth whole script before old exit filter waiting reader left told new =
     IsSomeAnd left (λ rest. IsSomeAnd told (λ now. Gathers whole script before old exit filter waiting reader rest now new))

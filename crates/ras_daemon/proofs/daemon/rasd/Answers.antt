@@ -81,6 +81,16 @@ returns-in-Some-KlogLines-clause-commands g c =
       device = c.filter_lines-in-Some-KlogLines.ensures.device;
     })
 
+pub returns-in-Some-GhesLines-clause-commands : goal.returns-in-Some-GhesLines-clause-commands
+returns-in-Some-GhesLines-clause-commands g c =
+    let exit = c.filter_lines-in-Some-GhesLines.result in
+    rw (sym c.task_of.ensures.task ∙ c.in-Some-GhesLines.is ∙ ap Some c.in-Some-GhesLines.field-0-is)
+    (record {
+      tells = filters_as _ _ exit _ _ _ _ c.new-filter-in-Some-GhesLines.ensures.makes c.filter_lines-in-Some-GhesLines.ensures.filters;
+      stops = stops_as _ _ _ _ _ _ c.new-filter-in-Some-GhesLines.ensures.makes c.filter_lines-in-Some-GhesLines.ensures.stops;
+      device = c.filter_lines-in-Some-GhesLines.ensures.device;
+    })
+
 pub returns-in-Some-Help-clause-commands : goal.returns-in-Some-Help-clause-commands
 returns-in-Some-Help-clause-commands g c =
     rw (sym c.task_of.ensures.task ∙ c.in-Some-Help.is ∙ ap Some c.in-Some-Help.field-0-is)

@@ -1,19 +1,29 @@
-use Rattle.ras_recover.proofs.BothLemmas.{zero_refused, one_refused, both_told, both_looks, half_looks}
+use Rattle.std.proofs.Common.{List, Ok, Some}
+use Rattle.board_core.specs.Stop.{Left}
+use Rattle.board_core.specs.Told.{Told}
+use Rattle.board_core.specs.declared.board.DiskCall.{DiskCall}
+use Rattle.ras_recover.specs.OpeningCalls.{ReadsBoth}
+use Rattle.ras_recover.specs.Steps.Pair.{IfFound}
+use Rattle.ras_recover.proofs.AgeLemmas.{looks_behind, looks_broken, looks_told, nothing_told, found_journal, found_shut, both_later}
 use Rattle.ras_recover.proofs.pair.read_both.Goals as goal
 
 pub returns-in-Err-clause-read : goal.returns-in-Err-clause-read
-returns-in-Err-clause-read g c = zero_refused c.in-Err.refused c.args.sizes.0 c.args.sizes.1 _ c.requires.short c.requires.sizes c.in-Err.ensures.read
+returns-in-Err-clause-read g c = nothing_told c.in-Err.refused _ _ c.in-Err.ensures.refused
 
-pub returns-in-Ok-read_one-clause-read : goal.returns-in-Ok-read_one-clause-read
-returns-in-Ok-read_one-clause-read g c =
-    both_told c.args.sizes.0 c.args.sizes.1 _ _ c.generation_in.result _ _ _ c.in-Ok.ensures.looks.keeps.here c.requires.short c.requires.sizes c.in-Ok.ensures.read c.generation_in.ensures c.in-Ok-read_one.ensures.read c.greater.ensures
+pub returns-in-Err-clause-looks : goal.returns-in-Err-clause-looks
+returns-in-Err-clause-looks g c = looks_broken _ _ c.in-Err.refused _ _ _ _ _ _ _ _ c.in-Err.ensures.looks
 
-pub returns-in-Ok-read_one-clause-looks : goal.returns-in-Ok-read_one-clause-looks
-returns-in-Ok-read_one-clause-looks g c = both_looks c.in-Ok.zero c.in-Ok-read_one.one _ _ _ _ _ _ _ _ _ _ c.in-Ok.ensures.looks c.in-Ok-read_one.ensures.looks
+pub returns-in-Some-clause-read : goal.returns-in-Some-clause-read
+returns-in-Some-clause-read g c = found_journal c.in-Some.both _ (rw c.in-Some.is at c.in-Ok.ensures.read)
 
-pub returns-in-Err-read_one-clause-read : goal.returns-in-Err-read_one-clause-read
-returns-in-Err-read_one-clause-read g c =
-    one_refused c.in-Err-read_one.refused c.args.sizes.0 c.args.sizes.1 _ c.generation_in.result _ _ c.in-Ok.ensures.looks.keeps.here c.requires.short c.requires.sizes c.in-Ok.ensures.read c.generation_in.ensures c.in-Err-read_one.ensures.read
+pub returns-in-Some-clause-shut : goal.returns-in-Some-clause-shut
+returns-in-Some-clause-shut g c = found_shut c.in-Some.both _ (rw c.in-Some.is at c.in-Ok.ensures.read)
 
-pub returns-in-Err-read_one-clause-looks : goal.returns-in-Err-read_one-clause-looks
-returns-in-Err-read_one-clause-looks g c = half_looks _ _ c.in-Ok.zero c.in-Err-read_one.refused _ _ _ _ _ _ _ _ _ c.in-Ok.ensures.looks c.in-Err-read_one.ensures.looks
+pub returns-in-Some-clause-looks : goal.returns-in-Some-clause-looks
+returns-in-Some-clause-looks g c =
+    looks_told (Some c.in-Some.both) c.in-Some.both (λ (t : Told) (xs : List DiskCall). ReadsBoth t.here xs) (λ (t : Told) (xs : List DiskCall). ReadsBoth t.here xs) _ _ _ _ _ _ (λ t ys p. p) (rw c.in-Some.is at c.in-Ok.ensures.looks)
+
+pub returns-in-None-clause-looks : goal.returns-in-None-clause-looks
+returns-in-None-clause-looks g c =
+    looks_behind c.in-Ok.found c.read_one_by_one.result (λ (l : Left) (xs : List DiskCall). IfFound (Ok c.in-Ok.found) (ReadsBoth l xs)) ReadsBoth _ _ _ _ _ _ _ _ _ both_later c.in-Ok.ensures.looks
+    c.read_one_by_one.ensures.looks

@@ -1,7 +1,6 @@
 use Rattle.std.proofs.Common.{[], Some, ap, ◌∙◌, subst}
 use Rattle.host_system.specs.Folder.{FolderFile, opened, made, renewed, empty_file}
-use Rattle.host_system.specs.FolderPast.{changed_by}
-use Rattle.host_system.specs.MemSystem.{as_stopped, past_noted}
+use Rattle.host_system.specs.MemSystem.{as_stopped, past_noted, with_change, faulted_to}
 use Rattle.host_system.specs.Steps.MemFiles.{IsChanged}
 use Rattle.host_system.proofs.MemLemmas.{noted, held_after, used_held}
 use Rattle.host_system.proofs.mem_system.MemSystem.make_file.Goals as goal
@@ -17,4 +16,4 @@ invariant_of-self-2 c =
     (subst (λ (f : FolderFile). IsChanged c.args.name (renewed (Some f)) c.self.inside.files c.renew.new.self) c.empty-file.ensures c.in-Ok.ensures.ok)) c.self.invariant
 
 pub returns-clause-ok : goal.returns-clause-ok
-returns-clause-ok c = noted (as_stopped c.self.inside.first) 2 c.args.name 0 0 [] _ _ c.note.ensures ∙ ap (changed_by (made c.args.name)) c.self.view_is
+returns-clause-ok c = ap (faulted_to c.self.inside.faults) (noted (as_stopped c.self.inside.first) 2 c.args.name 0 0 [] _ _ c.note.ensures) ∙ ap (with_change (made c.args.name)) c.self.view_is

@@ -1,8 +1,7 @@
 use Rattle.std.proofs.Common.{[], ap, ◌∙◌}
 use Rattle.std.specs.Prelude.{None}
 use Rattle.host_system.specs.Folder.{shut, removed, renewed}
-use Rattle.host_system.specs.FolderPast.{changed_by}
-use Rattle.host_system.specs.MemSystem.{as_stopped, past_noted}
+use Rattle.host_system.specs.MemSystem.{as_stopped, past_noted, with_change, faulted_to}
 use Rattle.host_system.proofs.MemLemmas.{noted, held_after, used_held}
 use Rattle.host_system.proofs.mem_system.MemSystem.remove_file.Goals as goal
 
@@ -16,4 +15,4 @@ invariant_of-self-2 c =
     (used_held c.args.name shut (renewed None) c.self.inside.files c.renew.new.self c.self.inside.out.items c.in-Ok.ensures.ok) c.self.invariant
 
 pub returns-clause-ok : goal.returns-clause-ok
-returns-clause-ok c = noted (as_stopped c.self.inside.first) 6 c.args.name 0 0 [] _ _ c.note.ensures ∙ ap (changed_by (removed c.args.name)) c.self.view_is
+returns-clause-ok c = ap (faulted_to c.self.inside.faults) (noted (as_stopped c.self.inside.first) 6 c.args.name 0 0 [] _ _ c.note.ensures) ∙ ap (with_change (removed c.args.name)) c.self.view_is

@@ -1,8 +1,7 @@
 use Rattle.std.proofs.Common.{[], ap, ◌∙◌}
 use Rattle.host_system.specs.declared.system.FileName.TheVariants.{New}
 use Rattle.host_system.specs.Folder.{renamed}
-use Rattle.host_system.specs.FolderPast.{changed_by}
-use Rattle.host_system.specs.MemSystem.{as_stopped, past_noted}
+use Rattle.host_system.specs.MemSystem.{as_stopped, past_noted, with_change, faulted_to}
 use Rattle.host_system.proofs.MemLemmas.{noted, held_after}
 use Rattle.host_system.proofs.mem_system.MemSystem.rename_file.Goals as goal
 
@@ -15,4 +14,4 @@ invariant_of-self-2 c =
     (noted (as_stopped c.self.inside.first) 7 New 0 0 [] _ _ c.note.ensures) (c.in-Ok.ensures.ok c.self.inside.out.items) c.self.invariant
 
 pub returns-clause-ok : goal.returns-clause-ok
-returns-clause-ok c = noted (as_stopped c.self.inside.first) 7 New 0 0 [] _ _ c.note.ensures ∙ ap (changed_by renamed) c.self.view_is
+returns-clause-ok c = ap (faulted_to c.self.inside.faults) (noted (as_stopped c.self.inside.first) 7 New 0 0 [] _ _ c.note.ensures) ∙ ap (with_change renamed) c.self.view_is

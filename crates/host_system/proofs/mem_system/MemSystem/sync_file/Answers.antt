@@ -1,7 +1,7 @@
 use Rattle.std.proofs.Common.{[], refl, ap, ◌∙◌}
 use Rattle.host_system.specs.Folder.{synced, loses, with_now, after_syncing}
 use Rattle.host_system.specs.FolderPast.{changed_by}
-use Rattle.host_system.specs.MemSystem.{as_stopped, past_noted}
+use Rattle.host_system.specs.MemSystem.{as_stopped, past_noted, MemState}
 use Rattle.host_system.proofs.MemLemmas.{noted, held_after, changed_held}
 use Rattle.host_system.proofs.mem_system.MemSystem.sync_file.Goals as goal
 
@@ -11,7 +11,7 @@ invariant_of-self c =
     (noted (as_stopped c.self.inside.first) 5 c.args.name 0 0 [] _ _ c.note.ensures) (λ uses. refl) c.self.invariant
 
 pub returns-then-is_err-clause-err : goal.returns-then-is_err-clause-err
-returns-then-is_err-clause-err c = noted (as_stopped c.self.inside.first) 5 c.args.name 0 0 [] _ _ c.note.ensures ∙ ap (changed_by (loses c.args.name)) (c.self.view_is ∙ c.begin.ensures)
+returns-then-is_err-clause-err c = noted (as_stopped c.self.inside.first) 5 c.args.name 0 0 [] _ _ c.note.ensures ∙ ap (changed_by (loses c.args.name)) (ap (λ (s : MemState). s.past) c.self.view_is ∙ c.begin.ensures.past)
 
 pub invariant_of-self-2 : goal.invariant_of-self-2
 invariant_of-self-2 c =
@@ -19,4 +19,4 @@ invariant_of-self-2 c =
     (noted (as_stopped c.self.inside.first) 1 c.args.name 0 0 [] _ _ c.note-2.ensures) (changed_held c.args.name (with_now after_syncing) c.self.inside.files c.sync.new.self c.self.inside.out.items c.sync.ensures) c.self.invariant
 
 pub returns-clause-ok : goal.returns-clause-ok
-returns-clause-ok c = noted (as_stopped c.self.inside.first) 1 c.args.name 0 0 [] _ _ c.note-2.ensures ∙ ap (changed_by (synced c.args.name)) (c.self.view_is ∙ c.begin.ensures)
+returns-clause-ok c = noted (as_stopped c.self.inside.first) 1 c.args.name 0 0 [] _ _ c.note-2.ensures ∙ ap (changed_by (synced c.args.name)) (ap (λ (s : MemState). s.past) c.self.view_is ∙ c.begin.ensures.past)

@@ -1,7 +1,6 @@
 use Rattle.std.proofs.Common.{◌+◌, length, ap, ◌∙◌}
 use Rattle.host_system.specs.Folder.{wrote, with_now, after_writing}
-use Rattle.host_system.specs.FolderPast.{changed_by}
-use Rattle.host_system.specs.MemSystem.{as_stopped, past_noted}
+use Rattle.host_system.specs.MemSystem.{as_stopped, past_noted, with_change, faulted_to}
 use Rattle.host_system.proofs.MemLemmas.{noted, held_after, changed_held}
 use Rattle.host_system.proofs.mem_system.MemSystem.write.Goals as goal
 
@@ -16,5 +15,5 @@ invariant_of-self-2 c =
 
 pub returns-clause-ok : goal.returns-clause-ok
 returns-clause-ok c =
-    noted (as_stopped c.self.inside.first) 0 c.args.name c.args.place (length c.args.bytes.now + c.args.missing) c.args.bytes.now _ _ c.note.ensures
-    ∙ ap (changed_by (wrote c.args.name c.args.place (length c.args.bytes.now + c.args.missing) c.args.bytes.now)) c.self.view_is
+    ap (faulted_to c.self.inside.faults) (noted (as_stopped c.self.inside.first) 0 c.args.name c.args.place (length c.args.bytes.now + c.args.missing) c.args.bytes.now _ _ c.note.ensures)
+    ∙ ap (with_change (wrote c.args.name c.args.place (length c.args.bytes.now + c.args.missing) c.args.bytes.now)) c.self.view_is

@@ -3,7 +3,7 @@ use Rattle.std.specs.Option.{option_map}
 use Rattle.host_system.specs.declared.mem_files.MemEntry.{MemEntry}
 use Rattle.host_system.specs.Folder.{NameEntry, bytes_now}
 use Rattle.host_system.specs.FolderPast.{length_told}
-use Rattle.host_system.specs.MemSystem.{as_stopped, past_noted}
+use Rattle.host_system.specs.MemSystem.{as_stopped, past_noted, MemState}
 use Rattle.host_system.specs.Steps.MemFiles.{entry_seen}
 use Rattle.host_system.proofs.MemLemmas.{entry_held}
 use Rattle.host_system.proofs.mem_system.MemSystemSystem.find.Goals as goal
@@ -13,4 +13,4 @@ returns-clause-found c =
     c.length.ensures
     ∙ (ap (λ (e : MemEntry). option_map length (bytes_now (entry_seen e))) c.get.ensures
     ∙ (ap (λ (e : NameEntry). option_map length (bytes_now e)) (entry_held c.args.name (past_noted (as_stopped c.self.inside.first) c.self.inside.notes.calls) c.self.inside.files c.self.inside.out.items c.self.invariant.held)
-    ∙ ap (length_told c.args.name) (c.self.view_is ∙ c.begin.ensures)))
+    ∙ ap (length_told c.args.name) (ap (λ (s : MemState). s.past) c.self.view_is ∙ c.begin.ensures.past)))

@@ -1,7 +1,7 @@
 use Rattle.std.proofs.Common.{[], Some, refl, ap, ◌∙◌}
 use Rattle.host_system.specs.Folder.{opens}
 use Rattle.host_system.specs.FolderPast.{changed_by}
-use Rattle.host_system.specs.MemSystem.{as_stopped, past_noted}
+use Rattle.host_system.specs.MemSystem.{as_stopped, past_noted, MemState}
 use Rattle.host_system.proofs.MemLemmas.{noted, held_after}
 use Rattle.host_system.proofs.mem_system.MemSystemSystem.open.Goals as goal
 
@@ -11,4 +11,4 @@ invariant_of-self c =
     (noted (as_stopped c.self.inside.first) 3 c.args.name 0 0 [] _ _ c.note.ensures) (λ uses. refl) c.self.invariant
 
 pub returns-clause-told : goal.returns-clause-told
-returns-clause-told c = ap Some (noted (as_stopped c.self.inside.first) 3 c.args.name 0 0 [] _ _ c.note.ensures ∙ ap (changed_by (opens c.args.name)) (c.self.view_is ∙ c.begin.ensures))
+returns-clause-told c = ap Some (noted (as_stopped c.self.inside.first) 3 c.args.name 0 0 [] _ _ c.note.ensures ∙ ap (changed_by (opens c.args.name)) (ap (λ (s : MemState). s.past) c.self.view_is ∙ c.begin.ensures.past))

@@ -2,7 +2,7 @@ use Rattle.std.proofs.Common.{[], Some, ap, ◌∙◌}
 use Rattle.host_system.specs.declared.system.FileName.TheVariants.{New}
 use Rattle.host_system.specs.Folder.{synced_names}
 use Rattle.host_system.specs.FolderPast.{changed_by}
-use Rattle.host_system.specs.MemSystem.{as_stopped, past_noted}
+use Rattle.host_system.specs.MemSystem.{as_stopped, past_noted, MemState}
 use Rattle.host_system.proofs.MemLemmas.{noted, held_after}
 use Rattle.host_system.proofs.mem_system.MemSystemSystem.sync_names.Goals as goal
 
@@ -12,4 +12,4 @@ invariant_of-self c =
     (noted (as_stopped c.self.inside.first) 8 New 0 0 [] _ _ c.note.ensures) (c.settle.ensures c.self.inside.out.items) c.self.invariant
 
 pub returns-clause-told : goal.returns-clause-told
-returns-clause-told c = ap Some (noted (as_stopped c.self.inside.first) 8 New 0 0 [] _ _ c.note.ensures ∙ ap (changed_by synced_names) (c.self.view_is ∙ c.begin.ensures))
+returns-clause-told c = ap Some (noted (as_stopped c.self.inside.first) 8 New 0 0 [] _ _ c.note.ensures ∙ ap (changed_by synced_names) (ap (λ (s : MemState). s.past) c.self.view_is ∙ c.begin.ensures.past))

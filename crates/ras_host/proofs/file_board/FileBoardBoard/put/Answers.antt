@@ -1,9 +1,11 @@
+use Rattle.board_core.specs.Cause.{put_failure}
 use Rattle.std.proofs.Common.{refl}
 use Rattle.erst_store.specs.DeviceLaws.{IsDevice}
 use Rattle.ras_host.specs.Steps.Listed.{accesses_noted, disk_calls_noted}
 use Rattle.std.proofs.lemmas.Result.{on_err_weaker, on_ok_weaker}
 use Rattle.board_core.specs.Told.{AnswersPut, after_put}
 use Rattle.erst_store.specs.Store.{refusal_of}
+use Rattle.ras_host.proofs.BlameLemmas.{caused_device, put_here}
 use Rattle.ras_host.proofs.ToldLemmas.{device_kept, held_turned, keeps_refused, may_turn_told, of_device, put_went, puts_saved, settled_turned, stops_refused, store_stops, store_stored, turned_told}
 use Rattle.ras_host.proofs.file_board.FileBoardBoard.put.Goals as goal
 
@@ -60,5 +62,9 @@ pub invariant_of-self : goal.invariant_of-self
 invariant_of-self g c =
     let b = c.self.inside in
     let r = c.put-answer in
-    let turned = r.ensures.turned in
-    (held_turned b.files (after_put c.args.id c.args.bytes.now) b.kept r.new.self r.result _ _ turned c.self.invariant.0, turned.in_step, settled_turned b.files b.kept r.new.self _ _ turned.saved c.self.invariant.2)
+    let turned = r.ensures.turned in (
+      held_turned b.files (after_put c.args.id c.args.bytes.now) b.kept r.new.self r.result _ _ turned c.self.invariant.0,
+      turned.in_step,
+      settled_turned b.files b.kept r.new.self _ _ turned.saved c.self.invariant.2,
+      caused_device g.U.Use.HOW b.files b.kept r.new.self _ _ _ _ (put_failure r.result) c.self.invariant.3 r.ensures.once (put_here c.args.id c.args.bytes.now r.result b.kept r.new.self (put_failure r.result) r.ensures.puts) c.count_put.ensures,
+    )

@@ -3,6 +3,7 @@ use Rattle.erst_store.specs.DeviceLaws.{IsDevice}
 use Rattle.ras_host.specs.Steps.Listed.{accesses_noted, disk_calls_noted}
 use Rattle.board_core.specs.Told.{after_reg_write}
 use Rattle.board_core.specs.declared.board.Access.TheVariants.{Write}
+use Rattle.ras_host.proofs.BlameLemmas.{caused_device, done_here}
 use Rattle.ras_host.proofs.ToldLemmas.{device_kept, does_saved, held_turned, may_turn_listed, of_device, on_err, on_ok, settled_turned, store_stops, store_stored, turned_listed}
 use Rattle.ras_host.proofs.file_board.FileBoardBoard.reg_write.Goals as goal
 
@@ -48,5 +49,9 @@ pub invariant_of-self : goal.invariant_of-self
 invariant_of-self g c =
     let b = c.self.inside in
     let r = c.reg_write-answer in
-    let turned = r.ensures.turned in
-    (held_turned b.files (after_reg_write c.args.reg c.args.value) b.kept r.new.self r.result _ _ turned c.self.invariant.0, turned.in_step, settled_turned b.files b.kept r.new.self _ _ turned.saved c.self.invariant.2)
+    let turned = r.ensures.turned in (
+      held_turned b.files (after_reg_write c.args.reg c.args.value) b.kept r.new.self r.result _ _ turned c.self.invariant.0,
+      turned.in_step,
+      settled_turned b.files b.kept r.new.self _ _ turned.saved c.self.invariant.2,
+      caused_device g.U.Use.HOW b.files b.kept r.new.self _ _ _ _ r.result c.self.invariant.3 r.ensures.once (done_here (after_reg_write c.args.reg c.args.value) b.kept r.new.self r.result r.ensures.does) c.counted.ensures.counts,
+    )

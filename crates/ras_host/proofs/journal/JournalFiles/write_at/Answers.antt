@@ -29,5 +29,5 @@ returns-in_default-clause-failed g c =
     moves_untorn c.args.file c.args.place (length c.args.bytes.now) _ _ _ _
     (moves_as _ _ _ _ _ c.in-Open.is c.in_ok-open.ensures.moves)
 
-pub returns-in_default-2 : goal.returns-in_default-2
-returns-in_default-2 g c = search (rules, moves_untorn)
+pub returns-in_default-2-clause-failed : goal.returns-in_default-2-clause-failed
+returns-in_default-2-clause-failed g c = search (rules, moves_untorn)

@@ -1,0 +1,117 @@
+-- How often calls of the system failed, by how a command over a board ended.
+use Rattle.std.proofs.Common.{◌≡◌, ℕ, ◌+◌, ◌-◌, ◌^◌, ◌<◌, ◌≤◌, min, List, refl, sym, ◌∙◌, ap, subst, inl, inr, None, Some, arith, lit<}
+use Rattle.std.proofs.lemmas.Bool.{false≢true}
+use Rattle.std.specs.Prelude.{◌⊎◌, Bool, false, true, Option}
+use Rattle.board_core.specs.Cause.{Faults, Rose, device_call, disk_call, print_call}
+use Rattle.ras_cli.specs.OverCauses.{OverCaused, SystemCauseBy}
+use Rattle.ras_daemon.specs.Ahead.{TakesBy}
+use Rattle.ras_daemon.specs.Promises.{Caused}
+use Rattle.ras_daemon.specs.Task.{ReadsBy}
+use Rattle.ras_daemon.specs.declared.word.Task.{Task}
+use Rattle.ras_daemon.specs.declared.word.Task.TheVariants.{Run, Report, Load, Pcie, Klog, TraceLines, KlogLines, GhesLines, Help, Version}
+use Rattle.ras_exit.specs.Causes.{BoardCauseBy, SourceCause}
+use Rattle.ras_exit.specs.Endings.{CallEnding, answered, ending_of, faulted, source_failed, starved}
+use Rattle.ras_exit.specs.declared.exit.Exit.{Exit}
+use Rattle.ras_host.specs.Blame.{AreCaused}
+use Rattle.ras_host.specs.SourceState.{SourceState}
+use Rattle.ras_host.specs.declared.journal.JournalFiles.{JournalFiles}
+use Rattle.ras_host.specs.declared.kept.Kept.{Kept}
+
+abbrev quiet : Faults
+quiet = record { disk = 0; registers = 0; prints = 0 }
+
+pub not_both : (b : Bool) → b ≡ false → b ≡ true → ⊥
+not_both b off on = false≢true (sym off ∙ on)
+
+-- ---- numbers
+
+one_by : (most n : ℕ) → 0 < most → n ≡ min (0 + 1) most → n ≡ 1
+one_by most n some is = omega arith
+
+one : (n : ℕ) → Rose 0 n → n ≡ 1
+one n rose = one_by (2 ^ 64 - 1) n (lit< tt) rose
+
+never : (count d r p : ℕ) → count ≤ d + (r + p) → d ≡ 0 → r ≡ 0 → p ≡ 0 → count ≡ 0
+never count d r p each no_d no_r no_p = omega arith
+
+once_most : (count d r p : ℕ) → count ≤ d + (r + p) → d + (r + p) ≡ 1 → count ≤ 1
+once_most count d r p each is = omega arith
+
+once_disk : (count d r p : ℕ) → count ≤ d + (r + p) → d ≡ 1 → r ≡ 0 → p ≡ 0 → (d ≡ 0) ⊎ (0 < count + r) → count ≡ 1
+once_disk count d r p each one_d no_r no_p (inl no_d) = omega arith
+once_disk count d r p each one_d no_r no_p (inr some) = omega arith
+
+once_print : (count d r p : ℕ) → count ≤ d + (r + p) → d ≡ 0 → r ≡ 0 → p ≡ 1 → (p ≡ 0) ⊎ (0 < count) → count ≡ 1
+once_print count d r p each no_d no_r one_p (inl no_p) = omega arith
+once_print count d r p each no_d no_r one_p (inr some) = omega arith
+
+-- ---- causes
+
+module _ (how count : ℕ) (files : JournalFiles) (kept : Kept) (faults : Faults) (caused : AreCaused how files kept faults count) where
+  -- of which two counts stayed 0
+  by_disk : (task : Option Task) → (task ≡ Some Run → how ≡ 1) → faults.disk ≡ 1 → faults.registers ≡ 0 → faults.prints ≡ 0 → SystemCauseBy (faulted disk_call) task count
+  by_disk (Some Run) alone d r p = once_disk count faults.disk faults.registers faults.prints caused.each d r p (caused.disk (alone refl))
+  by_disk None alone d r p = once_most count faults.disk faults.registers faults.prints caused.each (omega (arith, d, r, p))
+  by_disk (Some (Report listing)) alone d r p = once_most count faults.disk faults.registers faults.prints caused.each (omega (arith, d, r, p))
+  by_disk (Some (Load n)) alone d r p = once_most count faults.disk faults.registers faults.prints caused.each (omega (arith, d, r, p))
+  by_disk (Some Pcie) alone d r p = once_most count faults.disk faults.registers faults.prints caused.each (omega (arith, d, r, p))
+  by_disk (Some (Klog boot cap)) alone d r p = once_most count faults.disk faults.registers faults.prints caused.each (omega (arith, d, r, p))
+  by_disk (Some (TraceLines boot)) alone d r p = once_most count faults.disk faults.registers faults.prints caused.each (omega (arith, d, r, p))
+  by_disk (Some (KlogLines boot cap)) alone d r p = once_most count faults.disk faults.registers faults.prints caused.each (omega (arith, d, r, p))
+  by_disk (Some (GhesLines boot began)) alone d r p = once_most count faults.disk faults.registers faults.prints caused.each (omega (arith, d, r, p))
+  by_disk (Some Help) alone d r p = once_most count faults.disk faults.registers faults.prints caused.each (omega (arith, d, r, p))
+  by_disk (Some Version) alone d r p = once_most count faults.disk faults.registers faults.prints caused.each (omega (arith, d, r, p))
+
+  at_rest : faults ≡ quiet → count ≡ 0
+  at_rest is = never count faults.disk faults.registers faults.prints caused.each (ap (λ (f : Faults). f.disk) is) (ap (λ (f : Faults). f.registers) is) (ap (λ (f : Faults). f.prints) is)
+
+  pub system_cause : (task : Option Task) (ending : CallEnding) → (task ≡ Some Run → how ≡ 1) → BoardCauseBy ending quiet faults → SystemCauseBy ending task count
+  system_cause task answered alone is = at_rest is
+  system_cause task starved alone is = at_rest is
+  system_cause task source_failed alone is = at_rest is
+  system_cause task (faulted disk_call) alone is =
+      by_disk task alone (one faults.disk is.own) (ap (λ (f : Faults). f.registers) is.others) (ap (λ (f : Faults). f.prints) is.others)
+  system_cause task (faulted device_call) alone is =
+      let d : faults.disk ≡ 0 = ap (λ (f : Faults). f.disk) is.others in
+      let r : faults.registers ≡ 1 = one faults.registers is.own in
+      let p : faults.prints ≡ 0 = ap (λ (f : Faults). f.prints) is.others in
+      once_most count faults.disk faults.registers faults.prints caused.each (omega (arith, d, r, p))
+  system_cause task (faulted print_call) alone is =
+      once_print count faults.disk faults.registers faults.prints caused.each (ap (λ (f : Faults). f.disk) is.others) (ap (λ (f : Faults). f.registers) is.others) (one faults.prints is.own) caused.print
+
+pub over_caused : (task : Option Task) (exit : Exit) (how count before now : ℕ) (files : JournalFiles) (kept : Kept) (old new : Faults)
+    → Caused exit before now old new → old ≡ quiet → (task ≡ Some Run → how ≡ 1) → AreCaused how files kept new count
+    → (first last total : ℕ) → before ≡ first → last ≡ now → total ≡ count → OverCaused task exit first last total
+over_caused task exit how count before now files kept old new caused is_quiet alone are first last total is_first is_last is_total = record {
+  input =
+      subst (λ (n : ℕ). SourceCause exit n last) is_first
+      (subst (λ (n : ℕ). SourceCause exit before n) (sym is_last) caused.source);
+  system =
+      subst (λ (n : ℕ). SystemCauseBy (ending_of exit) task n) (sym is_total)
+      (system_cause how count files kept new are task (ending_of exit) alone
+      (subst (λ (faults : Faults). BoardCauseBy (ending_of exit) faults new) is_quiet caused.board));
+}
+
+-- ---- what is read
+
+reads_as : (task : Option Task) (Takes Same Takes' Same' : Type 0) → (Takes → Takes') → (Same → Same') → ReadsBy task Takes Same → ReadsBy task Takes' Same'
+reads_as (Some Run) Takes Same Takes' Same' takes same is = takes is
+reads_as (Some Pcie) Takes Same Takes' Same' takes same is = takes is
+reads_as (Some (Klog boot cap)) Takes Same Takes' Same' takes same is = takes is
+reads_as (Some (TraceLines boot)) Takes Same Takes' Same' takes same is = takes is
+reads_as (Some (KlogLines boot cap)) Takes Same Takes' Same' takes same is = takes is
+reads_as (Some (GhesLines boot began)) Takes Same Takes' Same' takes same is = takes is
+reads_as None Takes Same Takes' Same' takes same is = same is
+reads_as (Some (Report listing)) Takes Same Takes' Same' takes same is = same is
+reads_as (Some (Load n)) Takes Same Takes' Same' takes same is = same is
+reads_as (Some Help) Takes Same Takes' Same' takes same is = same is
+reads_as (Some Version) Takes Same Takes' Same' takes same is = same is
+
+pub over_reads : (task : Option Task) (exit : Exit) (old new : SourceState) (first last : Option (List ℕ))
+    → old.left ≡ first → last ≡ new.left → ReadsBy task (TakesBy exit old.left new.left) (new ≡ old) → ReadsBy task (TakesBy exit first last) (last ≡ first)
+over_reads task exit old new first last is_first is_last reads =
+    reads_as task (TakesBy exit old.left new.left) (new ≡ old) (TakesBy exit first last) (last ≡ first)
+    (λ takes.
+    subst (λ (script : Option (List ℕ)). TakesBy exit script last) is_first
+    (subst (λ (rest : Option (List ℕ)). TakesBy exit old.left rest) (sym is_last) takes))
+    (λ same. is_last ∙ (ap (λ (s : SourceState). s.left) same ∙ is_first)) reads

@@ -1,0 +1,54 @@
+-- Why a call of a board over a system failed: a call of the system failed, this time or before, or the board
+-- had a reason of its own.
+use Rattle.std.specs.Prelude.{◌≡◌, ℕ, ◌+◌, ◌<◌, ◌≤◌, ◌⊎◌, IsTrue, Result, OnErr}
+use Rattle.board_core.specs.Cause.{Faults}
+use Rattle.ras_host.specs.Steps.Once.{CountsOnce}
+use Rattle.ras_host.specs.declared.journal.JournalFiles.{JournalFiles}
+use Rattle.ras_host.specs.declared.journal.JournalFiles.TheVariants.{Shut, Open, Unread, Seen}
+use Rattle.ras_host.specs.declared.kept.Kept.{Kept}
+use Rattle.ras_host.specs.declared.kept.Kept.TheVariants.{Lost}
+
+-- a report's files
+abbrev pub AreReports : JournalFiles → Type 0
+AreReports Shut = ⊥
+AreReports (Open sound) = ⊥
+AreReports Unread = Unit {0}
+AreReports (Seen files sound) = Unit {0}
+
+-- Both files were opened or read.
+abbrev pub AreUsed : JournalFiles → Type 0
+AreUsed Shut = ⊥
+AreUsed (Open sound) = Unit {0}
+AreUsed Unread = ⊥
+AreUsed (Seen files sound) = Unit {0}
+
+-- If a file of a run isn't sound, a call of the system failed.
+abbrev pub AreBlamed : JournalFiles → ℕ → Type 0
+AreBlamed (Open sound) count = (IsTrue sound.zero × IsTrue sound.one) ⊎ (0 < count)
+AreBlamed files count = Unit {0}
+
+-- A run's call of its files fails only if a call of the system failed, this time or before. Files stay a
+-- run's, or a report's.
+pub record FilesCause {T E : Type 0} (old new : JournalFiles) (before now : ℕ) (result : Result T E) : Type 0 where
+  pub once : CountsOnce before now result
+  pub cause : OnErr result (AreReports new ⊎ (0 < now))
+  pub stays : AreReports old → AreReports new
+  pub comes : AreReports new → AreReports old
+
+-- A change of the device may not have reached the store's file.
+abbrev pub IsLost : Kept → Type 0
+IsLost (Lost before after) = Unit {0}
+IsLost kept = ⊥
+
+-- How often calls of a board have failed, by how often calls of its system have failed. None had failed when
+-- the board was new.
+pub record AreCaused (how : ℕ) (files : JournalFiles) (kept : Kept) (faults : Faults) (count : ℕ) : Type 0 where
+  -- Each failed call of the system made another call of the board fail.
+  pub each : count ≤ faults.disk + (faults.registers + faults.prints)
+  pub blamed : AreBlamed files count
+  pub run : how ≡ 1 → AreReports files → ⊥
+  -- A run's disk call fails only if a call of the system failed, or a call of the device before.
+  pub disk : how ≡ 1 → (faults.disk ≡ 0) ⊎ (0 < count + faults.registers)
+  -- A print fails only if the system's print failed.
+  pub print : (faults.prints ≡ 0) ⊎ (0 < count)
+  pub lost : IsLost kept → 0 < faults.registers
