@@ -17,3 +17,11 @@ mod KernelMarkLemmas
 mod LogLineLemmas
 mod LinesLawLemmas
 mod EventLemmas
+mod EdacMarkLemmas
+mod TwiceLemmas
+mod LogMarkLemmas
+mod LogTextLemmas
+mod EdacTextLemmas
+mod PlainTextLemmas
+mod PrintedLogLemmas
+mod TraceHeadLemmas

@@ -1,18 +1,31 @@
 -- The numbers of the lines of `klog` are those of their types.
-use Rattle.std.proofs.Common.{◌≡◌, ℕ, ◌-◌, ◌^◌, ◌<◌, ◌≤◌, ◌==◌, ◌&&◌, Bool, true, false, List, refl, arith, Option, None, Some, if◌then◌else◌, nat_eq, nat_le, unwrap_or, codes, drop, length, take}
+use Rattle.std.proofs.Common.{◌≡◌, ℕ, ◌-◌, ◌^◌, ◌<◌, ◌≤◌, ◌==◌, ◌&&◌, Bool, true, false, List, [], ◌∷◌, refl, arith, Option, None, Some, if◌then◌else◌, is_some, nat_eq, nat_le, nat_lt, unwrap_or, codes, drop, length, take}
 use Rattle.std.specs.Prelude.{⊤}
 use Rattle.std.proofs.lemmas.Bool.Decides.{nat_tests}
-use Rattle.std.specs.List.{ends_with, list_all}
+use Rattle.std.specs.List.{AllByRecursion, ends_with, list_all}
+use Rattle.std.specs.Option.{option_map, option_map_or}
 use Rattle.std.specs.Str.{bytes_eq}
 use Rattle.std.specs.Str.Parse.{digits_value}
 use Rattle.ras_klog.specs.Reading.{after_marker, bank_of, check_of, colon_number, is_empty, is_vendor_and_model, klog_line_of, named, parts_of, processor_line_of, provided, read_then, start_line_of, told_by_words, tsc_of, word}
 use Rattle.ras_klog.specs.declared.line.KlogLine.{KlogLine}
 use Rattle.ras_klog.specs.declared.line.KlogLine.TheVariants.{Start, Tsc, Processor, Other}
 use Rattle.ras_script.specs.Number.{decimal_of, hexadecimal_of, is_numeral, numeral_value}
-use Rattle.bank_lines.specs.LogHeads.{after, is_own, mark_place, record_time, up_to, without_spaces}
-use Rattle.bank_lines.specs.LogLines.{bracket_stamp, is_cut, is_of_report, log_line_after, log_line_by, log_line_of, log_mark, micros_of, log_stamp_of, line_told_by, left_unread, vendor_of, with_vendor}
+use Rattle.bank_lines.specs.EdacLines.{driver_text, edac_bank, edac_line_of, edac_mark, edac_processor, edac_register, edac_start, edac_vendor, is_check, is_of_edac, edac_number}
+use Rattle.bank_lines.specs.EdacReports.{edac_after, marked_told, told_lines}
+use Rattle.bank_lines.specs.LogHeads.{after, is_own, record_time, up_to, without_spaces}
+use Rattle.bank_lines.specs.LogLines.{bracket_stamp, driver_told, edac_line_after, edac_told_by, is_cut, is_of_report, log_line_after, log_line_by, log_line_of, log_mark, mark_of, micros_of, log_stamp_of, line_told_by, left_unread, printed_plain, vendor_of, with_vendor}
+use Rattle.bank_lines.specs.Parts.{cut_at, value_after}
+use Rattle.bank_lines.specs.declared.edac_line.EdacLine.{EdacLine}
+use Rattle.bank_lines.specs.declared.edac_line.EdacLine.TheVariants as Edac
+use Rattle.bank_lines.specs.declared.edac_report.EdacReport.{EdacReport}
+use Rattle.bank_lines.specs.declared.edac_report.EdacReport.TheVariants.{Idle, Begun, Counted, Placed, Told}
 use Rattle.bank_lines.specs.declared.log_line.LogLine.{LogLine}
 use Rattle.bank_lines.specs.declared.log_line.LogLine.TheVariants.{Nothing, Unread, Part}
+use Rattle.bank_lines.specs.declared.log_line.MarkedLine.{MarkedLine}
+use Rattle.bank_lines.specs.declared.log_line.MarkedLine.TheVariants as Marked
+use Rattle.bank_lines.specs.declared.log_line.Print.{Print}
+use Rattle.bank_lines.specs.declared.mark.LogMark.{LogMark}
+use Rattle.bank_lines.specs.declared.mark.LogMark.TheVariants.{AtPlain, AtEdac}
 
 -- something that holds of what an option has
 abbrev pub Each : {A : Type 0} → (A → Type 0) → Option A → Type 0
@@ -28,7 +41,7 @@ IsLineInRange Other = ⊤
 
 -- the numbers of a line of a log
 abbrev pub IsLogLineInRange : LogLine → Type 0
-IsLogLineInRange (Part line stamp vendor) = IsLineInRange line × Each (λ s. s < 2 ^ 64) stamp × (vendor < 2 ^ 64)
+IsLogLineInRange (Part line print vendor) = IsLineInRange line × Each (λ s. s < 2 ^ 64) print.stamp × (vendor < 2 ^ 64)
 IsLogLineInRange line = ⊤
 
 -- ---- numbers
@@ -42,12 +55,12 @@ numeral_within radix longest most w = by (is_numeral radix longest w) (nat_le (d
     by true false h = tt
     by false fits h = tt
 
-each_then : {A B : Type 0} (P : A → Type 0) (Q : B → Type 0) (o : Option A) (next : A → Option B)
+pub each_then : {A B : Type 0} (P : A → Type 0) (Q : B → Type 0) (o : Option A) (next : A → Option B)
     → Each P o → ((x : A) → P x → Each Q (next x)) → Each Q (read_then o next)
 each_then P Q None next h step = tt
 each_then P Q (Some x) next h step = step x h
 
-each_provided : {A : Type 0} (Q : A → Type 0) (holds : Bool) (o : Option A) → Each Q o → Each Q (provided holds o)
+pub each_provided : {A : Type 0} (Q : A → Type 0) (holds : Bool) (o : Option A) → Each Q o → Each Q (provided holds o)
 each_provided Q true o h = h
 each_provided Q false o h = tt
 
@@ -166,10 +179,10 @@ vendor_in : (text : List ℕ) → Each (λ n. n ≤ 2 ^ 64 - 1) (vendor_of text)
 vendor_in text =
     each_if (λ n. n ≤ 2 ^ 64 - 1) (is_cut text) None (decimal_of (2 ^ 64 - 1) (up_to 58 (after 32 text))) tt (decimal_in (2 ^ 64 - 1) (up_to 58 (after 32 text)))
 
-timed_in : (stamp : Option ℕ) (seconds : ℕ) (vendor : Option ℕ) → Each (λ s. s < 2 ^ 64) stamp → seconds < 2 ^ 64 → Each (λ n. n ≤ 2 ^ 64 - 1) vendor
-    → IsLogLineInRange (with_vendor stamp seconds vendor)
-timed_in stamp seconds None s t v = tt
-timed_in stamp seconds (Some vendor) s t v = (t, s, omega (arith, v))
+timed_in : (print : Print) (seconds : ℕ) (vendor : Option ℕ) → Each (λ s. s < 2 ^ 64) print.stamp → seconds < 2 ^ 64 → Each (λ n. n ≤ 2 ^ 64 - 1) vendor
+    → IsLogLineInRange (with_vendor print seconds vendor)
+timed_in print seconds None s t v = tt
+timed_in print seconds (Some vendor) s t v = (t, s, omega (arith, v))
 
 untold_in : (text : List ℕ) → IsLogLineInRange (left_unread text)
 untold_in text = by (is_of_report text)
@@ -178,11 +191,11 @@ untold_in text = by (is_of_report text)
     by true = tt
     by false = tt
 
-told_in : (stamp : Option ℕ) (text : List ℕ) (line : KlogLine) → Each (λ s. s < 2 ^ 64) stamp → IsLineInRange line → IsLogLineInRange (line_told_by stamp text line)
-told_in stamp text Other s h = untold_in text
-told_in stamp text (Processor seconds) s h = timed_in stamp seconds (vendor_of text) s h (vendor_in text)
-told_in stamp text (Start cpu mcg bank status) s h = (h, s, omega arith)
-told_in stamp text (Tsc tsc addr misc) s h = (h, s, omega arith)
+told_in : (print : Print) (text : List ℕ) (line : KlogLine) → Each (λ s. s < 2 ^ 64) print.stamp → IsLineInRange line → IsLogLineInRange (line_told_by print text line)
+told_in print text Other s h = untold_in text
+told_in print text (Processor seconds) s h = timed_in print seconds (vendor_of text) s h (vendor_in text)
+told_in print text (Start cpu mcg bank status) s h = (h, s, omega arith)
+told_in print text (Tsc tsc addr misc) s h = (h, s, omega arith)
 
 own_or_other : (is : Bool) (line other : LogLine) → IsLogLineInRange line → IsLogLineInRange other → IsLogLineInRange (if is then line else other)
 own_or_other true line other h k = h
@@ -191,11 +204,147 @@ own_or_other false line other h k = k
 after_in : (head marked : List ℕ) → IsLogLineInRange (log_line_after head marked)
 after_in head marked =
     let text : List ℕ = drop (length log_mark) marked in
-    own_or_other (is_own head) _ _ (told_in (log_stamp_of head) text (klog_line_of marked) (stamp_in head) (klog_in marked)) (untold_in text)
+    own_or_other (is_own head) _ _ (told_in (printed_plain (log_stamp_of head)) text (klog_line_of marked) (stamp_in head) (klog_in marked)) (untold_in text)
 
-by_in : (line : List ℕ) (place : Option ℕ) → IsLogLineInRange (log_line_by line place)
+-- ---- EDAC's lines
+
+abbrev IsEdacLineInRange : EdacLine → Type 0
+IsEdacLineInRange (Edac.Start cpu mcg bank status) = (cpu < 2 ^ 16) × (mcg < 2 ^ 64) × (bank < 2 ^ 8) × (status < 2 ^ 64)
+IsEdacLineInRange (Edac.Tsc n) = n < 2 ^ 64
+IsEdacLineInRange (Edac.Addr n) = n < 2 ^ 64
+IsEdacLineInRange (Edac.Misc n) = n < 2 ^ 64
+IsEdacLineInRange (Edac.Processor vendor seconds) = (vendor < 2 ^ 64) × (seconds < 2 ^ 64)
+
+register_in : (w : List ℕ) → Each (λ n. n < 2 ^ 64) (edac_number w)
+unfolding edac_number
+register_in w = hexadecimal_in (option_map_or (λ digits. digits) (value_after (codes "0x") w) w)
+
+edac_register_in : (words : List (List ℕ)) → Each (λ n. n < 2 ^ 64) (edac_register words)
+unfolding edac_register
+edac_register_in words =
+    each_then (λ n. n < 2 ^ 64) (λ n. n < 2 ^ 64) (edac_number (word words 0)) (λ register. provided (list_all is_empty (drop 1 words)) (Some register)) (register_in (word words 0)) (λ register r.
+    each_provided (λ n. n < 2 ^ 64) (list_all is_empty (drop 1 words)) (Some register) r)
+
+edac_bank_in : (cpu : ℕ) (words : List (List ℕ)) → cpu < 2 ^ 16 → Each IsEdacLineInRange (edac_bank cpu words)
+unfolding edac_bank
+edac_bank_in cpu words small =
+    let stated : ℕ → ℕ → Option EdacLine = λ mcg bank. read_then (edac_register (drop 3 words)) (λ status. Some (Edac.Start cpu mcg bank status)) in
+    let banked : ℕ → Option EdacLine = λ mcg. read_then (colon_number 255 (word words 2)) (λ bank. stated mcg bank) in
+    each_then (λ n. n < 2 ^ 64) IsEdacLineInRange (edac_number (word words 0)) (λ mcg. provided (bytes_eq (word words 1) (codes "Bank")) (banked mcg)) (register_in (word words 0)) (λ mcg m.
+    each_provided IsEdacLineInRange (bytes_eq (word words 1) (codes "Bank")) (banked mcg) (
+    each_then (λ n. n ≤ 255) IsEdacLineInRange (colon_number 255 (word words 2)) (λ bank. stated mcg bank) (colon_in 255 (word words 2)) (λ bank b.
+    each_then (λ n. n < 2 ^ 64) IsEdacLineInRange (edac_register (drop 3 words)) (λ status. Some (Edac.Start cpu mcg bank status)) (edac_register_in (drop 3 words)) (λ status s.
+    (small, m, omega (arith, b), s)))))
+
+edac_start_in : (words : List (List ℕ)) → Each IsEdacLineInRange (edac_start words)
+unfolding edac_start
+edac_start_in words =
+    let checked : ℕ → Option EdacLine = λ cpu. provided (is_check (word words 3)) (edac_bank cpu (drop 4 words)) in
+    let named : ℕ → Option EdacLine = λ cpu. provided (bytes_eq (word words 2) (codes "Check")) (checked cpu) in
+    each_then (λ n. n ≤ 65535) IsEdacLineInRange (colon_number 65535 (word words 0)) (λ cpu. provided (bytes_eq (word words 1) (codes "Machine")) (named cpu)) (colon_in 65535 (word words 0)) (λ cpu c.
+    each_provided IsEdacLineInRange (bytes_eq (word words 1) (codes "Machine")) (named cpu) (
+    each_provided IsEdacLineInRange (bytes_eq (word words 2) (codes "Check")) (checked cpu) (
+    each_provided IsEdacLineInRange (is_check (word words 3)) (edac_bank cpu (drop 4 words)) (edac_bank_in cpu (drop 4 words) (omega (arith, c))))))
+
+edac_vendor_in : (w : List ℕ) → Each (λ n. n ≤ 2 ^ 64 - 1) (edac_vendor w)
+edac_vendor_in w = each_provided (λ n. n ≤ 2 ^ 64 - 1) (is_some (edac_number (after 58 w))) (decimal_of (2 ^ 64 - 1) (up_to 58 w)) (decimal_in (2 ^ 64 - 1) (up_to 58 w))
+
+edac_processor_in : (words : List (List ℕ)) → Each IsEdacLineInRange (edac_processor words)
+unfolding edac_processor
+edac_processor_in words =
+    let ended : ℕ → ℕ → Option EdacLine = λ vendor seconds. provided (nat_lt 3 (length words)) (Some (Edac.Processor vendor seconds)) in
+    let timed : ℕ → Option EdacLine = λ vendor. read_then (decimal_of (2 ^ 64 - 1) (word words 2)) (λ seconds. ended vendor seconds) in
+    each_then (λ n. n ≤ 2 ^ 64 - 1) IsEdacLineInRange (edac_vendor (word words 0)) (λ vendor. provided (bytes_eq (word words 1) (codes "TIME")) (timed vendor)) (edac_vendor_in (word words 0)) (λ vendor v.
+    each_provided IsEdacLineInRange (bytes_eq (word words 1) (codes "TIME")) (timed vendor) (
+    each_then (λ n. n ≤ 2 ^ 64 - 1) IsEdacLineInRange (decimal_of (2 ^ 64 - 1) (word words 2)) (λ seconds. ended vendor seconds) (decimal_in (2 ^ 64 - 1) (word words 2)) (λ seconds s.
+    each_provided IsEdacLineInRange (nat_lt 3 (length words)) (Some (Edac.Processor vendor seconds)) (omega (arith, v), omega (arith, s)))))
+
+each_map : {A B : Type 0} (P : A → Type 0) (Q : B → Type 0) (f : A → B) (o : Option A) → Each P o → ((x : A) → P x → Q (f x)) → Each Q (option_map f o)
+each_map P Q f None h step = tt
+each_map P Q f (Some x) h step = step x h
+
+edac_line_in : (text : List ℕ) → Each IsEdacLineInRange (edac_line_of text)
+edac_line_in text =
+    let words : List (List ℕ) = cut_at 32 text in
+    let rest : List (List ℕ) = drop 1 words in
+    let kind : List ℕ = word words 0 in
+    let registers : Option ℕ = edac_register rest in
+    let misc : Option EdacLine = option_map (λ n. Edac.Misc n) registers in
+    let addr : Option EdacLine = option_map (λ n. Edac.Addr n) registers in
+    let tsc : Option EdacLine = option_map (λ n. Edac.Tsc n) registers in
+    let placed : Option EdacLine = if bytes_eq kind (codes "ADDR") then addr else misc in
+    let counted : Option EdacLine = if bytes_eq kind (codes "TSC") then tsc else placed in
+    let timed : Option EdacLine = if bytes_eq kind (codes "PROCESSOR") then edac_processor rest else counted in
+    let small : Each (λ n. n < 2 ^ 64) registers = edac_register_in rest in
+    each_if IsEdacLineInRange (bytes_eq kind (codes "CPU")) (edac_start rest) timed (edac_start_in rest) (
+    each_if IsEdacLineInRange (bytes_eq kind (codes "PROCESSOR")) (edac_processor rest) counted (edac_processor_in rest) (
+    each_if IsEdacLineInRange (bytes_eq kind (codes "TSC")) tsc placed (each_map (λ n. n < 2 ^ 64) IsEdacLineInRange (λ n. Edac.Tsc n) registers small (λ n h. h)) (
+    each_if IsEdacLineInRange (bytes_eq kind (codes "ADDR")) addr misc (each_map (λ n. n < 2 ^ 64) IsEdacLineInRange (λ n. Edac.Addr n) registers small (λ n h. h)) (
+    each_map (λ n. n < 2 ^ 64) IsEdacLineInRange (λ n. Edac.Misc n) registers small (λ n h. h)))))
+
+-- ---- lines by their marks
+
+abbrev IsMarkedInRange : MarkedLine → Type 0
+IsMarkedInRange (Marked.Plain line) = IsLogLineInRange line
+IsMarkedInRange (Marked.Edac line stamp) = IsEdacLineInRange line × Each (λ s. s < 2 ^ 64) stamp
+
+told_by_in : (stamp : Option ℕ) (line : Option EdacLine) → Each (λ s. s < 2 ^ 64) stamp → Each IsEdacLineInRange line → IsMarkedInRange (edac_told_by stamp line)
+told_by_in stamp None s l = tt
+told_by_in stamp (Some line) s l = (l, s)
+
+driver_in : (head text : List ℕ) → IsMarkedInRange (driver_told head text)
+driver_in head text = by (is_of_edac text)
+  where
+    by : (is : Bool) → IsMarkedInRange (if is then edac_told_by (log_stamp_of head) (provided (is_own head) (edac_line_of text)) else Marked.Plain Nothing)
+    by true = told_by_in (log_stamp_of head) _ (stamp_in head) (each_provided IsEdacLineInRange (is_own head) (edac_line_of text) (edac_line_in text))
+    by false = tt
+
+edac_after_in : (head marked : List ℕ) → IsMarkedInRange (edac_line_after head marked)
+edac_after_in head marked = by (driver_text (drop (length edac_mark) marked))
+  where
+    by : (text : Option (List ℕ)) → IsMarkedInRange (option_map_or (driver_told head) text (Marked.Plain Nothing))
+    by None = tt
+    by (Some text) = driver_in head text
+
+by_in : (line : List ℕ) (mark : Option LogMark) → IsMarkedInRange (log_line_by line mark)
 by_in line None = tt
-by_in line (Some place) = after_in (take place line) (drop place line)
+by_in line (Some (AtPlain place)) = after_in (take place line) (drop place line)
+by_in line (Some (AtEdac place)) = edac_after_in (take place line) (drop place line)
 
-pub log_line_in : (line : List ℕ) → IsLogLineInRange (log_line_of line)
-log_line_in line = by_in line (mark_place log_mark line)
+log_line_in : (line : List ℕ) → IsMarkedInRange (log_line_of line)
+log_line_in line = by_in line (mark_of line)
+
+-- ---- what lines tell
+
+abbrev pub IsReportInRange : EdacReport → Type 0
+IsReportInRange (Counted tsc) = tsc < 2 ^ 64
+IsReportInRange (Placed tsc addr) = (tsc < 2 ^ 64) × (addr < 2 ^ 64)
+IsReportInRange report = ⊤
+
+told_marked_in : (report : EdacReport) (line : MarkedLine) → IsReportInRange report → IsMarkedInRange line → IsLogLineInRange (marked_told report line)
+told_marked_in report (Marked.Edac (Edac.Start cpu mcg bank status) stamp) r l = (l.0, l.1, omega arith)
+told_marked_in Begun (Marked.Edac (Edac.Tsc n) stamp) r l = tt
+told_marked_in (Counted tsc) (Marked.Edac (Edac.Addr n) stamp) r l = tt
+told_marked_in (Placed tsc addr) (Marked.Edac (Edac.Misc n) stamp) r l = ((r.0, r.1, l.0), l.1, omega arith)
+told_marked_in Told (Marked.Edac (Edac.Processor vendor seconds) stamp) r l = (l.0.1, l.1, l.0.0)
+told_marked_in report (Marked.Edac line stamp) r l = tt
+told_marked_in report (Marked.Plain (Part (Start cpu mcg bank status) print vendor)) r l = l
+told_marked_in Idle (Marked.Plain (Part line print vendor)) r l = l
+told_marked_in report (Marked.Plain (Part line print vendor)) r l = tt
+told_marked_in report (Marked.Plain Nothing) r l = tt
+told_marked_in report (Marked.Plain Unread) r l = tt
+
+edac_next_in : (report : EdacReport) (line : MarkedLine) → IsReportInRange report → IsMarkedInRange line → IsReportInRange (edac_after report line)
+edac_next_in report (Marked.Edac (Edac.Start cpu mcg bank status) stamp) r l = tt
+edac_next_in Begun (Marked.Edac (Edac.Tsc n) stamp) r l = l.0
+edac_next_in (Counted tsc) (Marked.Edac (Edac.Addr n) stamp) r l = (r, l.0)
+edac_next_in (Placed tsc addr) (Marked.Edac (Edac.Misc n) stamp) r l = tt
+edac_next_in Told (Marked.Edac (Edac.Processor vendor seconds) stamp) r l = tt
+edac_next_in report (Marked.Edac line stamp) r l = r
+edac_next_in report (Marked.Plain (Part (Start cpu mcg bank status) print vendor)) r l = tt
+edac_next_in report (Marked.Plain line) r l = r
+
+pub told_lines_in : (report : EdacReport) (lines : List (List ℕ)) → IsReportInRange report → AllByRecursion IsLogLineInRange (told_lines report lines)
+told_lines_in report [] r = tt
+told_lines_in report (line ∷ lines) r =
+    (told_marked_in report (log_line_of line) r (log_line_in line), told_lines_in (edac_after report (log_line_of line)) lines (edac_next_in report (log_line_of line) r (log_line_in line)))

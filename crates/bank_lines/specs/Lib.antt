@@ -1,10 +1,14 @@
 pub mod Finding
 pub mod Texts
 pub mod LogHeads
+pub mod EdacLines
 pub mod LogLines
+pub mod EdacReports
 pub mod LogGroups
 pub mod LogFilter
 pub mod LogAlong
+pub mod LogKernel
+pub mod TraceHeads
 pub mod Parts
 pub mod TraceEvent
 pub mod Stamp

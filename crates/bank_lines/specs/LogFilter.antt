@@ -1,5 +1,5 @@
 -- What `lines klog` makes of a kernel log, by the groups of its lines.
-use Rattle.std.specs.Prelude.{ℕ, ◌+◌, ◌==◌, ◌&&◌, List, [], ◌∷◌, ◌++◌, length, map, not, Bool, true, false, Result, Ok, if◌then◌else◌}
+use Rattle.std.specs.Prelude.{ℕ, ◌+◌, ◌==◌, ◌&&◌, List, [], ◌∷◌, ◌++◌, length, not, Bool, true, false, Result, Ok, if◌then◌else◌}
 use Rattle.std.specs.List.{flat_map}
 use Rattle.line_filters.specs.Filter.{Filter}
 use Rattle.line_filters.specs.Filters.{texts_in}
@@ -11,6 +11,7 @@ use Rattle.ras_klog.specs.declared.state.KlogOut.TheVariants as Told
 use Rattle.ras_klog.specs.declared.state.Stage.{Stage}
 use Rattle.ras_script.specs.SplittingLaws.{script_of}
 use Rattle.ras_script.specs.declared.line.LineRefused.{LineRefused}
+use Rattle.bank_lines.specs.EdacReports.{edac_over, no_edac, marked_told, told_lines}
 use Rattle.bank_lines.specs.Finding.{is_torn, log_found_of, report_in}
 use Rattle.bank_lines.specs.LogGroups.{before_end, klog_part, log_founds}
 use Rattle.bank_lines.specs.LogLines.{log_line_of}
@@ -24,7 +25,7 @@ use Rattle.bank_lines.specs.declared.log_line.LogLine.TheVariants.{Nothing, Unre
 
 -- what is found in the groups of a log's lines, in order
 abbrev pub founds_of : ℕ → ℕ → List (List ℕ) → List Finding
-founds_of boot cap lines = log_founds boot cap (map log_line_of lines)
+founds_of boot cap lines = log_founds boot cap (told_lines no_edac lines)
 
 -- The text of it. That an address was torn off is told at its line; apart from that the number of a line
 -- doesn't matter to what is found in a group.
@@ -42,16 +43,16 @@ early_lines boot cap lines = founds_text (before_end (founds_of boot cap lines))
 -- ---- comments of lines
 
 -- how far the report in work has come after these lines
-abbrev pub work_after : Stage → List (List ℕ) → Stage
+abbrev pub work_after : Stage → List LogLine → Stage
 work_after stage [] = stage
-work_after stage (line ∷ lines) = work_after (stage_after stage (klog_part (log_line_of line))) lines
+work_after stage (line ∷ lines) = work_after (stage_after stage (klog_part line)) lines
 
 -- whether a line is passed over that begins as one of a report: it can't be read, or the report in
 -- work has no place for it
 abbrev pub is_passed : Stage → LogLine → Bool
 is_passed stage Nothing = false
 is_passed stage Unread = true
-is_passed stage (Part line stamp vendor) = not (has_place stage line)
+is_passed stage (Part line print vendor) = not (has_place stage line)
 
 -- whether this is told as a report that lacks its address
 abbrev pub tells_torn : ℕ → KlogOut → Bool
@@ -60,7 +61,7 @@ tells_torn vendor out = false
 
 -- whether a line makes such a report whole
 abbrev pub ends_torn : ℕ → ℕ → Stage → LogLine → Bool
-ends_torn boot cap stage (Part line stamp vendor) = tells_torn vendor (out_at boot cap stage line)
+ends_torn boot cap stage (Part line print vendor) = tells_torn vendor (out_at boot cap stage line)
 ends_torn boot cap stage line = false
 
 -- the comment of a line of this number: that it is passed over, or that an address was torn off
@@ -72,7 +73,8 @@ comment_at boot cap number stage line =
 -- the same of a line after these before it
 abbrev pub comment_text : ℕ → ℕ → List (List ℕ) → List ℕ → List ℕ
 comment_text boot cap before line =
-    comment_at boot cap (length before + 1) (work_after at_start before) (log_line_of line)
+    comment_at boot cap (length before + 1) (work_after at_start (told_lines no_edac before))
+    (marked_told (edac_over no_edac before) (log_line_of line))
 
 -- ---- the filter
 

@@ -1,18 +1,25 @@
 -- What the lines of a kernel log tell of machine checks.
 use Rattle.std.specs.Prelude.{ℕ, ◌+◌, ◌*◌, ◌-◌, ◌^◌, ◌==◌, ◌||◌, Bool, false, List, codes, drop, take, length, nat_eq, Option, None, Some, if◌then◌else◌}
 use Rattle.std.specs.List.{ends_with}
-use Rattle.std.specs.Option.{option_map_or}
+use Rattle.std.specs.Option.{option_map, option_map_or}
 use Rattle.std.specs.Str.{bytes_eq}
-use Rattle.ras_klog.specs.Reading.{klog_line_of, read_then}
+use Rattle.ras_klog.specs.Reading.{klog_line_of, provided, read_then}
 use Rattle.ras_klog.specs.declared.line.KlogLine.{KlogLine}
 use Rattle.ras_klog.specs.declared.line.KlogLine.TheVariants.{Processor, Other}
 use Rattle.ras_script.specs.Number.{decimal_of}
 use Rattle.bank_lines.specs.LogHeads.{after, is_joined, is_own, mark_place, record_time, up_to, without_spaces}
+use Rattle.bank_lines.specs.EdacLines.{driver_text, edac_line_of, edac_mark, is_of_edac}
+use Rattle.bank_lines.specs.declared.edac_line.EdacLine.{EdacLine}
 use Rattle.bank_lines.specs.declared.log_line.LogLine.{LogLine}
 use Rattle.bank_lines.specs.declared.log_line.LogLine.TheVariants.{Nothing, Unread, Part}
+use Rattle.bank_lines.specs.declared.log_line.MarkedLine.{MarkedLine}
+use Rattle.bank_lines.specs.declared.log_line.MarkedLine.TheVariants.{Plain, Edac}
+use Rattle.bank_lines.specs.declared.log_line.Print.{Print}
+use Rattle.bank_lines.specs.declared.mark.LogMark.{LogMark}
+use Rattle.bank_lines.specs.declared.mark.LogMark.TheVariants.{AtPlain, AtEdac}
 use Rattle.bank_lines.specs.declared.log_line.TheConstants.{LAST_SECOND, LAST_STAMP, MICROSECONDS}
 
--- what begins the text of a machine check
+-- what begins the kernel's own text of a machine check
 abbrev pub log_mark : List ℕ
 log_mark = codes "mce: [Hardware Error]: "
 
@@ -51,37 +58,76 @@ is_cut text = is_joined (after 32 (after 32 (after 32 text)))
 abbrev pub vendor_of : List ℕ → Option ℕ
 vendor_of text = if is_cut text then None else decimal_of (2 ^ 64 - 1) (up_to 58 (after 32 text))
 
+-- when a line of the kernel's own text was printed
+abbrev pub printed_plain : Option ℕ → Print
+printed_plain stamp = record { stamp = stamp; by_edac = false }
+
 -- when the bank was read, if the vendor reads
-abbrev pub with_vendor : Option ℕ → ℕ → Option ℕ → LogLine
-with_vendor stamp seconds None = Unread
-with_vendor stamp seconds (Some vendor) = Part (Processor seconds) stamp vendor
+abbrev pub with_vendor : Print → ℕ → Option ℕ → LogLine
+with_vendor print seconds None = Unread
+with_vendor print seconds (Some vendor) = Part (Processor seconds) print vendor
 
 -- a text after a mark that tells nothing: `Unread` if it begins as a line of a report
 abbrev pub left_unread : List ℕ → LogLine
 left_unread text = if is_of_report text then Unread else Nothing
 
 -- what a text after a mark tells, by what `klog` reads of it
-abbrev pub line_told_by : Option ℕ → List ℕ → KlogLine → LogLine
-line_told_by stamp text Other = left_unread text
-line_told_by stamp text (Processor seconds) = with_vendor stamp seconds (vendor_of text)
-line_told_by stamp text line = Part line stamp 0
+abbrev pub line_told_by : Print → List ℕ → KlogLine → LogLine
+line_told_by print text Other = left_unread text
+line_told_by print text (Processor seconds) = with_vendor print seconds (vendor_of text)
+line_told_by print text line = Part line print 0
 
 -- What a line with this head tells from its mark on. If the head doesn't show it as the kernel's own,
 -- it tells nothing.
 abbrev pub log_line_after : List ℕ → List ℕ → LogLine
 log_line_after head marked =
     let text = drop (length log_mark) marked in
-    if is_own head then line_told_by (log_stamp_of head) text (klog_line_of marked) else left_unread text
+    if is_own head then line_told_by (printed_plain (log_stamp_of head)) text (klog_line_of marked)
+    else left_unread text
 
--- a line, by the place of its first mark
-abbrev pub log_line_by : List ℕ → Option ℕ → LogLine
-log_line_by line None = Nothing
-log_line_by line (Some place) = log_line_after (take place line) (drop place line)
+-- ---- EDAC's lines
 
--- what a line of a kernel log tells: it is the kernel's own by what stands before the first mark
-abbrev pub log_line_of : List ℕ → LogLine
-log_line_of line = log_line_by line (mark_place log_mark line)
+-- What a text of a driver of EDAC tells, by what is read of it. If it doesn't read, or the head before it
+-- doesn't show it as the kernel's own, it tells nothing.
+abbrev pub edac_told_by : Option ℕ → Option EdacLine → MarkedLine
+edac_told_by stamp None = Plain Unread
+edac_told_by stamp (Some line) = Edac line stamp
 
--- whether a line has a mark, and what stands before the first one shows it as the kernel's own
+abbrev pub driver_told : List ℕ → List ℕ → MarkedLine
+driver_told head text =
+    if is_of_edac text
+    then edac_told_by (log_stamp_of head) (provided (is_own head) (edac_line_of text)) else Plain Nothing
+
+-- what a line with this head tells from EDAC's mark on: nothing, if it isn't of a driver's report
+abbrev pub edac_line_after : List ℕ → List ℕ → MarkedLine
+edac_line_after head marked =
+    option_map_or (driver_told head) (driver_text (drop (length edac_mark) marked)) (Plain Nothing)
+
+-- ---- a line
+
+-- Where the mark stands by which a line is read: the first one of the kernel's own text, and only if it
+-- has none the first one of EDAC's.
+abbrev pub mark_by : Option ℕ → Option ℕ → Option LogMark
+mark_by (Some place) edac = Some (AtPlain place)
+mark_by None edac = option_map (λ place. AtEdac place) edac
+
+abbrev pub mark_of : List ℕ → Option LogMark
+mark_of line = mark_by (mark_place log_mark line) (mark_place edac_mark line)
+
+-- a line, by its mark
+abbrev pub log_line_by : List ℕ → Option LogMark → MarkedLine
+log_line_by line None = Plain Nothing
+log_line_by line (Some (AtPlain place)) = Plain (log_line_after (take place line) (drop place line))
+log_line_by line (Some (AtEdac place)) = edac_line_after (take place line) (drop place line)
+
+-- what a line of a kernel log tells: it is the kernel's own by what stands before its mark
+abbrev pub log_line_of : List ℕ → MarkedLine
+log_line_of line = log_line_by line (mark_of line)
+
+abbrev pub place_in : LogMark → ℕ
+place_in (AtPlain place) = place
+place_in (AtEdac place) = place
+
+-- whether a line has a mark, and what stands before it shows it as the kernel's own
 abbrev pub is_own_line : List ℕ → Bool
-is_own_line line = option_map_or (λ place. is_own (take place line)) (mark_place log_mark line) false
+is_own_line line = option_map_or (λ mark. is_own (take (place_in mark) line)) (mark_of line) false

@@ -2,6 +2,8 @@
 //! the lines that are printed of it.
 #![tactic(auto)]
 
+mod edac_line;
+mod edac_report;
 mod event;
 mod filter;
 mod found;
@@ -9,9 +11,11 @@ mod kernel_laws;
 mod laws;
 mod log_filter;
 mod log_heads;
+mod log_kernel_laws;
 mod log_laws;
 mod log_line;
 mod log_state;
+mod mark;
 mod output_laws;
 mod parts;
 mod stamp;
@@ -22,13 +26,16 @@ mod trace_laws;
 pub use event::{TraceEvent, event_in};
 pub use filter::TraceFilter;
 pub use found::Finding;
-pub use kernel_laws::printed_events_are_read;
+pub use kernel_laws::{heads_give_their_stamp, printed_events_are_read};
 pub use laws::printed_lines_are_read_back;
 pub use log_filter::LogFilter;
 pub use log_heads::{cut, is_own, without_spaces};
+pub use log_kernel_laws::{printed_logs_are_read, twice_printed_errors_have_one_name};
 pub use log_laws::logs_are_made_lines;
 pub use log_line::{LAST_SECOND, MICROSECONDS, log_stamp_of};
+pub use log_state::with_counter;
 pub use output_laws::lines_laws;
 pub use stamp::MOST_SECONDS;
-pub use trace::trace_found;
+pub use text::push_found;
+pub use trace::{event_report, trace_found};
 pub use trace_laws::{stamps_tell_polled_errors_apart, traces_are_read_back};

@@ -4,6 +4,7 @@ ghost use Rattle.std.specs.Prelude.{◌≡◌};
 ghost use Rattle.bank_lines.specs.LogAlong.{log_makes};
 ghost use Rattle.bank_lines.specs.LogFilter.{log_filter};
 
+use crate::edac_report::EdacReport;
 use crate::log_line::log_line;
 use crate::log_state::LogState;
 use crate::text::push_found;
@@ -22,6 +23,7 @@ use std::marker::Model;
 /// that are the kernel's own count. No line is refused.
 #[derive(Drop)]
 pub struct LogFilter {
+    edac: EdacReport,
     state: LogState,
     boot: u64,
     cap: u64,
@@ -35,9 +37,9 @@ impl Model for LogFilter {
 
     ghost Value = { LogProgress };
 
-    ghost view = { λ f. record { boot = f.boot; cap = f.cap; state = f.state; taken = f.taken } };
+    ghost view = { λ f. record { boot = f.boot; cap = f.cap; edac = f.edac; state = f.state; taken = f.taken } };
 
-    ghost invariant = { λ f. f.state.count < MICROSECONDS };
+    ghost invariant = { λ f. f.state.polled.count < MICROSECONDS };
 }
 
 impl LogFilter {
@@ -47,6 +49,7 @@ impl LogFilter {
         ensures taken { result.taken ≡ 0 }
     {
         LogFilter {
+            edac: EdacReport::new(),
             state: LogState::new(),
             boot,
             cap,
@@ -65,7 +68,8 @@ impl LineFilter for LogFilter {
     ghost none = { λ _. refl };
 
     fn take(&mut self, _: Global, line: &[u8], text: &mut Vec<u8>) -> Result<(), LineRefused> {
-        let found = self.state.step(log_line(line), self.boot, self.cap);
+        let told = self.edac.step(log_line(line));
+        let found = self.state.step(told, self.boot, self.cap);
         match push_found(text, &found, self.taken + 1) {
             Ok(()) => {
                 self.taken += 1;

@@ -46,7 +46,7 @@ fn place_by(pivot: usize, text: &[u8], within: &[u8]) -> Option<usize>
 }
 
 // Whether a text stands within another so that its byte at `pivot` has a place there.
-fn stands_round(place: usize, pivot: usize, text: &[u8], within: &[u8]) -> bool
+pub(crate) fn stands_round(place: usize, pivot: usize, text: &[u8], within: &[u8]) -> bool
     requires { place ≤ length within.now }
     ensures { IsTrue result ↔ ((pivot ≤ place) × OccursAt within.now text.now (place - pivot)) }
 {
@@ -109,7 +109,7 @@ pub(crate) fn has_digit(text: &[u8]) -> bool
 }
 
 // Whether a text is a number.
-fn is_number(text: &[u8]) -> bool
+pub(crate) fn is_number(text: &[u8]) -> bool
     ensures { result ≡ is_number text.now }
 {
     !text.is_empty() && are_digits(text)

@@ -13,6 +13,7 @@ ghost use Rattle.bank_lines.specs.LogLines.{is_own_line, log_line_of};
 ghost use Rattle.bank_lines.specs.Texts.{asks_in};
 ghost use Rattle.bank_lines.specs.declared.log_line.LogLine.{LogLine};
 ghost use Rattle.bank_lines.specs.declared.log_line.LogLine.TheVariants.{Nothing, Unread};
+ghost use Rattle.bank_lines.specs.declared.log_line.MarkedLine.TheVariants.{Plain};
 
 use crate::laws::printed_lines_are_read_back;
 
@@ -31,7 +32,7 @@ pub fn logs_are_made_lines()
     // A line that isn't the kernel's own tells nothing, or that it can't be read: the reports are what
     // they are without it.
     ensures others { (line : List ℕ) → is_own_line line ≡ false
-        → (log_line_of line ≡ Nothing) ⊎ (log_line_of line ≡ Unread) }
+        → (log_line_of line ≡ Plain Nothing) ⊎ (log_line_of line ≡ Plain Unread) }
     ensures alone { (boot cap : ℕ) (before after : List (List ℕ)) (line : List ℕ)
         → is_own_line line ≡ false
         → log_reports boot cap (before ++ line ∷ after) ≡ log_reports boot cap (before ++ after) }

@@ -3,9 +3,12 @@
 ghost use Rattle.std.specs.Prelude.{◌≡◌, ◌≤◌, length, IfSome};
 ghost use Rattle.bank_lines.specs.LogLines.{bracket_stamp, is_cut, is_of_report, log_line_after};
 ghost use Rattle.bank_lines.specs.LogLines.{log_line_of, log_mark, log_stamp_of, micros_of};
-ghost use Rattle.bank_lines.specs.LogLines.{line_told_by, left_unread, vendor_of};
+ghost use Rattle.bank_lines.specs.EdacLines.{edac_mark};
+ghost use Rattle.bank_lines.specs.LogLines.{driver_told, edac_line_after, left_unread, line_told_by, vendor_of};
 
-use crate::log_heads::{cut, is_joined, is_own, mark_place, record_time, without_spaces};
+use crate::edac_line::{EdacLine, driver_text, edac_line, is_of_edac};
+use crate::log_heads::{cut, is_joined, is_own, record_time, without_spaces};
+use crate::mark::{EDAC_MARK, LogMark, PLAIN_MARK, mark_of};
 use ras_klog::{KlogLine, klog_line};
 use ras_script::decimal;
 
@@ -19,9 +22,6 @@ pub const LAST_STAMP: u64 = 999_999_999_999_999_999;
 /// The microseconds of a second.
 pub const MICROSECONDS: u64 = 1_000_000;
 
-// What begins the text of a machine check.
-const MARK: &[u8] = b"mce: [Hardware Error]: ";
-
 /// What a line of a kernel log tells of machine checks.
 #[derive(Clone, Copy, Debug, PartialEq, Eq)]
 pub(crate) enum LogLine {
@@ -29,22 +29,41 @@ pub(crate) enum LogLine {
     Nothing,
     // It begins as a line of a report, and can't be read as one, or isn't the kernel's own.
     Unread,
-    // A line of a report, the stamp before it in microseconds, and the vendor's number, which only
-    // a `Processor` has.
+    // A line of a report, how it was printed, and the vendor's number, which only a `Processor` has.
     Part {
         line: KlogLine,
-        stamp: Option<u64>,
+        print: Print,
         vendor: u64,
     },
 }
 
+// How a line was printed: the stamp before it in microseconds, and whether EDAC printed it.
+#[derive(Clone, Copy, Debug, PartialEq, Eq)]
+pub(crate) struct Print {
+    pub stamp: Option<u64>,
+    pub by_edac: bool,
+}
+
+// What a line tells by the mark that it has.
+#[derive(Clone, Copy, Debug, PartialEq, Eq)]
+pub(crate) enum MarkedLine {
+    // By the mark of the kernel's own text, or by none.
+    Plain(LogLine),
+    // By EDAC's mark, and the stamp before it.
+    Edac { line: EdacLine, stamp: Option<u64> },
+}
+
 // What a line of a kernel log tells. It takes no memory.
-pub(crate) fn log_line(line: &[u8]) -> LogLine
+#[tactic(auto, using(crate::proofs::LogLineLemmas::line_is, crate::proofs::LogLineLemmas::edac_is, crate::proofs::LogLineLemmas::none_is))]
+pub(crate) fn log_line(line: &[u8]) -> MarkedLine
     ensures { result ≡ log_line_of line.now }
 {
-    match mark_place(MARK, line) {
-        Some(place) => log_line_after(&line[..place], &line[place..]),
-        None => LogLine::Nothing,
+    match mark_of(line) {
+        Some(LogMark::AtPlain(place)) => {
+            MarkedLine::Plain(log_line_after(&line[..place], &line[place..]))
+        }
+        Some(LogMark::AtEdac(place)) => edac_line_after(&line[..place], &line[place..]),
+        None => MarkedLine::Plain(LogLine::Nothing),
     }
 }
 
@@ -53,9 +72,13 @@ fn log_line_after(head: &[u8], marked: &[u8]) -> LogLine
     requires { length log_mark ≤ length marked.now }
     ensures { result ≡ log_line_after head.now marked.now }
 {
-    let text = &marked[MARK.len()..];
+    let text = &marked[PLAIN_MARK.len()..];
     if is_own(head) {
-        line_told_by(log_stamp_of(head), text, klog_line(marked))
+        let print = Print {
+            stamp: log_stamp_of(head),
+            by_edac: false,
+        };
+        line_told_by(print, text, klog_line(marked))
     } else {
         left_unread(text)
     }
@@ -73,24 +96,54 @@ fn left_unread(text: &[u8]) -> LogLine
 }
 
 // What a text after a mark tells, by what `klog` reads of it.
-fn line_told_by(stamp: Option<u64>, text: &[u8], line: KlogLine) -> LogLine
-    ensures { result ≡ line_told_by stamp text.now line }
+fn line_told_by(print: Print, text: &[u8], line: KlogLine) -> LogLine
+    ensures { result ≡ line_told_by print text.now line }
 {
     match line {
         KlogLine::Other => left_unread(text),
         KlogLine::Processor { .. } => match vendor_of(text) {
             Some(vendor) => LogLine::Part {
                 line,
-                stamp,
+                print,
                 vendor,
             },
             None => LogLine::Unread,
         },
         KlogLine::Start { .. } | KlogLine::Tsc { .. } => LogLine::Part {
             line,
-            stamp,
+            print,
             vendor: 0,
         },
+    }
+}
+
+// What a line with this head tells from EDAC's mark on.
+fn edac_line_after(head: &[u8], marked: &[u8]) -> MarkedLine
+    requires { length edac_mark ≤ length marked.now }
+    ensures { result ≡ edac_line_after head.now marked.now }
+{
+    match driver_text(&marked[EDAC_MARK.len()..]) {
+        Some(text) => driver_told(head, text),
+        None => MarkedLine::Plain(LogLine::Nothing),
+    }
+}
+
+// What a line with this head tells by the text of a driver of EDAC.
+fn driver_told(head: &[u8], text: &[u8]) -> MarkedLine
+    ensures { result ≡ driver_told head.now text.now }
+{
+    if !is_of_edac(text) {
+        return MarkedLine::Plain(LogLine::Nothing);
+    }
+    if !is_own(head) {
+        return MarkedLine::Plain(LogLine::Unread);
+    }
+    match edac_line(text) {
+        Some(line) => MarkedLine::Edac {
+            line,
+            stamp: log_stamp_of(head),
+        },
+        None => MarkedLine::Plain(LogLine::Unread),
     }
 }
 

@@ -1,22 +1,31 @@
 //! What is found in a kernel log, line by line.
 
 ghost use Rattle.std.specs.Prelude.{◌≡◌, ◌<◌};
-ghost use Rattle.bank_lines.specs.LogAlong.{log_found_at, found_at_end, log_at_start, stamp_after};
+ghost use Rattle.bank_lines.specs.LogAlong.{log_found_at, found_at_end, log_at_start, print_after};
 ghost use Rattle.bank_lines.specs.LogAlong.{state_after};
-ghost use Rattle.bank_lines.specs.LogGroups.{count_after, found_told, polled_counter, with_counter};
+ghost use Rattle.bank_lines.specs.LogGroups.{found_told, is_same_error, named_report, polled_after};
+ghost use Rattle.bank_lines.specs.LogGroups.{polled_counter, polled_with, twin_counter, with_counter};
 
 use crate::Finding;
-use crate::log_line::{LAST_SECOND, LogLine, MICROSECONDS};
+use crate::log_line::{LAST_SECOND, LogLine, MICROSECONDS, Print};
 use ras_facts::BankReport;
 use ras_klog::{KlogLine, KlogOut, KlogState};
 
-// The report in work, the stamp of its first line, and how many reports without a counter and
-// without a stamp there were, of which 6 digits count.
+// What counts of the reports before for one that was found by polling: how many of them had neither
+// a counter nor a stamp, of which 6 digits count; and the last report with its counter, if EDAC
+// printed it and it had none of its own.
+#[derive(Clone, Copy, Debug)]
+pub(crate) struct Polled {
+    count: u64,
+    twin: Option<BankReport>,
+}
+
+// The report in work, how its first line was printed, and the reports before.
 #[derive(Clone, Copy, Debug)]
 pub(crate) struct LogState {
     work: KlogState,
-    stamp: Option<u64>,
-    count: u64,
+    print: Print,
+    polled: Polled,
 }
 
 impl LogState {
@@ -26,32 +35,38 @@ impl LogState {
     {
         LogState {
             work: KlogState::new(),
-            stamp: None,
-            count: 0,
+            print: Print {
+                stamp: None,
+                by_edac: false,
+            },
+            polled: Polled {
+                count: 0,
+                twin: None,
+            },
         }
     }
 
     // Takes a line, of a log of this boot and of processors with this IA32_MCG_CAP, and tells what
     // is found there.
     pub(crate) fn step(&mut self, line: LogLine, boot: u64, cap: u64) -> Finding
-        requires { self.old.count < MICROSECONDS }
+        requires { self.old.polled.count < MICROSECONDS }
         ensures found { result ≡ log_found_at boot cap self.old line }
         ensures state { self.new ≡ state_after boot cap self.old line }
-        ensures count { self.new.count < MICROSECONDS }
+        ensures count { self.new.polled.count < MICROSECONDS }
     {
         match line {
             LogLine::Nothing => Finding::Nothing,
             LogLine::Unread => Finding::Unread,
             LogLine::Part {
                 line,
-                stamp,
+                print,
                 vendor,
             } => {
                 let has_place = self.work.has_place(line);
                 let out = self.work.step(line, boot, cap);
-                let found = found_told(self.count, self.stamp, vendor, &out);
-                self.count = count_after(self.count, self.stamp, &out);
-                self.stamp = stamp_after(self.stamp, line, stamp);
+                let found = found_told(&self.polled, self.print, vendor, &out);
+                self.polled = polled_after(&self.polled, self.print, &out);
+                self.print = print_after(self.print, line, print);
                 if has_place { found } else { Finding::Unread }
             }
         }
@@ -59,34 +74,34 @@ impl LogState {
 
     // What is found at the log's end.
     pub(crate) fn end(&self) -> Finding
-        requires { self.now.count < MICROSECONDS }
+        requires { self.now.polled.count < MICROSECONDS }
         ensures { result ≡ found_at_end self.now }
     {
         let mut work = self.work;
-        found_told(self.count, self.stamp, 0, &work.end())
+        found_told(&self.polled, self.print, 0, &work.end())
     }
 }
 
-// The stamp of the report in work, after a line with this one.
-fn stamp_after(stamp: Option<u64>, line: KlogLine, new: Option<u64>) -> Option<u64>
-    ensures { result ≡ stamp_after stamp line new }
+// How the report in work was printed, after a line that was printed so.
+fn print_after(print: Print, line: KlogLine, new: Print) -> Print
+    ensures { result ≡ print_after print line new }
 {
     match line {
         KlogLine::Start { .. } => new,
-        _ => stamp,
+        _ => print,
     }
 }
 
-// What is found of what `klog` tells, by the stamp and the vendor of the report.
-fn found_told(count: u64, stamp: Option<u64>, vendor: u64, out: &KlogOut) -> Finding
-    requires { count < MICROSECONDS }
-    ensures { result ≡ found_told count stamp vendor out.now }
+// What is found of what `klog` tells, by how the report was printed and its vendor.
+fn found_told(before: &Polled, print: Print, vendor: u64, out: &KlogOut) -> Finding
+    requires { before.now.count < MICROSECONDS }
+    ensures { result ≡ found_told before.now print vendor out.now }
 {
     match *out {
         KlogOut::Nothing => Finding::Nothing,
         KlogOut::Partial { cpu, bank } => Finding::Partial { cpu, bank },
         KlogOut::Whole(report) if vendor == 0 => {
-            Finding::of_log_report(with_counter(count, stamp, report))
+            Finding::of_log_report(named_report(before, print, report))
         }
         KlogOut::Whole(report) => Finding::Foreign {
             vendor,
@@ -96,8 +111,9 @@ fn found_told(count: u64, stamp: Option<u64>, vendor: u64, out: &KlogOut) -> Fin
     }
 }
 
-// A report with a counter of its own, if it has none.
-fn with_counter(count: u64, stamp: Option<u64>, report: BankReport) -> BankReport
+/// Returns a report, with a counter of its own if it has none: the microseconds of its stamp, or
+/// without one its time and the number of such reports before it, `count`.
+pub fn with_counter(count: u64, stamp: Option<u64>, report: BankReport) -> BankReport
     requires { count < MICROSECONDS }
     ensures { result ≡ with_counter count stamp report }
 {
@@ -121,14 +137,79 @@ fn polled_counter(count: u64, stamp: Option<u64>, seconds: u64) -> u64
     }
 }
 
-// How many reports there were without a counter and without a stamp, after this is told.
-fn count_after(count: u64, stamp: Option<u64>, out: &KlogOut) -> u64
+// A report with its counter, after those before.
+fn named_report(before: &Polled, print: Print, report: BankReport) -> BankReport
+    requires { before.now.count < MICROSECONDS }
+    ensures { result ≡ named_report before.now print report }
+{
+    if report.tsc != 0 {
+        return report;
+    }
+    let tsc = match twin_counter(before, print, &report) {
+        Some(tsc) => tsc,
+        None => polled_counter(before.count, print.stamp, report.seconds),
+    };
+    BankReport { tsc, ..report }
+}
+
+// The counter of the report right before, if EDAC printed that and this is its second text.
+fn twin_counter(before: &Polled, print: Print, report: &BankReport) -> Option<u64>
+    ensures { result ≡ twin_counter before.now print report.now }
+{
+    if print.by_edac {
+        return None;
+    }
+    let twin = before.twin?;
+    if is_same_error(&twin, report) {
+        Some(twin.tsc)
+    } else {
+        None
+    }
+}
+
+// Whether two reports of a log are of the same registers and second.
+fn is_same_error(one: &BankReport, other: &BankReport) -> bool
+    ensures { result ≡ is_same_error one.now other.now }
+{
+    one.seconds == other.seconds
+        && one.cpu == other.cpu
+        && one.bank == other.bank
+        && one.mcg == other.mcg
+        && one.status == other.status
+        && one.addr == other.addr
+        && one.misc == other.misc
+}
+
+// The reports before, after this is told.
+fn polled_after(before: &Polled, print: Print, out: &KlogOut) -> Polled
+    requires { before.now.count < MICROSECONDS }
+    ensures value { result ≡ polled_after before.now print out.now }
+    ensures within { result.count < MICROSECONDS }
+{
+    let KlogOut::Whole(report) = *out else {
+        return *before;
+    };
+    let count = match twin_counter(before, print, &report) {
+        Some(_) => before.count,
+        None => polled_with(before.count, &report, print.stamp),
+    };
+    let twin = if print.by_edac && report.tsc == 0 {
+        Some(named_report(before, print, report))
+    } else {
+        None
+    };
+    Polled { count, twin }
+}
+
+// How many reports there were without a counter and without a stamp, with this one.
+fn polled_with(count: u64, report: &BankReport, stamp: Option<u64>) -> u64
     requires { count < MICROSECONDS }
-    ensures value { result ≡ count_after count stamp out.now }
+    ensures value { result ≡ polled_with count report.now stamp }
     ensures within { result < MICROSECONDS }
 {
-    match (out, stamp) {
-        (KlogOut::Whole(report), None) if report.tsc == 0 => (count + 1) % MICROSECONDS,
-        _ => count,
+    if report.tsc == 0 && stamp.is_none() {
+        (count + 1) % MICROSECONDS
+    } else {
+        count
     }
 }

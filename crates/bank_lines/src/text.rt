@@ -18,8 +18,12 @@ static DIGITS: [u8; 16] = [
     b'0', b'1', b'2', b'3', b'4', b'5', b'6', b'7', b'8', b'9', b'a', b'b', b'c', b'd', b'e', b'f',
 ];
 
-// Adds the text of what was found in the line of this number.
-pub(crate) fn push_found(text: &mut Vec<u8>, found: &Finding, number: u64) -> Result<(), NoMemory>
+/// Appends the text of what was found in the line of this number.
+///
+/// # Errors
+///
+/// `NoMemory` if memory runs out.
+pub fn push_found(text: &mut Vec<u8>, found: &Finding, number: u64) -> Result<(), NoMemory>
     ensures { OnOk result (text.new.items ≡ text.old.items ++ found_text number found.now) }
 {
     match found {

@@ -116,8 +116,8 @@ fn counter_of(tsc: u64, before: &[u8]) -> Option<u64>
     }
 }
 
-// The report of an event of this boot, by this counter.
-fn event_report(boot: u64, event: TraceEvent, tsc: u64) -> BankReport
+/// Returns the report of an event of this boot, by this counter.
+pub fn event_report(boot: u64, event: TraceEvent, tsc: u64) -> BankReport
     ensures { result ≡ event_report boot event tsc }
 {
     BankReport {

@@ -246,30 +246,74 @@ def stamp_in(head):
     return int(stamp[1]) * SECOND + int(stamp[2]) if stamp and int(stamp[1]) <= LAST_SECOND else None
 
 
+# EDAC's drivers for Intel's memory controllers print a line for each register, skx's with 0x before numbers in hexadecimal.
+EDAC_MARK = b"EDAC "
+DRIVER = re.compile(rb"(?:skx|sbridge|pnd2) MC[0-9]+: (.*)", re.S)
+EDAC_KINDS = {"start": b"CPU", "tsc": b"TSC", "addr": b"ADDR", "misc": b"MISC", "processor": b"PROCESSOR"}
+REGISTER = rb"(?:0x)?" + HEX
+EDAC_FORMS = {
+    "start": rb"CPU %s: Machine Check (?:Event|Exception): %s Bank %s: %s *" % (DECIMAL, REGISTER, DECIMAL, REGISTER),
+    "tsc": rb"TSC %s *" % REGISTER, "addr": rb"ADDR %s *" % REGISTER, "misc": rb"MISC %s *" % REGISTER,
+    "processor": rb"PROCESSOR %s:%s TIME %s (.*)" % (DECIMAL, REGISTER, DECIMAL),
+}  # fmt: skip
+# Which line of EDAC's follows which.
+NEXT_OF_EDAC = {"start": "tsc", "tsc": "addr", "addr": "misc", "misc": "processor", "processor": None}
+
+
+def edac_told(kind, text):
+    """What a line of a report of EDAC tells, of this kind."""
+    found = re.fullmatch(EDAC_FORMS[kind], text, re.S)
+    check(found)
+    if kind == "start":
+        cpu, mcg, bank, status = found.groups()
+        numbers = [decimal_of(cpu, 65_535), int(mcg, 16), decimal_of(bank, 255), int(status, 16)]
+    elif kind == "processor":
+        numbers = [decimal_of(found[1]), decimal_of(found[3])]
+    else:
+        numbers = [int(found[1], 16)]
+    check(None not in numbers)
+    return kind, *numbers
+
+
 class LogLines:
-    """The report in work, and how many had neither counter nor stamp."""
+    """The report in work, how many had neither counter nor stamp, and the last one of EDAC's that had no counter."""
 
     def __init__(self, boot, cap):
         self.boot, self.cap, self.counted = boot, cap, 0
         self.start = self.tsc = self.stamp = None
+        # EDAC's registers so far, and the kind of its next line; None if no report of EDAC is in work
+        self.registers, self.awaited, self.by_edac, self.twin = [], None, False, None
 
-    def begin(self, start, stamp):
+    def begin(self, start, stamp, by_edac=False):
         """Begins a report, or none; what is told of the one before, if that isn't whole."""
         text = PARTIAL.format(self.start[1], self.start[3]) if self.start else ""
-        self.start, self.tsc, self.stamp = start, None, stamp
+        self.start, self.tsc, self.stamp, self.by_edac = start, None, stamp, by_edac
+        self.registers, self.awaited = [], "tsc" if by_edac else None
         return text
 
     def counter(self, seconds):
-        """The counter of a report that the kernel found by polling."""
-        if self.stamp is not None:
-            return self.stamp
-        self.counted += 1
-        return seconds % (LAST_SECOND + 1) * SECOND + (self.counted - 1) % SECOND
+        """The counter of a report that the kernel found by polling: its own text has the one of EDAC's before it."""
+        report = (*self.start[1:], *self.tsc[2:], seconds)
+        if self.twin and not self.by_edac and self.twin[0] == report:
+            return self.twin[1]
+        counter = self.stamp
+        if counter is None:
+            counter = seconds % (LAST_SECOND + 1) * SECOND + self.counted % SECOND
+            self.counted += 1
+        return counter
+
+    def named(self, seconds):
+        """The counter of a report that is whole."""
+        tsc = self.tsc[1]
+        counter = tsc or self.counter(seconds)
+        self.twin = ((*self.start[1:], *self.tsc[2:], seconds), counter) if self.by_edac and not tsc else None
+        return counter
 
     def whole(self, number, vendor, seconds):
         """What is told of a report that is whole, at the line of this number."""
-        (_, cpu, mcg, bank, status), (_, tsc, addr, misc) = self.start, self.tsc
-        self.start, tsc = None, tsc or self.counter(seconds)
+        tsc = self.named(seconds)
+        (_, cpu, mcg, bank, status), (_, _, addr, misc) = self.start, self.tsc
+        self.start = None
         if vendor:
             return VENDOR.format(vendor, cpu, bank)
         if not bit(status, reports.VAL):
@@ -281,12 +325,32 @@ class LogLines:
         line = bank_line(self.boot, seconds, cpu, bank, tsc, self.cap, mcg, status, addr, misc)
         return (TORN.format(number) if is_torn else "") + line
 
+    def take_edac(self, number, head, text):
+        """What is told as a line of EDAC's is read: of its three registers the last one tells all."""
+        driver = DRIVER.fullmatch(text)
+        words = driver[1].split(b" ") if driver else [b""]
+        kind = next((it for it, word in EDAC_KINDS.items() if word == words[0]), None)
+        if kind is None:
+            return ""
+        check(is_own(head))
+        kind, *numbers = edac_told(kind, driver[1])
+        if kind == "start":
+            return self.begin((kind, *numbers), stamp_in(head), True)
+        check(kind == self.awaited)
+        self.awaited = NEXT_OF_EDAC[kind]
+        if kind == "processor":
+            return self.whole(number, *numbers)
+        self.registers += numbers
+        if kind == "misc":
+            self.tsc = ("tsc", *self.registers)
+        return ""
+
     def take(self, number, told, stamp):
         """What is told as a line of a report is read; one for which the report has no place can't be read."""
         kind, *numbers = told
         if kind == "start":
             return self.begin(told, stamp)
-        check(self.start and (self.tsc is None) == (kind == "tsc"))
+        check(self.start and not self.awaited and (self.tsc is None) == (kind == "tsc"))
         if kind == "tsc":
             self.tsc = told
             return ""
@@ -296,6 +360,12 @@ class LogLines:
         """What is printed of a line, and of the log's end, which has no number."""
         if number is None:
             return self.begin(None, None)
+        try:
+            if LOG_MARK not in line and EDAC_MARK in line:
+                head, _, text = line.partition(EDAC_MARK)
+                return self.take_edac(number, head, text)
+        except Unreadable:
+            return UNREAD.format(number)
         head, mark, text = line.partition(LOG_MARK)
         words = text.split(b" ")
         if not mark or words[0] not in KINDS:

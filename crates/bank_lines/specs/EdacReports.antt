@@ -1,0 +1,69 @@
+-- The reports that EDAC prints, told as the kernel's own text of the same registers.
+use Rattle.std.specs.Prelude.{ℕ, true, List, [], ◌∷◌, Option}
+use Rattle.ras_klog.specs.declared.line.KlogLine.TheVariants as Klog
+use Rattle.bank_lines.specs.LogLines.{log_line_of}
+use Rattle.bank_lines.specs.declared.edac_line.EdacLine.{EdacLine}
+use Rattle.bank_lines.specs.declared.edac_line.EdacLine.TheVariants.{Start, Tsc, Addr, Misc, Processor}
+use Rattle.bank_lines.specs.declared.edac_report.EdacReport.{EdacReport}
+use Rattle.bank_lines.specs.declared.edac_report.EdacReport.TheVariants.{Idle, Begun, Counted, Placed, Told}
+use Rattle.bank_lines.specs.declared.log_line.LogLine.{LogLine}
+use Rattle.bank_lines.specs.declared.log_line.LogLine.TheVariants.{Nothing, Unread, Part}
+use Rattle.bank_lines.specs.declared.log_line.MarkedLine.{MarkedLine}
+use Rattle.bank_lines.specs.declared.log_line.MarkedLine.TheVariants.{Plain, Edac}
+use Rattle.bank_lines.specs.declared.log_line.Print.{Print}
+
+-- Before a log's first line no report of EDAC is in work.
+abbrev pub no_edac : EdacReport
+no_edac = Idle
+
+abbrev pub printed_by_edac : Option ℕ → Print
+printed_by_edac stamp = record { stamp = stamp; by_edac = true }
+
+-- What a line of EDAC's tells, by the report in work: a report begins; its counter, its address and its
+-- other register come in this order, and are told as one line by the last; and then its time. A line that
+-- comes otherwise can't be read.
+abbrev pub edac_told : EdacReport → EdacLine → Option ℕ → LogLine
+edac_told report (Start cpu mcg bank status) stamp = Part (Klog.Start cpu mcg bank status) (printed_by_edac stamp) 0
+edac_told Begun (Tsc tsc) stamp = Nothing
+edac_told (Counted tsc) (Addr addr) stamp = Nothing
+edac_told (Placed tsc addr) (Misc misc) stamp = Part (Klog.Tsc tsc addr misc) (printed_by_edac stamp) 0
+edac_told Told (Processor vendor seconds) stamp = Part (Klog.Processor seconds) (printed_by_edac stamp) vendor
+edac_told report line stamp = Unread
+
+abbrev pub edac_next : EdacReport → EdacLine → EdacReport
+edac_next report (Start cpu mcg bank status) = Begun
+edac_next Begun (Tsc tsc) = Counted tsc
+edac_next (Counted tsc) (Addr addr) = Placed tsc addr
+edac_next (Placed tsc addr) (Misc misc) = Told
+edac_next Told (Processor vendor seconds) = Idle
+edac_next report line = report
+
+-- A line with the kernel's own text doesn't go on a report of EDAC. A report may begin with it.
+abbrev pub plain_told : EdacReport → LogLine → LogLine
+plain_told report (Part (Klog.Start cpu mcg bank status) print vendor) = Part (Klog.Start cpu mcg bank status) print vendor
+plain_told Idle (Part line print vendor) = Part line print vendor
+plain_told report (Part line print vendor) = Unread
+plain_told report line = line
+
+abbrev pub plain_next : EdacReport → LogLine → EdacReport
+plain_next report (Part (Klog.Start cpu mcg bank status) print vendor) = Idle
+plain_next report line = report
+
+-- what a line tells, and what is in work after it
+abbrev pub marked_told : EdacReport → MarkedLine → LogLine
+marked_told report (Plain line) = plain_told report line
+marked_told report (Edac line stamp) = edac_told report line stamp
+
+abbrev pub edac_after : EdacReport → MarkedLine → EdacReport
+edac_after report (Plain line) = plain_next report line
+edac_after report (Edac line stamp) = edac_next report line
+
+-- what the lines of a log tell, in order, and what is in work after them
+abbrev pub told_lines : EdacReport → List (List ℕ) → List LogLine
+told_lines report [] = []
+told_lines report (line ∷ lines) =
+    marked_told report (log_line_of line) ∷ told_lines (edac_after report (log_line_of line)) lines
+
+abbrev pub edac_over : EdacReport → List (List ℕ) → EdacReport
+edac_over report [] = report
+edac_over report (line ∷ lines) = edac_over (edac_after report (log_line_of line)) lines

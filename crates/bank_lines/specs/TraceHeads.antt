@@ -1,0 +1,36 @@
+-- What tracers print before the text of an event, up to its name.
+use Rattle.std.specs.Prelude.{ℕ, ◌-◌, ◌<◌, ◌≤◌, List, [], ◌∷◌, ◌++◌, codes, decimal, length, replicate}
+use Rattle.bank_lines.specs.LogKernel.{HasNo}
+use Rattle.bank_lines.specs.declared.stamp.TheConstants.{MOST_SECONDS}
+
+-- the file trace_pipe of the kernel and `trace-cmd report`, and `perf script`, which prints the event's
+-- system before its name
+pub data Tracer : Type 0 where
+  trace_pipe : Tracer
+  trace_cmd : Tracer
+  perf : Tracer
+
+abbrev pub system_of : Tracer → List ℕ
+system_of perf = codes "mce:"
+system_of tracer = []
+
+-- a number of so many digits, with zeros before it
+abbrev pub digits_of : ℕ → ℕ → List ℕ
+digits_of width n = replicate (width - length (decimal n)) 48 ++ decimal n
+
+-- `12.500001`
+abbrev pub clock : ℕ → ℕ → List ℕ
+clock seconds micros = decimal seconds ++ 46 ∷ digits_of 6 micros
+
+-- The process, the processor and flags come first, then a space, the clock, a colon, a space, and maybe
+-- more of them before the system.
+abbrev pub head_of : Tracer → List ℕ → ℕ → ℕ → ℕ → List ℕ
+head_of tracer front seconds micros spaces =
+    front ++ 32 ∷ (clock seconds micros ++ 58 ∷ 32 ∷ (replicate spaces 32 ++ system_of tracer))
+
+-- The text before the clock has no colon with a space behind it, so a process's name has none, and the
+-- numbers are those of a clock.
+pub record IsFront (front : List ℕ) (seconds micros : ℕ) : Type 0 where
+  pub text : HasNo (codes ": ") (front ++ 32 ∷ [])
+  pub most : seconds ≤ MOST_SECONDS
+  pub six : micros < 1000000

@@ -1,0 +1,147 @@
+//! The reports that EDAC prints, told as the kernel's own text of the same registers.
+
+ghost use Rattle.std.specs.Prelude.{◌≡◌};
+ghost use Rattle.bank_lines.specs.EdacReports.{edac_after, edac_next, edac_told, no_edac, plain_next, plain_told, printed_by_edac, marked_told};
+
+use crate::edac_line::EdacLine;
+use crate::log_line::{LogLine, MarkedLine, Print};
+use ras_klog::KlogLine;
+
+// How far EDAC's report in work has come.
+#[derive(Clone, Copy, Debug, PartialEq, Eq)]
+pub(crate) enum EdacReport {
+    // There is none.
+    Idle,
+    // It began.
+    Begun,
+    // Its counter came.
+    Counted(u64),
+    // Its address came too.
+    Placed { tsc: u64, addr: u64 },
+    // All its registers came, and were told.
+    Told,
+}
+
+impl EdacReport {
+    // Before a log's first line.
+    pub(crate) fn new() -> EdacReport
+        ensures { result ≡ no_edac }
+    {
+        EdacReport::Idle
+    }
+
+    // Takes a line, and returns what it tells.
+    pub(crate) fn step(&mut self, line: MarkedLine) -> LogLine
+        ensures told { result ≡ marked_told self.old line }
+        ensures report { self.new ≡ edac_after self.old line }
+    {
+        match line {
+            MarkedLine::Plain(line) => {
+                let told = plain_told(*self, line);
+                *self = plain_next(*self, line);
+                told
+            }
+            MarkedLine::Edac { line, stamp } => {
+                let told = edac_told(*self, line, stamp);
+                *self = edac_next(*self, line);
+                told
+            }
+        }
+    }
+}
+
+// What a line with the kernel's own text tells: it goes on no report of EDAC.
+fn plain_told(report: EdacReport, line: LogLine) -> LogLine
+    ensures { result ≡ plain_told report line }
+{
+    match (report, line) {
+        (EdacReport::Idle, _)
+        | (
+            _,
+            LogLine::Nothing
+            | LogLine::Unread
+            | LogLine::Part {
+                line: KlogLine::Start { .. },
+                ..
+            },
+        ) => line,
+        _ => LogLine::Unread,
+    }
+}
+
+// EDAC's report in work after such a line.
+fn plain_next(report: EdacReport, line: LogLine) -> EdacReport
+    ensures { result ≡ plain_next report line }
+{
+    match line {
+        LogLine::Part {
+            line: KlogLine::Start { .. },
+            ..
+        } => EdacReport::Idle,
+        _ => report,
+    }
+}
+
+// What a line of EDAC's tells: of the registers' lines the last tells all three.
+fn edac_told(report: EdacReport, line: EdacLine, stamp: Option<u64>) -> LogLine
+    ensures { result ≡ edac_told report line stamp }
+{
+    match (report, line) {
+        (
+            _,
+            EdacLine::Start {
+                cpu,
+                mcg,
+                bank,
+                status,
+            },
+        ) => part(
+            KlogLine::Start {
+                cpu,
+                mcg,
+                bank,
+                status,
+            },
+            stamp,
+            0,
+        ),
+        (EdacReport::Begun, EdacLine::Tsc(_)) | (EdacReport::Counted(_), EdacLine::Addr(_)) => {
+            LogLine::Nothing
+        }
+        (EdacReport::Placed { tsc, addr }, EdacLine::Misc(misc)) => {
+            part(KlogLine::Tsc { tsc, addr, misc }, stamp, 0)
+        }
+        (EdacReport::Told, EdacLine::Processor { vendor, seconds }) => {
+            part(KlogLine::Processor { seconds }, stamp, vendor)
+        }
+        _ => LogLine::Unread,
+    }
+}
+
+// A line of a report that EDAC printed.
+fn part(line: KlogLine, stamp: Option<u64>, vendor: u64) -> LogLine
+    ensures { result ≡ LogLine.Part line (printed_by_edac stamp) vendor }
+{
+    LogLine::Part {
+        line,
+        print: Print {
+            stamp,
+            by_edac: true,
+        },
+        vendor,
+    }
+}
+
+// EDAC's report in work after such a line.
+fn edac_next(report: EdacReport, line: EdacLine) -> EdacReport
+    ensures { result ≡ edac_next report line }
+{
+    match (report, line) {
+        (_, EdacLine::Start { .. }) => EdacReport::Begun,
+        (EdacReport::Begun, EdacLine::Tsc(tsc)) => EdacReport::Counted(tsc),
+        (EdacReport::Counted(tsc), EdacLine::Addr(addr)) => EdacReport::Placed { tsc, addr },
+        (EdacReport::Placed { .. }, EdacLine::Misc(_)) => EdacReport::Told,
+        (EdacReport::Told, EdacLine::Processor { .. }) => EdacReport::Idle,
+        (report, _) => report,
+    }
+}

@@ -1,0 +1,5 @@
+mod LayoutLemmas
+mod ReadingLemmas
+mod LawLemmas
+mod TextLemmas
+mod PrintingLemmas

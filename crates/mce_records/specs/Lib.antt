@@ -1,0 +1,4 @@
+pub mod Layout
+pub mod Records
+pub mod Printing
+pub mod Steps

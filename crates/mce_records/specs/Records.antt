@@ -1,0 +1,52 @@
+-- The line that is printed of a record.
+use Rattle.std.specs.Prelude.{ℕ, ◌==◌, List, [], ◌∷◌, ◌++◌, codes, decimal, length, take, None, if◌then◌else◌}
+use Rattle.std.specs.Option.{option_map_or}
+use Rattle.ras_facts.specs.declared.bank.BankReport.{BankReport}
+use Rattle.ras_script.specs.SplittingLaws.{script_of}
+use Rattle.bank_lines.specs.Finding.{found_of}
+use Rattle.bank_lines.specs.LogGroups.{with_counter}
+use Rattle.bank_lines.specs.Texts.{found_text}
+use Rattle.bank_lines.specs.Trace.{event_report}
+use Rattle.bank_lines.specs.declared.event.TraceEvent.{TraceEvent}
+use Rattle.bank_lines.specs.declared.found.Finding.{Finding}
+use Rattle.bank_lines.specs.declared.found.Finding.TheVariants.{Foreign, Nothing}
+use Rattle.mce_records.specs.Layout.{event_of}
+use Rattle.mce_records.specs.declared.printing.TheConstants.{MOST_BYTES}
+
+-- Its report. An error that was found by polling has no counter, and a record has no stamp: it gets the
+-- one that it would have in a log without stamps.
+abbrev pub record_report : ℕ → TraceEvent → BankReport
+record_report boot event = with_counter 0 None (event_report boot event event.tsc)
+
+abbrev pub record_found : ℕ → TraceEvent → Finding
+record_found boot event =
+    if event.vendor == 0 then found_of (record_report boot event)
+    else Foreign event.vendor event.cpu event.bank
+
+-- ---- comments
+
+-- of bytes that are no record
+abbrev pub unread_record : ℕ → List ℕ
+unread_record bytes = codes "# unread mce bytes=" ++ decimal bytes
+
+-- of a record of a bank that holds no error
+abbrev pub empty_record : TraceEvent → List ℕ
+empty_record event = codes "# no error cpu=" ++ decimal event.cpu ++ codes " bank=" ++ decimal event.bank
+
+-- ---- all that is printed
+
+abbrev pub finding_text : TraceEvent → Finding → List ℕ
+finding_text event Nothing = script_of (empty_record event ∷ [])
+finding_text event found = found_text 0 found
+
+abbrev pub saved_text : ℕ → TraceEvent → List ℕ
+saved_text boot event = finding_text event (record_found boot event)
+
+-- of these bytes
+abbrev pub record_text : ℕ → List ℕ → List ℕ
+record_text boot bytes =
+    option_map_or (saved_text boot) (event_of bytes) (script_of (unread_record (length bytes) ∷ []))
+
+-- Of an input, which is read up to one byte behind the longest record.
+abbrev pub record_output : ℕ → List ℕ → List ℕ
+record_output boot input = record_text boot (take MOST_BYTES input)

@@ -1,0 +1,2 @@
+-- What only proofs use: no public clause comes to it.
+pub mod Reading

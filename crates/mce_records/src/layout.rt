@@ -1,0 +1,41 @@
+//! What the bytes of a record tell.
+
+ghost use Rattle.std.specs.Prelude.{◌≡◌};
+ghost use Rattle.mce_records.specs.Layout.{event_of, is_length};
+
+use bank_lines::TraceEvent;
+use ras_base::little_endian::{u32_at, u64_at};
+
+/// Returns what the bytes of the kernel's `struct mce` tell (arch/x86/include/uapi/asm/mce.h). None
+/// if there are not as many of them as the struct of some kernel has, 88, 104, 112, 120 or 128, or
+/// if the CPU's number is above 65,535. It takes no memory.
+pub fn event_of(bytes: &[u8]) -> Option<TraceEvent>
+    ensures { result ≡ event_of bytes.now }
+{
+    if !is_length(bytes.len()) {
+        return None;
+    }
+    let cpu = u32_at(bytes, 68);
+    if cpu > u32::from(u16::MAX) {
+        return None;
+    }
+    Some(TraceEvent {
+        vendor: u64::from(bytes[56]),
+        cpu: cpu as u16,
+        bank: bytes[65],
+        seconds: u64_at(bytes, 48),
+        tsc: u64_at(bytes, 40),
+        cap: u64_at(bytes, 80),
+        mcg: u64_at(bytes, 24),
+        status: u64_at(bytes, 0),
+        addr: u64_at(bytes, 16),
+        misc: u64_at(bytes, 8),
+    })
+}
+
+// Whether the struct of some kernel has so many bytes.
+fn is_length(length: usize) -> bool
+    ensures { result ≡ is_length length }
+{
+    matches!(length, 88 | 104 | 112 | 120 | 128)
+}
