@@ -73,6 +73,8 @@ pub fn take_line<B: Board>(
     ensures faults { Causes BoardCause result (B.faults board.old) (B.faults board.new) }
 {
     match read_line(alloc, bytes) {
+        // Most lines of a long script may be comments, so these come no further.
+        Ok(Line::Nothing) => Ok(()),
         Ok(line) => take_read(alloc, number, line, run, board),
         Err(refused) => Err(Exit::of_unread(number, refused)),
     }

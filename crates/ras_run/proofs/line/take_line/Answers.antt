@@ -1,11 +1,28 @@
+use Rattle.std.proofs.Common.{Ok, refl}
 use Rattle.board_core.specs.Doing.{looks}
+use Rattle.ras_script.specs.declared.line.Line.TheVariants as asks
 use Rattle.ras_run.proofs.PlaceLemmas.{at_place, takes_line}
 use Rattle.ras_run.proofs.ShortLineLemmas.{read_short}
-use Rattle.ras_run.proofs.StepLemmas.{unread}
+use Rattle.ras_run.proofs.StepLemmas.{nothing_in, unread}
 use Rattle.ras_run.proofs.line.take_line.Goals as goal
 
 pub take_read-requires-clause-short : goal.take_read-requires-clause-short
 take_read-requires-clause-short g c = read_short c.args.bytes.now c.in-Ok.line c.requires.short c.in-Ok.ensures.read
+
+pub returns-in-Ok-Nothing-clause-takes : goal.returns-in-Ok-Nothing-clause-takes
+returns-in-Ok-Nothing-clause-takes g c = λ start before is t at board.
+    let see = looks g.B.Board.told g.B.Board.clock g.B.Board.faults in
+    let run = c.args.run.now in
+    rw (c.in-Ok-Nothing.ensures.read, c.in-Ok-Nothing.field-0-is)
+    (takes_line start before c.args.number asks.Nothing (Ok tt) run
+    (at_place see start before c.args.number asks.Nothing (Ok tt) run run t c.args.board.now c.args.board.now is board (λ drivable. nothing_in see run run c.args.number t c.args.board.now refl refl)).takes)
+
+pub returns-in-Ok-Nothing-clause-does : goal.returns-in-Ok-Nothing-clause-does
+returns-in-Ok-Nothing-clause-does g c = λ start before is t at board.
+    let see = looks g.B.Board.told g.B.Board.clock g.B.Board.faults in
+    let run = c.args.run.now in
+    rw (c.in-Ok-Nothing.ensures.read, c.in-Ok-Nothing.field-0-is)
+    (at_place see start before c.args.number asks.Nothing (Ok tt) run run t c.args.board.now c.args.board.now is board (λ drivable. nothing_in see run run c.args.number t c.args.board.now refl refl)).does
 
 pub returns-in-Ok-clause-takes : goal.returns-in-Ok-clause-takes
 returns-in-Ok-clause-takes g c = λ start before is t at board.
