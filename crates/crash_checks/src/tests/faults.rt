@@ -21,18 +21,18 @@ const NOTHING: Faults = &[
     (12, 12, Exit::Done, &[b"end entries=0 names=0\n"]),
 ];
 
-// The calls of the opening and of the link, the two lines, the opening again, and the last two
-// lines.
+// The calls of the opening and of the link, the two lines, the opening again, which reads the front
+// of file 0 once more to find the older file, and the last two lines.
 const RESTARTED: Faults = &[
     (1, 14, Exit::DiskFault, &[]),
     (15, 15, Exit::PrintFault, &[]),
     (16, 16, Exit::PrintFault, &[LOGGED]),
-    (17, 21, Exit::DiskFault, &[LOGGED, ONE]),
-    (22, 22, Exit::PrintFault, &[LOGGED, ONE]),
-    (23, 23, Exit::PrintFault, &[LOGGED, TWO]),
+    (17, 22, Exit::DiskFault, &[LOGGED, ONE]),
+    (23, 23, Exit::PrintFault, &[LOGGED, ONE]),
+    (24, 24, Exit::PrintFault, &[LOGGED, TWO]),
     (
-        24,
         25,
+        26,
         Exit::Done,
         &[LOGGED, TWO, b"end entries=1 names=1\n"],
     ),
