@@ -19,7 +19,7 @@ use Rattle.ras_account.specs.Accounts.{IsAccount}
 use Rattle.ras_account.specs.History.{empty}
 use Rattle.ras_journal.specs.Recovered.{Recovers, Refusal, damaged, recovered, too_long}
 use Rattle.ras_journal.specs.Appending.{Before}
-use Rattle.ras_ledger.specs.declared.ledger.Ledger.{Ledger}
+use Rattle.ras_run.specs.declared.ledger.Ledger.{Ledger}
 use Rattle.ras_recover.specs.DiskCalls.{IsBeginning, IsReading, Makes}
 use Rattle.ras_recover.specs.Opening.{Opening, standing_opened}
 use Rattle.ras_recover.specs.OpeningActs.{LeavesUnopened}

@@ -13,9 +13,9 @@ use Rattle.ras_journal.specs.declared.standing.Standing.{Standing}
 use Rattle.ras_journal.specs.Recovered.{Recovers}
 use Rattle.ras_journal.specs.Appending.{Before, append_acts, needs_switch, standing_with}
 use Rattle.ras_recover.specs.Switching.{CanSwitch, has_no_room, switch_acts, switched}
-use Rattle.ras_ledger.specs.declared.ledger.Ledger.{Ledger}
-use Rattle.ras_ledger.specs.declared.refused.KeepRefused.{KeepRefused}
-use Rattle.ras_ledger.specs.declared.refused.KeepRefused.TheVariants.{Full, Disk, NoMemory}
+use Rattle.ras_run.specs.declared.ledger.Ledger.{Ledger}
+use Rattle.ras_run.specs.declared.refused.KeepRefused.{KeepRefused}
+use Rattle.ras_run.specs.declared.refused.KeepRefused.TheVariants.{Full, Disk, NoMemory}
 
 -- A board that is modelled contains this account at this position, and a crash now leaves exactly that.
 abbrev pub Stands : Standing → State → Option Told → Clock → Type 0

@@ -2,9 +2,9 @@
 
 ghost use Rattle.std.specs.Prelude.{◌≡◌, false};
 ghost use Rattle.board_core.specs.Doing.{Does, IsMade, looks};
-ghost use Rattle.ras_ledger.specs.Keeping.{CanMake, IsFullBy, KeepsLedger, Stands, keep_end};
-ghost use Rattle.ras_ledger.specs.Keeping.{keeping_acts, lacks_room, room_acts};
-ghost use Rattle.ras_ledger.specs.Keeping.{standing_kept, standing_roomy};
+ghost use Rattle.ras_run.specs.Keeping.{CanMake, IsFullBy, KeepsLedger, Stands, keep_end};
+ghost use Rattle.ras_run.specs.Keeping.{keeping_acts, lacks_room, room_acts};
+ghost use Rattle.ras_run.specs.Keeping.{standing_kept, standing_roomy};
 
 use crate::KeepRefused;
 use board_core::Board;

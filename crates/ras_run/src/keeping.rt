@@ -9,9 +9,9 @@ ghost use Rattle.ras_facts.specs.declared.entry.Entry.{Entry};
 ghost use Rattle.ras_journal.specs.Appending.{Links};
 ghost use Rattle.ras_journal.specs.Recovered.{HasFewLinks, IsAt};
 ghost use Rattle.ras_journal.specs.declared.standing.Standing.{Standing};
-ghost use Rattle.ras_ledger.specs.Keeping.{CanMake, Keeping, after_keeping};
-ghost use Rattle.ras_ledger.specs.Keeping.{keeping_acts, lacks_room, standing_kept};
-ghost use Rattle.ras_ledger.specs.KeepingCalls.{IsKeeping};
+ghost use Rattle.ras_run.specs.Keeping.{CanMake, Keeping, after_keeping};
+ghost use Rattle.ras_run.specs.Keeping.{keeping_acts, lacks_room, standing_kept};
+ghost use Rattle.ras_run.specs.KeepingCalls.{IsKeeping};
 
 /// What keeping a link leaves, by its acts, if a switch that is due can be made and has room.
 pub fn keeping_laws()

@@ -25,11 +25,11 @@ use Rattle.ras_recover.specs.Formatting.{formatting_acts}
 use Rattle.ras_recover.specs.Switching.{CanSwitch, has_no_room, next_bytes, switch_acts, switched}
 use Rattle.ras_recover.proofs.FewLemmas.{switch_few, switch_few_done}
 use Rattle.ras_recover.proofs.SwitchingLemmas.{switch_ends, switch_leaves}
-use Rattle.ras_ledger.specs.declared.ledger.Ledger.{Ledger}
-use Rattle.ras_ledger.specs.declared.refused.KeepRefused.{KeepRefused}
-use Rattle.ras_ledger.specs.declared.refused.KeepRefused.TheVariants.{Full, Disk, NoMemory}
-use Rattle.ras_ledger.specs.Keeping.{CanMake, Keeping, KeepsLedger, Stands, after_keeping, keeping_acts, lacks_room, keep_refused_end, room_acts, standing_kept, standing_roomy}
-use Rattle.ras_ledger.specs.KeepingCalls.{IsKeeping, write_through_calls}
+use Rattle.ras_run.specs.declared.ledger.Ledger.{Ledger}
+use Rattle.ras_run.specs.declared.refused.KeepRefused.{KeepRefused}
+use Rattle.ras_run.specs.declared.refused.KeepRefused.TheVariants.{Full, Disk, NoMemory}
+use Rattle.ras_run.specs.Keeping.{CanMake, Keeping, KeepsLedger, Stands, after_keeping, keeping_acts, lacks_room, keep_refused_end, room_acts, standing_kept, standing_roomy}
+use Rattle.ras_run.specs.KeepingCalls.{IsKeeping, write_through_calls}
 
 -- ---- what a journal's place says of its files
 

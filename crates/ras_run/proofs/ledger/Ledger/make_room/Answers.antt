@@ -1,5 +1,5 @@
-use Rattle.ras_ledger.proofs.KeepingLemmas.{stands_shut}
-use Rattle.ras_ledger.proofs.ledger.Ledger.make_room.Goals as goal
+use Rattle.ras_run.proofs.KeepingLemmas.{stands_shut}
+use Rattle.ras_run.proofs.ledger.Ledger.make_room.Goals as goal
 
 pub switch_file-requires-clause-shut : goal.switch_file-requires-clause-shut
 switch_file-requires-clause-shut g c =

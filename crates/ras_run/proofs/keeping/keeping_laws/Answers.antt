@@ -1,5 +1,5 @@
-use Rattle.ras_ledger.proofs.KeepingLemmas.{is_keeping, keeping_ends, keeping_few, keeping_few_done, keeping_leaves}
-use Rattle.ras_ledger.proofs.laws.keeping_laws.Goals as goal
+use Rattle.ras_run.proofs.KeepingLemmas.{is_keeping, keeping_ends, keeping_few, keeping_few_done, keeping_leaves}
+use Rattle.ras_run.proofs.keeping.keeping_laws.Goals as goal
 
 pub returns-clause-moments : goal.returns-clause-moments
 returns-clause-moments c = keeping_leaves

@@ -13,12 +13,12 @@ use Rattle.ras_journal.specs.declared.standing.Standing.{Standing}
 use Rattle.ras_journal.specs.Appending.{Before, Links}
 use Rattle.ras_recover.specs.DiskCalls.{IsBeginning, Makes}
 use Rattle.ras_recover.proofs.DoneLemmas.{does_begun, does_leaves, does_whole}
-use Rattle.ras_ledger.specs.declared.ledger.Ledger.{Ledger}
-use Rattle.ras_ledger.specs.declared.refused.KeepRefused.{KeepRefused}
-use Rattle.ras_ledger.specs.declared.refused.KeepRefused.TheVariants.{Full, Disk, NoMemory}
-use Rattle.ras_ledger.specs.Keeping.{CanMake, IsFullBy, Keeping, KeepsLedger, after_keeping, keep_end, keeping_acts, lacks_room, standing_kept}
-use Rattle.ras_ledger.specs.KeepingCalls.{IsKeeping, write_through_calls}
-use Rattle.ras_ledger.proofs.KeepingLemmas.{is_keeping, keeping_ends, keeping_leaves}
+use Rattle.ras_run.specs.declared.ledger.Ledger.{Ledger}
+use Rattle.ras_run.specs.declared.refused.KeepRefused.{KeepRefused}
+use Rattle.ras_run.specs.declared.refused.KeepRefused.TheVariants.{Full, Disk, NoMemory}
+use Rattle.ras_run.specs.Keeping.{CanMake, IsFullBy, Keeping, KeepsLedger, after_keeping, keep_end, keeping_acts, lacks_room, standing_kept}
+use Rattle.ras_run.specs.KeepingCalls.{IsKeeping, write_through_calls}
+use Rattle.ras_run.proofs.KeepingLemmas.{is_keeping, keeping_ends, keeping_leaves}
 
 not_full : (result : Result (Unit {0}) KeepRefused) → {lacks : Bool} → IsFullBy result lacks → IsMade (keep_end result) → ¬ IsTrue lacks
 not_full (Ok done) room made = room

@@ -5,9 +5,9 @@ use Rattle.board_core.specs.Doing.{broke, looks, went_well}
 use Rattle.board_core.proofs.DoingLemmas.{does_first, does_then}
 use Rattle.ras_journal.specs.View.{JournalView}
 use Rattle.ras_journal.specs.Appending.{append_acts, standing_with}
-use Rattle.ras_ledger.specs.Keeping.{keep_refused_end, room_acts, standing_roomy}
-use Rattle.ras_ledger.proofs.KeepingLemmas.{is_bad, keeps_not, roomy, roomy_gate}
-use Rattle.ras_ledger.proofs.ledger.Ledger.keep.Goals as goal
+use Rattle.ras_run.specs.Keeping.{keep_refused_end, room_acts, standing_roomy}
+use Rattle.ras_run.proofs.KeepingLemmas.{is_bad, keeps_not, roomy, roomy_gate}
+use Rattle.ras_run.proofs.ledger.Ledger.keep.Goals as goal
 
 pub append-requires-clause-usable : goal.append-requires-clause-usable
 append-requires-clause-usable g c = ap (λ (v : JournalView). v.failed) c.in_ok-make_room.ensures.ledger.1
