@@ -11,7 +11,7 @@ use Rattle.ras_texts.specs.Text.{end_line}
 use Rattle.ras_exit.specs.declared.exit.Exit.{Exit}
 use Rattle.ras_exit.specs.declared.exit.Exit.TheVariants.{Damaged, DiskFault, NoMemory, TooLong}
 use Rattle.ras_exit.specs.Endings.{IsAnswer}
-use Rattle.ras_listing.specs.Reporting.{IsReportExit, exit_by, output_by}
+use Rattle.ras_daemon.specs.Reporting.{IsReportExit, exit_by, output_by}
 
 -- how a report ends over files that weren't recovered: by an answer, or cut short
 abbrev pub unrecovered : OpenRefused → Result Exit Exit

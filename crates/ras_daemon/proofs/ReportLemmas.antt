@@ -22,8 +22,8 @@ use Rattle.ras_exit.specs.Endings.{IsCut}
 use Rattle.ras_exit.specs.StopLine.{stop_line}
 use Rattle.ras_exit.proofs.DeviceLemmas.{device_by}
 use Rattle.ras_exit.proofs.EndingLemmas.{on_answer, on_cut}
-use Rattle.ras_listing.specs.Steps.Answering.{IsCutBy, IsReportAnswer, IsSaid, stop_mark, unrecovered, whole_listing}
-use Rattle.ras_listing.specs.Reporting.{ReportMoment, Reports, exit_by, report_exit, report_output}
+use Rattle.ras_daemon.specs.Steps.Answering.{IsCutBy, IsReportAnswer, IsSaid, stop_mark, unrecovered, whole_listing}
+use Rattle.ras_daemon.specs.Reporting.{ReportMoment, Reports, exit_by, report_exit, report_output}
 
 -- ---- what is said
 

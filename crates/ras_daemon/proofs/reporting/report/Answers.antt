@@ -3,8 +3,8 @@ use Rattle.board_core.specs.Doing.{looks}
 use Rattle.ras_exit.specs.declared.exit.Exit.TheVariants.{PrintFault}
 use Rattle.ras_exit.proofs.DeviceLemmas.{device_goes_on}
 use Rattle.ras_exit.proofs.PrintLemmas.{not_printed, print_stops, printed}
-use Rattle.ras_listing.proofs.ReportLemmas.{cut_reports, fault_is, is_cut, printed_moments, printed_reports, read_device, says_here, unless_disk, unprinted_reports}
-use Rattle.ras_listing.proofs.reporting.report.Goals as goal
+use Rattle.ras_daemon.proofs.ReportLemmas.{cut_reports, fault_is, is_cut, printed_moments, printed_reports, read_device, says_here, unless_disk, unprinted_reports}
+use Rattle.ras_daemon.proofs.reporting.report.Goals as goal
 
 pub returns-in-Err-clause-reports : goal.returns-in-Err-clause-reports
 returns-in-Err-clause-reports g c = cut_reports c.args.listing c.in-Err.exit _ _ (is_cut _ _ c.in-Err.ensures.cut) c.recover.ensures.told

@@ -9,8 +9,8 @@ ghost use Rattle.ras_recover.specs.Recovering.{TellsHeld, open_failure};
 ghost use Rattle.ras_exit.specs.Causes.{BoardCause};
 ghost use Rattle.ras_exit.specs.StopLine.{stop_line};
 ghost use Rattle.board_core.specs.Device.{LeavesDevice};
-ghost use Rattle.ras_listing.specs.Steps.Answering.{IsCutBy, IsReportAnswer, IsSaid, stop_mark, unrecovered, whole_listing};
-ghost use Rattle.ras_listing.specs.Reporting.{IsReportExit, ReportMoment, Reports, report_output};
+ghost use Rattle.ras_daemon.specs.Steps.Answering.{IsCutBy, IsReportAnswer, IsSaid, stop_mark, unrecovered, whole_listing};
+ghost use Rattle.ras_daemon.specs.Reporting.{IsReportExit, ReportMoment, Reports, report_output};
 
 use board_core::Board;
 use listing_texts::{Listing, push_listing};
