@@ -4,8 +4,8 @@ use Rattle.std.specs.List.{range_with_len}
 use Rattle.cper_records.specs.Descriptors.{section_at}
 use Rattle.ras_facts.specs.Reported.{record_item}
 use Rattle.ras_facts.proofs.ItemLemmas.{AreItems}
-use Rattle.ras_reports.specs.Reports.{section_detail}
-use Rattle.ras_reports.proofs.record.report_of_record.Given as goal
+use Rattle.ras_facts.specs.Reports.{section_detail}
+use Rattle.ras_facts.proofs.record.report_of_record.Given as goal
 
 abbrev pub invariant-loop-i : goal.invariant-loop-i
 invariant-loop-i l =

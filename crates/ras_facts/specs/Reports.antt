@@ -1,7 +1,7 @@
 -- What a bank, a record and a status block report: a fact, and a detail for each of its items.
-use Rattle.std.specs.Prelude.{◌≡◌, ℕ, List, [], ◌∷◌, length, map, unwrap_or, Option, Ok, Err}
+use Rattle.std.specs.Prelude.{◌≡◌, ℕ, List, [], ◌∷◌, length, map, Option, Ok, Err}
 use Rattle.std.specs.List.{range_with_len}
-use Rattle.std.specs.Option.{option_map, option_and_then}
+use Rattle.std.specs.Option.{option_map}
 use Rattle.cper_sections.specs.Sections.{section_of}
 use Rattle.cper_sections.specs.declared.sections.Section as Sections
 use Rattle.cper_sections.specs.declared.sections.Section.{Section}
@@ -16,10 +16,9 @@ use Rattle.ras_facts.specs.Reported.{Read, record_fact, block_fact, section_labe
 use Rattle.ras_facts.specs.declared.bank.BankReport.{BankReport}
 use Rattle.ras_facts.specs.declared.items.Item.{Item}
 use Rattle.ras_facts.specs.declared.name.Name.{Name}
-use Rattle.ras_panic.specs.Reading.{panic_report}
-use Rattle.ras_reports.specs.declared.details.Detail.{Detail}
-use Rattle.ras_reports.specs.declared.details.Detail.TheVariants.{Bank, Memory, Processor, X64, Other}
-use Rattle.ras_reports.specs.declared.details.Report.{Report}
+use Rattle.ras_facts.specs.declared.details.Detail.{Detail}
+use Rattle.ras_facts.specs.declared.details.Detail.TheVariants.{Bank, Memory, Processor, X64, Other}
+use Rattle.ras_facts.specs.declared.details.Report.{Report}
 
 -- a bank's report: the fact of its snapshot, and the snapshot for the fact's one item
 abbrev pub bank_report : BankReport → List Row → Option Report
@@ -57,11 +56,6 @@ block_details block = map entry_detail block.entries
 abbrev pub block_report : List Row → Name → ℕ → BlockParts → Option Report
 block_report rows name seconds block =
     option_map (λ fact. record { fact = fact; details = block_details block }) (block_fact rows name seconds block)
-
--- the report of a record of the store that was read at this time; a panic record's is the bank's own
-abbrev pub stored_report : List Row → ℕ → List ℕ → Report
-stored_report rows seconds own =
-    unwrap_or (option_and_then (λ bank. bank_report bank rows) (panic_report own)) (record_report rows seconds own)
 
 -- a report has a detail for each of its items
 abbrev pub TellsOfEachItem : Report → Type 0

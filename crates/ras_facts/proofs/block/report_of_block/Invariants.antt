@@ -2,8 +2,8 @@
 use Rattle.std.proofs.Common.{◌≡◌, map, take}
 use Rattle.ras_facts.specs.Reported.{entry_item}
 use Rattle.ras_facts.proofs.ItemLemmas.{AreItems}
-use Rattle.ras_reports.specs.Reports.{entry_detail}
-use Rattle.ras_reports.proofs.block.report_of_block.Given as goal
+use Rattle.ras_facts.specs.Reports.{entry_detail}
+use Rattle.ras_facts.proofs.block.report_of_block.Given as goal
 
 abbrev pub invariant-loop-i : goal.invariant-loop-i
 invariant-loop-i l =

@@ -11,10 +11,10 @@ use Rattle.ras_facts.specs.Facts.{bank_item, bank_name, cap_in, status_in}
 use Rattle.ras_facts.specs.Reported.{record_item}
 use Rattle.ras_facts.specs.declared.bank.BankReport.{BankReport}
 use Rattle.ras_panic.specs.Reading.{panic_report}
-use Rattle.ras_reports.specs.Reports.{bank_report, record_report}
-use Rattle.ras_reports.specs.declared.details.Detail.TheVariants.{Bank}
-use Rattle.ras_reports.specs.declared.details.Report.{Report}
-use Rattle.ras_reports.proofs.laws.stored_reports_are_short.Goals as goal
+use Rattle.ras_facts.specs.Reports.{bank_report, record_report}
+use Rattle.ras_facts.specs.declared.details.Detail.TheVariants.{Bank}
+use Rattle.ras_facts.specs.declared.details.Report.{Report}
+use Rattle.ras_panic.proofs.laws.stored_reports_are_short.Goals as goal
 
 record_few : (rows : List Row) (seconds : ℕ) (own : List ℕ) → IsRecord own → length own ≤ 16384 → length (record_report rows seconds own).fact.items ≤ 225
 record_few rows seconds own is short =

@@ -4,9 +4,9 @@ use Rattle.cper_records.specs.Descriptors.{section_at}
 use Rattle.cper_sections.specs.Sections.{section_of}
 use Rattle.ras_facts.specs.Reported.{Read, section_item, record_item}
 use Rattle.ras_facts.proofs.ItemLemmas.{items_count, numbered_more, valid_more}
-use Rattle.ras_reports.specs.Reports.{section_detail}
-use Rattle.ras_reports.specs.declared.details.Detail.{Detail}
-use Rattle.ras_reports.proofs.record.report_of_record.Goals as goal
+use Rattle.ras_facts.specs.Reports.{section_detail}
+use Rattle.ras_facts.specs.declared.details.Detail.{Detail}
+use Rattle.ras_facts.proofs.record.report_of_record.Goals as goal
 
 pub loop-i-preserved : goal.loop-i-preserved
 loop-i-preserved c =

@@ -1,11 +1,11 @@
 //! The details of a report's items.
 
 ghost use Rattle.std.specs.Prelude.{◌≡◌, ◌++◌, [], ◌∷◌, IfOk, OnOk, OnErr};
-ghost use Rattle.ras_reports.specs.Reports.{detail_of};
+ghost use Rattle.ras_facts.specs.Reports.{detail_of};
 
+use crate::{BankReport, Fact};
 use cper_sections::{MemSection, ProcSection, Section, X64Section};
 use ras_base::NoMemory;
-use ras_facts::{BankReport, Fact};
 use std::alloc::Global;
 use std::marker::Model;
 use uuid::Uuid;
@@ -45,7 +45,7 @@ pub struct Details {
 
 impl Model for Details {
     ghost use Rattle.std.specs.Prelude.{List};
-    ghost use Rattle.ras_reports.specs.declared.details.Detail.{Detail};
+    ghost use Rattle.ras_facts.specs.declared.details.Detail.{Detail};
 
     ghost Value = { List Detail };
 

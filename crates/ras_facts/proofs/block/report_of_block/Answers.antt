@@ -5,8 +5,8 @@ use Rattle.apei_sources.specs.Entries.{entry_guid, entry_data}
 use Rattle.cper_sections.specs.Sections.{section_of}
 use Rattle.ras_facts.specs.Reported.{Read, entry_item, section_item}
 use Rattle.ras_facts.proofs.ItemLemmas.{mapped_more, valid_more}
-use Rattle.ras_reports.specs.Reports.{entry_detail, section_detail}
-use Rattle.ras_reports.proofs.block.report_of_block.Goals as goal
+use Rattle.ras_facts.specs.Reports.{entry_detail, section_detail}
+use Rattle.ras_facts.proofs.block.report_of_block.Goals as goal
 
 pub loop-i-preserved : goal.loop-i-preserved
 loop-i-preserved c =

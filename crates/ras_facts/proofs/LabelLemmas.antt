@@ -13,7 +13,7 @@ use Rattle.dimm_topology.specs.declared.row.Row.{Row}
 use Rattle.ras_facts.specs.Reported.{Read, entry_item, record_item, section_label}
 use Rattle.ras_facts.specs.declared.items.Item.{Item}
 use Rattle.ras_facts.specs.declared.name.Name.{Name}
-use Rattle.ras_reports.specs.Reports.{OwnLabels, block_details, block_report, label_of_detail, record_report, section_detail}
+use Rattle.ras_facts.specs.Reports.{OwnLabels, block_details, block_report, label_of_detail, record_report, section_detail}
 
 -- the label of a section's item is that of its detail
 label_of_read : (rows : List Row) (read : Read) → section_label rows read ≡ label_of_detail rows (section_detail read)
