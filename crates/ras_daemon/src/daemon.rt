@@ -24,6 +24,7 @@ ghost use Rattle.ras_daemon.specs.Task.{ReadsBy, task_of};
 use crate::ending::last_line;
 use crate::help::{help_text, version_line};
 use crate::load::load;
+use crate::reporting::report;
 use crate::running::run;
 use crate::{RasWord, Task, task_of};
 use bank_lines::{LogFilter, TraceFilter};
@@ -33,7 +34,6 @@ use cper_pcie::PcieFilter;
 use line_filters::filter_lines;
 use ras_exit::{Exit, usage_line};
 use ras_klog::KlogFilter;
-use ras_listing::report;
 use std::alloc::Global;
 
 /// Runs the command given by `words`, reading its input from `source` and keeping the account on

@@ -24,8 +24,7 @@ use ras_account::Account;
 use ras_base::NoMemory;
 use ras_events::Settings;
 use ras_exit::Exit;
-use ras_ledger::Ledger;
-use ras_run::{Run, open, print_standing};
+use ras_run::{Ledger, Run, open, print_standing};
 use std::alloc::Global;
 
 /// Runs a script: opens the journal, prints the outstanding orders, processes the lines of

@@ -22,7 +22,7 @@ use dimm_topology::Topology;
 use erst_driver::{Driver, DriverRefused};
 use ras_base::NoMemory;
 use ras_events::Made;
-use ras_reports::report_of_stored;
+use ras_panic::report_of_stored;
 use std::alloc::Global;
 
 /// What was found in the record store.

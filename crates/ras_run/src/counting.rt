@@ -16,10 +16,10 @@ ghost use Rattle.ras_texts.specs.OrderRoom.{HasOrderRoom};
 ghost use Rattle.ras_texts.specs.Orders.{order_lines};
 ghost use Rattle.ras_texts.specs.Text.{done_line};
 
+use crate::{KeepRefused, Ledger};
 use board_core::Board;
 use ras_events::{Made, News, PrepareRefused, Prepared, count, prepare};
 use ras_exit::{Exit, print};
-use ras_ledger::{KeepRefused, Ledger};
 use std::alloc::Global;
 
 /// Counts what was made of the line of this number: all memory is taken first, then the news are

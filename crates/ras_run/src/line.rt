@@ -21,19 +21,18 @@ ghost use Rattle.ras_run.specs.Taking.{IsPrintExit, IsReady, IsRunAfter, LedgerS
 ghost use Rattle.ras_run.specs.Taking.{Reopens, TakesLine};
 ghost use Rattle.ras_texts.specs.Text.{known_line};
 
-use crate::Run;
 use crate::counting::take_made;
 use crate::opening::open;
 use crate::polling::poll_store;
 use crate::printing::print_event;
 use crate::putting::{put_record, save_record};
+use crate::{Ledger, Run};
 use board_core::Board;
 use erst_driver::Driver;
 use ras_account::Account;
 use ras_events::{Event, EventRefused, LineRefusal, Settings};
 use ras_exit::Exit;
 use ras_facts::Name;
-use ras_ledger::Ledger;
 use ras_script::{Line, read_line};
 use ras_texts::{done_line, push_done, push_known, standing_lines};
 use std::alloc::Global;

@@ -12,10 +12,10 @@ ghost use Rattle.ras_exit.specs.Acts.{part_end, print_acts};
 ghost use Rattle.ras_exit.specs.Endings.{OnAnswer};
 ghost use Rattle.ras_run.specs.Taking.{EndsOpening, IsPrintExit, Opened, unopened_exit};
 
+use crate::Ledger;
 use board_core::Board;
 use ras_account::Account;
 use ras_exit::{Exit, print};
-use ras_ledger::Ledger;
 use ras_recover::{OpenRefused, open_journal};
 use ras_texts::standing_lines;
 use std::alloc::Global;

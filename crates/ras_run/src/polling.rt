@@ -7,11 +7,12 @@ ghost use Rattle.erst_interp.specs.Admission.{IsAdmittedTable};
 ghost use Rattle.ras_events.specs.Making.{polled};
 ghost use Rattle.ras_exit.specs.Causes.{BoardCause, Causes};
 ghost use Rattle.ras_exit.specs.Endings.{IsStop};
-ghost use Rattle.ras_ledger.specs.declared.ledger.Ledger.{Ledger};
+ghost use Rattle.ras_run.specs.declared.ledger.Ledger.{Ledger};
 ghost use Rattle.ras_records.specs.Polls.{readable_ids};
 ghost use Rattle.ras_run.specs.LineActs.{DoesPoll};
 ghost use Rattle.ras_run.specs.Taking.{IsReady};
 
+use crate::Ledger;
 use crate::counting::tell_made;
 use crate::driving::driver_exit;
 use board_core::Board;
@@ -19,7 +20,6 @@ use dimm_topology::Topology;
 use erst_driver::Driver;
 use erst_store::RANGE_LENGTH;
 use ras_exit::{Exit, print};
-use ras_ledger::Ledger;
 use ras_records::{Looked, clear_all, look};
 use std::alloc::Global;
 

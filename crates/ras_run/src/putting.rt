@@ -11,7 +11,7 @@ ghost use Rattle.ras_events.specs.Sizes.{CanBeSaved};
 ghost use Rattle.ras_exit.specs.Acts.{print_acts};
 ghost use Rattle.ras_exit.specs.Causes.{BoardCause, Causes};
 ghost use Rattle.ras_exit.specs.Endings.{IsStop};
-ghost use Rattle.ras_ledger.specs.declared.ledger.Ledger.{Ledger};
+ghost use Rattle.ras_run.specs.declared.ledger.Ledger.{Ledger};
 ghost use Rattle.ras_run.specs.LineActs.{DoesAsking};
 ghost use Rattle.ras_run.specs.Status.{put_refusal, saving_refusal};
 ghost use Rattle.ras_run.specs.Taking.{EndsUnless, IsReady};

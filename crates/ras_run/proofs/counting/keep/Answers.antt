@@ -5,8 +5,8 @@ use Rattle.ras_account.specs.Continued.{account_after_all}
 use Rattle.ras_account.specs.View.{View}
 use Rattle.ras_events.specs.Preparing.{CanTake}
 use Rattle.ras_journal.specs.View.{JournalView}
-use Rattle.ras_ledger.specs.Keeping.{Stands, keeping_acts, standing_kept}
-use Rattle.ras_ledger.proofs.KeepingLemmas.{keeping_ends}
+use Rattle.ras_run.specs.Keeping.{Stands, keeping_acts, standing_kept}
+use Rattle.ras_run.proofs.KeepingLemmas.{keeping_ends}
 use Rattle.ras_run.specs.Taking.{CanBeKept}
 use Rattle.ras_run.proofs.NewsLemmas.{acts_of, links_of}
 use Rattle.ras_run.proofs.StandsLemmas.{stands_on}
