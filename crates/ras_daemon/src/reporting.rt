@@ -26,16 +26,16 @@ use std::alloc::Global;
 /// line instead, as a comment for metrics. It writes nothing, and reads no script.
 pub fn report<B: Board>(alloc: Global, listing: Listing, board: &mut B) -> Exit
     // The exit and the text follow from the files. Files and device are unchanged.
-    ensures reports { Relates (Reports listing result) (B.told board.old) (B.told board.new) }
+    ensures reports { Relates (Reports listing result) (B.seen board.old).told (B.seen board.new).told }
     // A crash leaves what a crash before may have left, or else what the model said, with a
     // beginning of the text.
-    ensures stops { (t : Told) → B.told board.old ≡ Some t
-        → Adds (ReportMoment (B.clock board.old) (report_output listing t.here) t.here)
-        (B.clock board.old) (B.clock board.new) }
+    ensures stops { (t : Told) → (B.seen board.old).told ≡ Some t
+        → Adds (ReportMoment (B.seen board.old).clock (report_output listing t.here) t.here)
+        (B.seen board.old).clock (B.seen board.new).clock }
     ensures exits { IsReportExit result }
-    ensures board { BoardCause result (B.faults board.old) (B.faults board.new) }
-    ensures device { LeavesDevice (B.told board.old) (B.told board.new)
-        (B.clock board.old) (B.clock board.new) }
+    ensures board { BoardCause result (B.seen board.old).faults (B.seen board.new).faults }
+    ensures device { LeavesDevice (B.seen board.old).told (B.seen board.new).told
+        (B.seen board.old).clock (B.seen board.new).clock }
 {
     let (exit, text) = match answer(alloc, listing, recover(alloc, board)) {
         Ok(answer) => answer,

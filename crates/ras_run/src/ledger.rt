@@ -1,7 +1,7 @@
 //! The account with its journal.
 
 ghost use Rattle.std.specs.Prelude.{◌≡◌, false};
-ghost use Rattle.board_core.specs.Doing.{Does, IsMade, looks};
+ghost use Rattle.board_core.specs.Doing.{Does, IsMade};
 ghost use Rattle.ras_run.specs.Keeping.{CanMake, IsFullBy, KeepsLedger, Stands, keep_end};
 ghost use Rattle.ras_run.specs.Keeping.{keeping_acts, lacks_room, room_acts};
 ghost use Rattle.ras_run.specs.Keeping.{standing_kept, standing_roomy};
@@ -42,9 +42,9 @@ impl Ledger {
     ) -> Result<(), KeepRefused>
         requires usable { self.old.journal.failed ≡ false }
         requires stands { Stands self.old.journal.standing self.old.account.state
-            (B.told board.old) (B.clock board.old) }
+            (B.seen board.old).told (B.seen board.old).clock }
 
-        ensures does { Does (looks B.told B.clock B.faults)
+        ensures does { Does B.seen
             (keeping_acts self.old.journal.standing self.old.account.state link.now)
             (keep_end result) board.old board.new }
         ensures can { IsMade (keep_end result)
@@ -72,8 +72,8 @@ impl Ledger {
     ) -> Result<(), KeepRefused>
         requires usable { self.old.journal.failed ≡ false }
         requires stands { Stands self.old.journal.standing self.old.account.state
-            (B.told board.old) (B.clock board.old) }
-        ensures does { Does (looks B.told B.clock B.faults)
+            (B.seen board.old).told (B.seen board.old).clock }
+        ensures does { Does B.seen
             (room_acts self.old.journal.standing self.old.account.state link.now)
             (keep_end result) board.old board.new }
         ensures can { IsMade (keep_end result)

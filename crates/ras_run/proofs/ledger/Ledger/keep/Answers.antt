@@ -1,7 +1,7 @@
 use Rattle.std.proofs.lemmas.Result.{err_from_is_err_and}
 use Rattle.std.proofs.Common.{ap, arith, false, ◌∙◌}
 use Rattle.board_core.specs.Cause.{disk_call}
-use Rattle.board_core.specs.Doing.{broke, looks, went_well}
+use Rattle.board_core.specs.Doing.{broke, went_well}
 use Rattle.board_core.proofs.DoingLemmas.{does_first, does_then}
 use Rattle.ras_journal.specs.View.{JournalView}
 use Rattle.ras_journal.specs.Appending.{append_acts, standing_with}
@@ -26,7 +26,7 @@ returns-in_err-make_room-clause-does g c =
     let p = err_from_is_err_and c.from_residual.result c.from_residual.ensures.1 in
     let s = c.args.self.now.journal.standing in
     let a = c.args.self.now.account.state in
-    rw (p.1, p.2) (does_first (looks g.B.Board.told g.B.Board.clock g.B.Board.faults) (room_acts s a c.args.link.now) (append_acts (standing_roomy s a c.args.link.now) c.args.link.now) (keep_refused_end c.in_err-make_room.field-0.0) _ _
+    rw (p.1, p.2) (does_first g.B.Board.seen (room_acts s a c.args.link.now) (append_acts (standing_roomy s a c.args.link.now) c.args.link.now) (keep_refused_end c.in_err-make_room.field-0.0) _ _
     (is_bad c.in_err-make_room.field-0.0) c.in_err-make_room.ensures.does)
 
 pub returns-in_err-make_room-clause-ledger : goal.returns-in_err-make_room-clause-ledger
@@ -41,7 +41,7 @@ returns-in-Err-Disk-clause-does g c =
     let link = c.args.link.now in
     let same = ap (λ (v : JournalView). v.standing) c.in_ok-make_room.ensures.ledger.1 in
     let does = rw c.in-Err-Disk.field-0-is at c.in-Err-Disk.ensures.does in
-    does_then (looks g.B.Board.told g.B.Board.clock g.B.Board.faults) (room_acts s a link) (append_acts (standing_roomy s a link) link) (broke disk_call) c.args.board.now c.make_room.new.board c.append.new.board c.in_ok-make_room.ensures.does tt (rw same at does)
+    does_then g.B.Board.seen (room_acts s a link) (append_acts (standing_roomy s a link) link) (broke disk_call) c.args.board.now c.make_room.new.board c.append.new.board c.in_ok-make_room.ensures.does tt (rw same at does)
 
 pub returns-in-Err-Full : goal.returns-in-Err-Full
 returns-in-Err-Full g c =
@@ -55,7 +55,7 @@ returns-in-Ok-clause-does g c =
     let a = c.args.self.now.account.state in
     let link = c.args.link.now in
     let same = ap (λ (v : JournalView). v.standing) c.in_ok-make_room.ensures.ledger.1 in
-    does_then (looks g.B.Board.told g.B.Board.clock g.B.Board.faults) (room_acts s a link) (append_acts (standing_roomy s a link) link) went_well c.args.board.now c.make_room.new.board c.append.new.board c.in_ok-make_room.ensures.does tt (rw same at c.in-Ok.ensures.does)
+    does_then g.B.Board.seen (room_acts s a link) (append_acts (standing_roomy s a link) link) went_well c.args.board.now c.make_room.new.board c.append.new.board c.in_ok-make_room.ensures.does tt (rw same at c.in-Ok.ensures.does)
 
 pub returns-in-Ok-clause-ledger : goal.returns-in-Ok-clause-ledger
 returns-in-Ok-clause-ledger g c =
