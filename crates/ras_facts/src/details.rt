@@ -1,4 +1,6 @@
 //! The details of a report's items.
+//!
+//! A detail keeps what was read rather than a text, so that no text is made of a repeated report.
 
 ghost use Rattle.std.specs.Prelude.{◌≡◌, ◌++◌, [], ◌∷◌, IfOk, OnOk, OnErr};
 ghost use Rattle.ras_facts.specs.Reports.{detail_of};

@@ -1,6 +1,8 @@
-//! Reports: the name of each, when it was made, and the errors that it lists.
+//! Reports: a fact, which is the name of the report, when it was made, and the errors that it lists,
+//! and a detail for each of these errors.
 //!
-//! The definitions in `specs/` say which fact a report gives, and what a valid fact is.
+//! The definitions in `specs/` say what a bank, a record and a status block report, and what a
+//! valid fact is.
 //!
 //! A public function with an empty body is a law: its clauses are the point.
 #![tactic(auto)]

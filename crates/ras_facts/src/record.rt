@@ -1,4 +1,4 @@
-//! The fact that a record of firmware gives.
+//! The report of a record of firmware, and its fact.
 
 ghost use Rattle.std.specs.Prelude.{◌≡◌, IfOk};
 ghost use Rattle.ras_facts.specs.Reported.{record_fact};
@@ -13,33 +13,10 @@ use dimm_topology::Topology;
 use ras_base::NoMemory;
 use std::alloc::Global;
 
-/// Returns the fact that a record gives, read at this time: an item for each section in order, with
-/// the class of the section's own severity and, for a memory section, the label by the topology and
-/// the page of its physical address. (UEFI, appendix N, "Section Descriptor".)
-///
-/// `NoMemory`: only if memory runs out.
-pub fn fact_of_record(
-    alloc: Global,
-    seconds: u64,
-    rec: &Record<'_>,
-    topology: &Topology,
-) -> Result<Fact, NoMemory>
-    ensures fact { IfOk result (λ fact. fact ≡ record_fact topology.now seconds rec.now) }
-    ensures valid { IfOk result IsValidFact }
-{
-    let mut items = Items::new(alloc);
-    for i in 0..rec.count() {
-        items.push(section_item(alloc, &rec.section(i), topology)?)?;
-    }
-    Ok(Fact {
-        name: Name::Record { id: rec.id() },
-        seconds,
-        items,
-    })
-}
-
-/// Returns the report of a record, read at this time: the fact that `fact_of_record` returns, and
-/// each section as the detail of the section's item.
+/// Returns the report of a record, read at this time. Its fact has an item for each section in
+/// order, with the class of the section's own severity and, for a memory section, the label by the
+/// topology and the page of its physical address. The section is the detail of the item. (UEFI,
+/// appendix N, "Section Descriptor".)
 ///
 /// # Errors
 ///
@@ -67,4 +44,22 @@ pub fn report_of_record(
         items,
     };
     Ok(Report { fact, details })
+}
+
+/// Returns the fact of the report that `report_of_record` returns.
+///
+/// # Errors
+///
+/// `NoMemory`: only if memory runs out.
+pub fn fact_of_record(
+    alloc: Global,
+    seconds: u64,
+    rec: &Record<'_>,
+    topology: &Topology,
+) -> Result<Fact, NoMemory>
+    ensures fact { IfOk result (λ fact. fact ≡ record_fact topology.now seconds rec.now) }
+    ensures valid { IfOk result IsValidFact }
+{
+    let report = report_of_record(alloc, seconds, rec, topology)?;
+    Ok(report.fact)
 }
