@@ -41,7 +41,7 @@ returns-in_err-range_read g c =
     let m = c.operate.new.board in
     let b = c.range_read.new.self in
     let read = c.in_err-range_read.ensures in
-    let made = read_of (Err c.in_err-range_read.field-0) 0 _ range_length (see m) (see b) c.requires read.does in
+    let made = read_of (Err c.in_err-range_read.field-0.0) 0 _ range_length (see m) (see b) c.requires read.does in
     let done = fetch_failed lists (read_steps id) (see a) (see m) (see b) (rw c.read_steps-steps.ensures at c.in_ok-operate.ensures.operates)
     (one_fails (range_read 0 range_length) (g.B.Board.seen m).told (g.B.Board.seen b).told made.failed) (quiet_fails (range_read 0 range_length) (see m) (see b) made.stops made) in
     let p = err_from_is_err_and c.from_residual-in_err-range_read.result c.from_residual-in_err-range_read.ensures.1 in
