@@ -97,7 +97,8 @@ pub trait Board {
     /// between the old one and the new one.
     fn write_at(&mut self, file: FileNo, place: u64, bytes: &[u8]) -> Result<(), Failed>
         requires { IfSome (seen self.old).told (λ t. place ≤ length (file_of file t)) }
-        ensures does { ActMade (writes file place bytes.now) result (seen self.old) (seen self.new) };
+        ensures does { ActMade (writes file place bytes.now) result (seen self.old)
+            (seen self.new) };
 
     /// Makes the file durable: until its next write, a crash leaves what a read returns. The same
     /// holds of the record store until a device call changes it. After `Failed` neither is known to
