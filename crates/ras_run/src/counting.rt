@@ -16,7 +16,8 @@ ghost use Rattle.ras_texts.specs.OrderRoom.{HasOrderRoom};
 ghost use Rattle.ras_texts.specs.Orders.{order_lines};
 ghost use Rattle.ras_texts.specs.Text.{done_line};
 
-use crate::{KeepRefused, Ledger};
+use crate::Ledger;
+use crate::refused::KeepRefused;
 use board_core::Board;
 use ras_events::{Made, News, PrepareRefused, Prepared, count, prepare};
 use ras_exit::{Exit, print};
