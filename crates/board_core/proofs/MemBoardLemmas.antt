@@ -9,7 +9,7 @@ use Rattle.board_core.specs.declared.board.FileNo.{FileNo}
 use Rattle.board_core.specs.declared.board.FileNo.TheVariants.{Zero, One}
 use Rattle.board_core.specs.Cause.{Faults, Kind, FailsAs, count_of, device_call, disk_call, print_call, put_failure, with_count}
 use Rattle.board_core.specs.Clock.{LeftNow, Passes}
-use Rattle.board_core.specs.Doing.{Act, FailsAct, Made, PutMade, Seen, Settles, Tears, after_act, device, kind_of, put}
+use Rattle.board_core.specs.Doing.{Act, FailsAct, ActMade, PutMade, Seen, ActSettles, Tears, after_act, device, kind_of, put}
 use Rattle.board_core.specs.MemBoard.{Past, with_act, past_after, now_of, clock_of, State, told_of, new_board, counted, with_refusal, Faulted, Performs}
 use Rattle.board_core.specs.MemSource.{next_count}
 use Rattle.board_core.specs.Steps.ChangeLemmas.{passes_acted, store_left}
@@ -67,11 +67,11 @@ pub record Acts (act : Act) (listed old : State) : Type 0 where
   pub fails_listed : FailsAct act (told_of old) (told_of listed)
   pub stops : Passes (Tears act (Some (told_of old))) (clock_of old.past) (clock_of (with_act act old.past))
   pub stands : (left : Left) → Tears act (Some (told_of old)) left left
-  pub settles : Settles act (seen_of old) (seen_of (record listed { past = with_act act old.past }))
+  pub settles : ActSettles act (seen_of old) (seen_of (record listed { past = with_act act old.past }))
 
 module _ (act : Act) (listed old new : State) (acts : Acts act listed old) where
   failed : {T E : Type 0} (e : E) (before : State) → before.past ≡ old.past → before.faults ≡ old.faults → FailsAct act (told_of old) (told_of before) → Faulted (kind_of act) before new
-      → Made {T = T} {E = E} act (Err e) (seen_of old) (seen_of new)
+      → ActMade {T = T} {E = E} act (Err e) (seen_of old) (seen_of new)
   failed {T} {E} e before past_same faults_same told fault = record {
     told = tt;
     failed = subst (λ (s : State). FailsAct act (told_of old) (told_of s)) (sym fault.is) told;
@@ -80,13 +80,13 @@ module _ (act : Act) (listed old new : State) (acts : Acts act listed old) where
     cause = subst (λ (f : Faults). FailsAs {T = T} {E = E} (kind_of act) f new.faults (Err e)) faults_same (faulted {T = T} {E = E} (kind_of act) e before new fault);
   }
 
-  pub made_by : {T E : Type 0} (r : Result T E) → Performs (kind_of act) listed (with_act act old.past) old new r → Made act r (seen_of old) (seen_of new)
+  pub made_by : {T E : Type 0} (r : Result T E) → Performs (kind_of act) listed (with_act act old.past) old new r → ActMade act r (seen_of old) (seen_of new)
   made_by {T} {E} (Ok value) performs =
       let told : told_of (record listed { past = with_act act old.past }) ≡ after_act act (told_of old) =
       ap (λ (t : Told). record t { disk_calls = listed.disk_calls; accesses = listed.accesses }) (after-append old.past.acts (act ∷ []) old.past.first) ∙ acts.told in
       let quietly : FailsAs {T = T} {E = E} (kind_of act) old.faults listed.faults (Ok value) =
       subst (λ (f : Faults). FailsAs {T = T} {E = E} (kind_of act) old.faults f (Ok value)) (sym (ap (λ (s : State). s.faults) acts.lists)) (quiet {T = T} {E = E} (kind_of act) value old.faults) in
-      subst (λ (s : State). Made {T = T} {E = E} act (Ok value) (seen_of old) (seen_of s)) (sym performs.1) (record {
+      subst (λ (s : State). ActMade {T = T} {E = E} act (Ok value) (seen_of old) (seen_of s)) (sym performs.1) (record {
         told = ap Some told;
         failed = tt;
         stops = acts.stops;
