@@ -11,7 +11,7 @@ use Rattle.board_core.specs.Clock.{After, Clock, Adds, LeftNow, Passes, Rests, S
 use Rattle.board_core.specs.Steps.ClockLemmas.{adds_at_rest, adds_both, adds_none, adds_weaker, rests_listed, rests_on, rests_printed, rests_store, rests_stored}
 use Rattle.board_core.specs.Stop.{Becomes, InStore, Left, Same}
 use Rattle.board_core.specs.Told.{Told, Relates, Steps, StoreBy, after_put, after_reg_write, device_of}
-use Rattle.board_core.specs.Doing.{Act, DeviceCall, Does, Ended, FailsAct, FailsActs, GoesWell, IsBad, IsMade, IsSafe, ActMade, Moment, PutMade, Raises, Seen, ActSettles, BoardStays, Tears, after_act, after_acts, after_device, broke, calls, device, gave_up, kind_of, one_end, prints, put, put_acts, range_read, range_write, reg_read, reg_write, through, went_well, writes}
+use Rattle.board_core.specs.Doing.{Act, DeviceCall, Does, Ended, FailsAct, FailsActs, GoesWell, IsBad, IsMade, ActMade, Moment, PutMade, Raises, Seen, ActSettles, BoardStays, Tears, after_act, after_acts, after_device, broke, calls, device, gave_up, kind_of, one_end, prints, put, put_acts, range_read, range_write, reg_read, reg_write, through, went_well, writes}
 
 -- ---- lists of acts
 
@@ -127,7 +127,13 @@ does_stops see acts gave_up a b does t rests = subst (λ x. Adds (Moment acts t)
 
 -- ---- one act
 
-same_count : (kind : Kind) (faults : Faults) → with_count kind (count_of kind faults) faults ≡ faults
+-- One call, after which a crash leaves what the model says if a crash before did: any but a write without its sync.
+abbrev pub IsSafe : Act → Type 0
+IsSafe (through file place bytes) = ⊥
+IsSafe (writes file place bytes) = ⊥
+IsSafe act = Unit {0}
+
+pub same_count : (kind : Kind) (faults : Faults) → with_count kind (count_of kind faults) faults ≡ faults
 same_count disk_call faults = refl
 same_count device_call faults = refl
 same_count print_call faults = refl

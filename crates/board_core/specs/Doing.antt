@@ -50,7 +50,7 @@ kind_of (prints bytes) = print_call
 kind_of (calls call) = disk_call
 kind_of (device call) = device_call
 
--- ---- a call of the device: done, failed, torn by a crash
+-- ---- a call of the device: done, failed
 
 -- the model after a device call that succeeded
 abbrev pub after_device : DeviceCall → Told → Told
@@ -69,12 +69,6 @@ FailsDevice (range_read place count) old new = MayListAccess (RangeRead place co
 FailsDevice (range_write place bytes) old new =
     FailsAccess (RangeWrite place (length bytes)) (after_range_write place bytes) old new
 FailsDevice (put id bytes) old new = MayAct (after_put id bytes) old new
-
--- A crash during a device call leaves the store as before the call or as after it, if the board is modelled.
-abbrev pub TearsDevice : DeviceCall → Option Told → Left → Left → Type 0
-TearsDevice (reg_write reg value) told = InStore (StoreBy (after_reg_write reg value) told)
-TearsDevice (put id bytes) told = InStore (StoreBy (after_put id bytes) told)
-TearsDevice call told = Same
 
 -- the accesses that are listed of a device call
 abbrev pub accesses_by : DeviceCall → Device → List Access
@@ -107,8 +101,9 @@ abbrev pub Tears : Act → Option Told → Left → Left → Type 0
 Tears (through file place bytes) told = InFile file (Torn place (length bytes))
 Tears (writes file place bytes) told = InFile file (Torn place (length bytes))
 Tears (prints bytes) told = InOut (Begins bytes)
-Tears (calls call) told = Same
-Tears (device call) told = TearsDevice call told
+Tears (device (reg_write reg value)) told = InStore (StoreBy (after_reg_write reg value) told)
+Tears (device (put id bytes)) told = InStore (StoreBy (after_put id bytes) told)
+Tears act told = Same
 
 -- the disk calls that are listed of an act
 abbrev pub disk_calls_by : Act → List DiskCall
@@ -138,12 +133,6 @@ pub record ActMade {T E : Type 0} (act : Act) (result : Result T E) (old new : S
   pub stops : Passes (Tears act old.told) old.clock new.clock
   pub settles : OnOk result (ActSettles act old new)
   pub cause : FailsAs (kind_of act) old.faults new.faults result
-
--- One call, after which a crash leaves what the model says if a crash before did: any but a write without its sync.
-abbrev pub IsSafe : Act → Type 0
-IsSafe (through file place bytes) = ⊥
-IsSafe (writes file place bytes) = ⊥
-IsSafe act = Unit {0}
 
 -- Nothing changed, and a crash meanwhile leaves what a crash before might have left.
 pub record BoardStays (old new : Seen) : Type 0 where
