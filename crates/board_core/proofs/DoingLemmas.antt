@@ -1,17 +1,16 @@
 -- Acts one after another, and what calls that do them come to.
-use Rattle.std.proofs.Common.{ℕ, ◌≤◌, ◌≡◌, ◌∙◌, List, [], ◌∷◌, ◌++◌, Option, None, Some, Result, Ok, Err, OnOk, OnErr, refl, sym, ap, subst, inl, inr, ◌⊎◌}
+use Rattle.std.proofs.Common.{ℕ, ◌≤◌, ◌≡◌, ◌∙◌, List, [], ◌∷◌, ◌++◌, Option, None, Some, Result, Ok, Err, refl, sym, ap, subst, inl, inr, ◌⊎◌}
 use Rattle.std.specs.Option.{option_map}
 use Rattle.erst_store.specs.Device.{Device}
 use Rattle.erst_store.specs.Store.{Stored}
 use Rattle.board_core.specs.declared.board.BoardPut.{BoardPut}
 use Rattle.board_core.specs.declared.board.BoardPut.TheVariants.{Refused, Failed}
-use Rattle.board_core.specs.declared.board.DiskCall.{DiskCall}
 use Rattle.board_core.specs.Cause.{Faults, FailsAs, Kind, disk_call, device_call, print_call, count_of, put_failure, with_count}
 use Rattle.board_core.specs.Clock.{After, Clock, Adds, LeftNow, Passes, Rests, StoreIsLeft}
 use Rattle.board_core.specs.Steps.ClockLemmas.{adds_at_rest, adds_both, adds_none, adds_weaker, rests_listed, rests_on, rests_printed, rests_store, rests_stored}
 use Rattle.board_core.specs.Stop.{Becomes, InStore, Left, Same}
 use Rattle.board_core.specs.Told.{Told, Relates, Steps, StoreBy, after_put, after_reg_write, device_of}
-use Rattle.board_core.specs.Doing.{Act, DeviceCall, Does, Ended, FailsAct, FailsActs, GoesWell, IsBad, IsMade, ActMade, Moment, PutMade, Raises, Seen, ActSettles, BoardStays, Tears, after_act, after_acts, after_device, broke, calls, device, gave_up, kind_of, one_end, prints, put, put_acts, range_read, range_write, reg_read, reg_write, through, went_well, writes}
+use Rattle.board_core.specs.Doing.{Act, DeviceCall, Does, Ended, FailsAct, FailsActs, GoesWell, IsBad, IsMade, ActMade, Moment, PutMade, Raises, Seen, ActSettles, Tears, after_act, after_acts, after_device, broke, calls, device, gave_up, kind_of, one_end, prints, put, put_acts, range_read, range_write, reg_read, reg_write, through, went_well, writes}
 
 -- ---- lists of acts
 

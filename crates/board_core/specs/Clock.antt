@@ -2,7 +2,7 @@
 use Rattle.std.specs.Prelude.{◌≡◌, ℕ, ◌≤◌, ◌⊎◌, List, Option, Some}
 use Rattle.board_core.specs.declared.board.FileNo.{FileNo}
 use Rattle.erst_store.specs.Store.{Stored}
-use Rattle.board_core.specs.Stop.{Left, Same, file_in}
+use Rattle.board_core.specs.Stop.{Left, file_in}
 use Rattle.board_core.specs.Told.{Told}
 
 -- A clock, which never goes back: the number of the present moment, and what a crash at or after the moment t may

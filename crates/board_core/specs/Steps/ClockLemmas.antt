@@ -7,8 +7,8 @@ use Rattle.board_core.specs.declared.board.DiskCall.{DiskCall}
 use Rattle.board_core.specs.declared.board.FileNo.{FileNo}
 use Rattle.board_core.specs.declared.board.FileNo.TheVariants.{Zero, One}
 use Rattle.board_core.specs.Clock.{Clock, LeftNow, After, Passes, Leads, IsSynced, IsStored, StoreIsLeft, Adds, Rests, Always}
-use Rattle.board_core.specs.Stop.{Left, file_in, with_file_in, Same, InFile, InStore, InOut, Appends}
-use Rattle.board_core.specs.Told.{Told, file_of, with_call, after_print, Steps}
+use Rattle.board_core.specs.Stop.{Left, file_in, with_file_in, Same, InStore, InOut, Appends}
+use Rattle.board_core.specs.Told.{Told, with_call, after_print, Steps}
 
 -- a board that isn't modelled has no model
 pub not_told : (t : Told) → None ≡ Some t → ⊥
