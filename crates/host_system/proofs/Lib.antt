@@ -5,5 +5,3 @@ mod WriteLemmas
 mod QuietLemmas
 mod StoreLemmas
 mod PrintLemmas
-mod MemLemmas
-mod LeftLemmas

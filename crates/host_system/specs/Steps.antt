@@ -3,6 +3,3 @@ pub mod FolderLemmas
 pub mod FolderPastLemmas
 pub mod LawLemmas
 pub mod Quiet
-pub mod MemFiles
-pub mod LeftFolder
-pub mod Kept

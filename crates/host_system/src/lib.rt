@@ -6,9 +6,6 @@
 mod board_file;
 mod faults;
 mod laws;
-mod left_folder;
-mod mem_files;
-mod mem_system;
 mod notes;
 mod store_file;
 mod system;
@@ -18,8 +15,6 @@ pub use board_file::{
 };
 pub use faults::counted;
 pub use laws::system_laws;
-pub use left_folder::{LeftFolder, NamePick, StopPick, WriteLeft};
-pub use mem_system::{Effect, MemSystem};
 pub use notes::Notes;
 pub use store_file::replace_store;
 pub use system::{FileName, Input, System};
