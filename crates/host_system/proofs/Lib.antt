@@ -5,3 +5,4 @@ mod WriteLemmas
 mod QuietLemmas
 mod StoreLemmas
 mod PrintLemmas
+pub mod CallLemmas

@@ -1,4 +1,5 @@
 -- What only proofs use: no public clause refers to it.
+pub mod Calls
 pub mod FolderLemmas
 pub mod FolderPastLemmas
 pub mod LawLemmas

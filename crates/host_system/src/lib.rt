@@ -10,9 +10,7 @@ mod notes;
 mod store_file;
 mod system;
 
-pub use board_file::{
-    file_size, open_files, print, read_file, sync_file, sync_names, sync_seen, write_file,
-};
+pub use board_file::{open_files, read_file};
 pub use faults::counted;
 pub use laws::system_laws;
 pub use notes::Notes;

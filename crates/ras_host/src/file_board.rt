@@ -15,7 +15,7 @@ use crate::listed::{list_access, list_disk_call};
 use crate::uses::Use;
 use board_core::{Access, Board, BoardPut, DiskCall, Failed, FileNo, Reg};
 use erst_store::file_laws;
-use host_system::{Notes, System, counted, print};
+use host_system::{FileName, Notes, System, counted};
 use std::alloc::Global;
 use std::marker::{Model, PhantomData};
 
@@ -124,28 +124,28 @@ impl<S: System + Drop, U: Use> Board for FileBoard<S, U> {
     ghost counts_earlier = { λ b s t left within may. board_earlier_left b s t left within may };
 
     fn size(&mut self, file: FileNo) -> Result<u64, Failed> {
-        let answer = self.files.size(self.alloc, file, &mut self.system);
         list_disk_call(DiskCall::Size(file), &mut self.disk_calls);
+        self.ready(file)?;
+        let answer = self.files.size(file, &mut self.system);
         counted(answer, &mut self.disk_faults)
     }
 
     fn read_at(&mut self, file: FileNo, place: u64, buf: &mut [u8]) -> Result<usize, Failed> {
         let call = DiskCall::ReadAt(file, place, buf.len() as u64);
-        let answer = self
-            .files
-            .read_at(self.alloc, file, place, buf, &mut self.system);
         list_disk_call(call, &mut self.disk_calls);
+        self.ready(file)?;
+        let answer = self.files.read_at(file, place, buf, &mut self.system);
         counted(answer, &mut self.disk_faults)
     }
 
     fn write_at(&mut self, file: FileNo, place: u64, bytes: &[u8]) -> Result<(), Failed> {
-        let answer = self
-            .files
-            .write_at(self.alloc, file, place, bytes, &mut self.system);
-        list_disk_call(
-            DiskCall::WriteAt(file, place, bytes.len() as u64),
-            &mut self.disk_calls,
-        );
+        let call = DiskCall::WriteAt(file, place, bytes.len() as u64);
+        list_disk_call(call, &mut self.disk_calls);
+        self.ready(file)?;
+        let answer = match self.files {
+            JournalFiles::Seen(..) => Err(Failed),
+            _ => self.system.write_at(FileName::Journal(file), place, bytes),
+        };
         counted(answer, &mut self.disk_faults)
     }
 
@@ -156,7 +156,8 @@ impl<S: System + Drop, U: Use> Board for FileBoard<S, U> {
         if !self.kept.is_saved() {
             return counted(Err(Failed), &mut self.disk_faults);
         }
-        let answer = self.files.sync(self.alloc, file, &mut self.system);
+        self.ready(file)?;
+        let answer = self.files.sync(file, &mut self.system);
         counted(answer, &mut self.disk_faults)
     }
 
@@ -201,6 +202,6 @@ impl<S: System + Drop, U: Use> Board for FileBoard<S, U> {
     }
 
     fn print(&mut self, bytes: &[u8]) -> Result<(), Failed> {
-        counted(print(bytes, &mut self.system), &mut self.print_faults)
+        counted(self.system.print(bytes), &mut self.print_faults)
     }
 }
