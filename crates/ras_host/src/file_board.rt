@@ -1,11 +1,12 @@
 //! The working folder's files and standard output as a board.
-ghost use Rattle.std.specs.Prelude.{◌≡◌, [], IfSome};
-ghost use Rattle.board_core.specs.Clock.{LeftNow};
-ghost use Rattle.board_core.specs.Stop.{Left};
+ghost use Rattle.std.specs.Prelude.{◌≡◌, [], IfSome, OnOk};
+ghost use Rattle.board_core.specs.Cause.{FailsAs, disk_call};
+ghost use Rattle.board_core.specs.Clock.{LeftNow, Passes};
+ghost use Rattle.board_core.specs.Stop.{Left, Same};
 ghost use Rattle.host_system.specs.View.{MayBegin};
 ghost use Rattle.ras_host.specs.Steps.Telling.{clock_of, told_of};
 ghost use Rattle.ras_host.specs.Blame.{AreCaused};
-ghost use Rattle.ras_host.specs.JournalFiles.{files_for};
+ghost use Rattle.ras_host.specs.JournalFiles.{IsReady, files_for};
 ghost use Rattle.ras_host.specs.Steps.BoardLaws.{board_told_left, board_text_left, board_earlier_left};
 
 use crate::faults::count_put;
@@ -107,6 +108,21 @@ impl<S: System + Drop, U: Use> FileBoard<S, U> {
         ensures caused { AreCaused U.HOW self.files self.kept self.faults self.count }
     {
         self.system
+    }
+}
+
+impl<S: System + Drop, U: Use> FileBoard<S, U> {
+    // Opens or reads the journal's files, unless that was done. Fails if this one may not be used,
+    // which counts as a fault.
+    fn ready(&mut self, file: FileNo) -> Result<(), Failed>
+        ensures ready { OnOk result (IsReady file self.new.files) }
+        ensures kept { self.new.kept ≡ self.old.kept }
+        ensures told { told_of self.new ≡ told_of self.old }
+        ensures stops { Passes Same (clock_of self.old) (clock_of self.new) }
+        ensures cause { FailsAs disk_call self.old.faults self.new.faults result }
+    {
+        let answer = self.files.ready(self.alloc, file, &mut self.system);
+        counted(answer, &mut self.disk_faults)
     }
 }
 
