@@ -4,19 +4,21 @@ use Rattle.std.specs.Prelude.{◌⊎◌, IfOk}
 use Rattle.erst_store.specs.Store.{Stored}
 use Rattle.board_core.specs.declared.board.Access.{Access}
 use Rattle.board_core.specs.declared.board.BoardPut.{BoardPut}
+use Rattle.board_core.specs.declared.board.BoardPut.TheVariants.{Refused, Failed}
 use Rattle.board_core.specs.declared.board.DiskCall.{DiskCall}
 use Rattle.board_core.specs.declared.board.DiskCall.TheVariants.{WriteAt}
 use Rattle.board_core.specs.declared.board.FileNo.{FileNo}
 use Rattle.board_core.specs.declared.board.FileNo.TheVariants.{Zero, One}
 use Rattle.board_core.specs.declared.mem_board.BoardCall.{BoardCall}
 use Rattle.board_core.specs.declared.mem_board.BoardCall.TheVariants.{Put}
-use Rattle.board_core.specs.Cause.{put_failure}
+use Rattle.board_core.specs.Cause.{Faults, FailsAs, device_call, put_failure, with_count}
 use Rattle.board_core.specs.Clock.{Clock, LeftNow, Passes}
-use Rattle.board_core.specs.MemBoard.{Held, Change, wrote, Past, with_change, past_after, after_change, held_of, clock_of, State, told_of, new_board, with_disk_call, with_device_call, listed, Performs}
-use Rattle.board_core.specs.Steps.ChangeLemmas.{after_changes-more}
+use Rattle.board_core.specs.Doing.{PutMade, Seen}
+use Rattle.board_core.specs.MemBoard.{Held, Change, wrote, acted, put_record, device_step, device_in, Past, with_change, past_after, after_change, held_of, clock_of, State, told_of, new_board, with_disk_call, with_device_call, counted, listed, with_refusal, Faulted, Performs}
+use Rattle.board_core.specs.Steps.ChangeLemmas.{after_changes-more, passes_acted, store_left}
 use Rattle.board_core.specs.Steps.DiskLemmas.{nothing_begins}
-use Rattle.board_core.specs.Stop.{Left, InStore, InOut, Becomes, Begins as BeginsText}
-use Rattle.board_core.specs.Told.{Told, after_write}
+use Rattle.board_core.specs.Stop.{Left, Same, InStore, InOut, Becomes, Begins as BeginsText}
+use Rattle.board_core.specs.Told.{Told, after_put, after_write, on_device}
 
 -- ---- what is known of a call
 
@@ -27,6 +29,10 @@ always (Err e) holds = tt
 pub always_then : {T E : Type 0} (P : Type 0) {Q : Type 0} (result : Result T E) → Q → OnOk result (P → Q)
 always_then P (Ok x) holds = λ before. holds
 always_then P (Err e) holds = tt
+
+pub always_both : {T E : Type 0} (P Q : Type 0) (result : Result T E) → OnOk result P → Q → OnOk result (P × Q)
+always_both P Q (Ok x) first second = (first, second)
+always_both P Q (Err e) first second = tt
 
 abbrev told_with : Held → List DiskCall → List Access → Told
 told_with held calls accesses = record { here = held.here; volatile = held.volatile; disk_calls = calls; accesses = accesses }
@@ -99,15 +105,52 @@ store_nothing store left = record { store = left.store; step = inl refl; rest = 
 pub begins_nothing : (piece : List ℕ) (left : Left) → InOut (BeginsText piece) left left
 begins_nothing piece left = record { text = left.out; step = nothing_begins piece left.out; rest = refl }
 
-pub passes_put : (r : Result (Unit {0}) BoardPut) (past : Past) (change : Change) (Step : Left → Left → Type 0) → ((left : Left) → Step left left)
-    → Passes Step (clock_of past) (clock_of (with_change change past)) → Passes Step (clock_of past) (clock_of (past_after r change past))
-passes_put (Ok done) past change Step same passes = passes
-passes_put (Err e) past change Step same passes = stood Step past past same refl
+-- what contracts see of a board in memory
+abbrev seen_of : State → Seen
+seen_of s = record { told = Some (told_of s); clock = clock_of s.past; faults = s.faults }
 
-pub told_put : (r : Result (Unit {0}) BoardPut) (change : Change) (old new : State) → Performs Put (past_after r change old.past) old new (put_failure r)
-    → (told : Told) → told_with (after_change change (held_of old.past)) old.disk_calls old.accesses ≡ told → OnOk r (Some (told_of new) ≡ Some told)
-told_put (Ok done) change old new performs told is = told_after {T = Unit {0}} {E = BoardPut} Put change old new (Ok done) performs told is
-told_put (Err e) change old new performs told is = tt
+quiet : (T E : Type 0) (x : T) (faults : Faults) → FailsAs {T = T} {E = E} device_call faults faults (Ok x)
+quiet T E x faults = record { own = record { later = omega arith; failed = tt; same = refl }; others = refl }
+
+faulted : (T E : Type 0) (e : E) (old new : State) → (before : State) → before.faults ≡ old.faults → Faulted Put before new → FailsAs {T = T} {E = E} device_call old.faults new.faults (Err e)
+faulted T E e old new before same is = rw (sym same) (record {
+  own = record { later = is.later; failed = ap (λ (s : State). s.faults.registers) is.is; same = tt };
+  others = ap (λ (s : State). s.faults) is.is ∙ sym (ap (λ (s : State). with_count device_call s.faults.registers before.faults) is.is);
+})
+
+put_cause : (T E : Type 0) (e : E) (old new : State) → Performs {T = T} Put old.past old new (Err e) → FailsAs {T = T} {E = E} device_call old.faults new.faults (Err e)
+put_cause T E e old new performs = elim performs [
+  | inl chosen ↦ faulted T E e old new (listed Put (counted old)) refl chosen.1
+  | inr (inl refused) ↦ faulted T E e old new (with_refusal (counted old)) refl refused
+  | inr (inr refused) ↦ faulted T E e old new (with_refusal (listed Put (counted old))) refl refused
+]
+
+-- A put of a board in memory: done, refused or failed.
+pub put_made : (id : ℕ) (bytes : List ℕ) (r : Result (Unit {0}) BoardPut) (old new : State) → Performs Put (past_after r (acted (put_record id bytes)) old.past) old new (put_failure r) → PutMade id bytes r (seen_of old) (seen_of new)
+put_made id bytes (Ok done) old new performs =
+    let result : Result (Unit {0}) BoardPut = Ok tt in
+    let store : List Stored = (device_step (put_record id bytes) (device_in (held_of old.past))).store in
+    record {
+      told = told_after Put (acted (put_record id bytes)) old new result performs (on_device (after_put id bytes) (told_of old)) refl;
+      failed = tt;
+      stops = stops_after Put _ old new result performs (InStore (Becomes store)) (store_nothing store) (passes_acted old.past (put_record id bytes));
+      settles = λ before. store_left new;
+      cause = subst (λ (s : State). FailsAs {T = Unit {0}} {E = BoardPut} device_call old.faults s.faults (Ok tt)) (sym performs.1) (quiet (Unit {0}) BoardPut tt old.faults);
+    }
+put_made id bytes (Err (Refused why)) old new performs = record {
+  told = ap (λ (s : State). Some (told_of s)) performs.1;
+  stops = stood Same old.past new.past (λ left. refl) (ap (λ (s : State). s.past) performs.1);
+  faults = ap (λ (s : State). s.faults) performs.1;
+}
+put_made id bytes (Err Failed) old new performs =
+    let store : List Stored = (device_step (put_record id bytes) (device_in (held_of old.past))).store in
+    record {
+      told = tt;
+      failed = elim (fails (Unit {0}) Put old.past old new Failed performs).told [ inl is ↦ inl is | inr is ↦ inl is ];
+      stops = stood (InStore (Becomes store)) old.past new.past (store_nothing store) (fails (Unit {0}) Put old.past old new Failed performs).past;
+      settles = tt;
+      cause = put_cause (Unit {0}) BoardPut Failed old new performs;
+    }
 
 -- ---- what is left
 

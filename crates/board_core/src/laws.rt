@@ -17,21 +17,21 @@ pub fn disk_model<B: Board>()
     // that file what the disk model says, from the bytes as of that sync and the ranges written
     // since.
     ensures file { (file : FileNo) (bytes : List ℕ) (calls : List Call) (first last : B)
-        → IsSynced file bytes (B.clock first) → AreMade B.clock calls first last
-        → (left : Left) → (B.clock last).may_leave_since (B.clock first).now left
+        → IsSynced file bytes (B.seen first).clock → AreMade B.seen calls first last
+        → (left : Left) → (B.seen last).clock.may_leave_since (B.seen first).clock.now left
         → MayLeaveFile (record { synced = bytes; written = ranges_in file calls })
         (file_in file left) }
 
     // Both files, the record store and the printed text together: a crash leaves what the disk
     // model says of one point in time.
     ensures together { (disk : Disk) (calls : List Call) (first last : B)
-        → KeepsDisk disk (B.clock first) → AreMade B.clock calls first last
-        → (left : Left) → (B.clock last).may_leave_since (B.clock first).now left
+        → KeepsDisk disk (B.seen first).clock → AreMade B.seen calls first last
+        → (left : Left) → (B.seen last).clock.may_leave_since (B.seen first).clock.now left
         → MayLeaveSince disk calls 0 left }
     ensures after { (disk : Disk) (calls : List Call) (first last : B)
-        → KeepsDisk disk (B.clock first)
-        → AreMade B.clock calls first last
-        → KeepsDisk (after_all calls disk) (B.clock last) }
+        → KeepsDisk disk (B.seen first).clock
+        → AreMade B.seen calls first last
+        → KeepsDisk (after_all calls disk) (B.seen last).clock }
 {}
 
 /// What the definitions of the disk model amount to.

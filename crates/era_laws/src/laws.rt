@@ -179,22 +179,22 @@ pub fn run_eras<S: Source, B: Board>()
     // If a crash now leaves exactly what the board's model says, as after the machine starts, then
     // a crash at a run's start leaves the account and the record store that the run starts with.
     ensures begins { (board : B) (account : State) (t : Told) → Recovers account t.here
-        → Rests t (B.told board) (B.clock board)
-        → StopsRecover (start_of account t) (B.clock board) }
+        → Rests t (B.seen board).told (B.seen board).clock
+        → StopsRecover (start_of account t) (B.seen board).clock }
 
     // Whatever a crash at any point of the run leaves is then the end of an era, by `rasd/stops`.
     // So is what the board's model says when the run ends.
     ensures stopped { (exit : Exit) (first last : S) (old new : B)
         (account : State) (t : Told) (script : List ℕ) (left : Left)
-        → Recovers account t.here → StopsRecover (start_of account t) (B.clock old)
-        → RunStops B.told B.clock exit (last ≡ first) (start_of account t) script t old new
-        → (B.clock new).may_leave_since (B.clock old).now left
+        → Recovers account t.here → StopsRecover (start_of account t) (B.seen old).clock
+        → RunStops B.seen exit (last ≡ first) (start_of account t) script t old new
+        → (B.seen new).clock.may_leave_since (B.seen old).clock.now left
         → IsEra (era_of account t script left) }
     ensures ended { (exit : Exit) (first last : S) (old new : B)
         (account : State) (t now : Told) (script : List ℕ)
-        → Recovers account t.here → StopsRecover (start_of account t) (B.clock old)
-        → RunStops B.told B.clock exit (last ≡ first) (start_of account t) script t old new
-        → B.told new ≡ Some now → IsEra (era_of account t script now.here) }
+        → Recovers account t.here → StopsRecover (start_of account t) (B.seen old).clock
+        → RunStops B.seen exit (last ≡ first) (start_of account t) script t old new
+        → (B.seen new).told ≡ Some now → IsEra (era_of account t script now.here) }
 
     // After a process is killed the machine goes on, and writes may not be durable yet. A crash
     // during the next run leaves the end of an era of that run from the point at which its journal
@@ -202,15 +202,15 @@ pub fn run_eras<S: Source, B: Board>()
     // run might have left.
     ensures settled { (old new : B) (account : State) (t : Told) (script : List ℕ) (left : Left)
         → Recovers account t.here
-        → (settles : Settles B.told B.clock (start_of account t) script t old new)
-        → (B.clock new).may_leave_since (B.clock settles.opened).now left
+        → (settles : Settles B.seen (start_of account t) script t old new)
+        → (B.seen new).clock.may_leave_since (B.seen settles.opened).clock.now left
         → IsEra (era_of account t script left) }
     ensures went_on { (exit : Exit) (first last : S) (old new : B)
         (account : State) (t : Told) (script : List ℕ) (left : Left)
         → Recovers account t.here
-        → RunStops B.told B.clock exit (last ≡ first) (start_of account t) script t old new
-        → (B.clock new).may_leave_since (B.clock old).now left
-        → LeftNow (B.clock old) left ⊎ IsEra (era_of account t script left) }
+        → RunStops B.seen exit (last ≡ first) (start_of account t) script t old new
+        → (B.seen new).clock.may_leave_since (B.seen old).clock.now left
+        → LeftNow (B.seen old).clock left ⊎ IsEra (era_of account t script left) }
 {}
 
 /// What the events of a script's run report, log and order is what `run_laws` says of the script's

@@ -32,7 +32,7 @@ use Rattle.ras_host.specs.BoardState.{BoardState}
 use Rattle.ras_host.specs.Steps.Telling.{clock_of, told_of, told_with}
 use Rattle.ras_host.specs.declared.kept.Kept.TheVariants.{Unread}
 use Rattle.ras_journal.specs.Recovered.{Recovers}
-use Rattle.ras_listing.specs.Reporting.{ReportMoment, Reports, report_output}
+use Rattle.ras_daemon.specs.Reporting.{ReportMoment, Reports, report_output}
 use Rattle.listing_texts.specs.declared.listing.Listing.{Listing}
 use Rattle.ras_run.specs.Files.{files_refusal}
 use Rattle.ras_run.specs.Places.{Start}

@@ -13,7 +13,7 @@ use Rattle.block_lines.specs.Filter.{block_filter}
 use Rattle.cper_pcie.specs.Filter.{pcie_filter}
 use Rattle.line_filters.specs.Filters.{Filters, IsFilterExit, OfBoth, StopsFiltering}
 use Rattle.ras_klog.specs.Klog.{klog_filter}
-use Rattle.ras_listing.specs.Reporting.{IsReportExit, ReportMoment, Reports, report_output}
+use Rattle.ras_daemon.specs.Reporting.{IsReportExit, ReportMoment, Reports, report_output}
 use Rattle.ras_daemon.specs.Help.{help_text, version_line}
 use Rattle.ras_daemon.specs.Loading.{load_output}
 use Rattle.ras_daemon.specs.declared.word.Task.{Task}

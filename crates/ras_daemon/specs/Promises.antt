@@ -15,7 +15,7 @@ use Rattle.ras_exit.specs.StopLine.{stop_line}
 use Rattle.ras_exit.specs.Telling.{PrintsPart, Tells}
 use Rattle.ras_exit.specs.declared.exit.Exit.{Exit}
 use Rattle.ras_exit.specs.declared.exit.Exit.TheVariants.{DiskFault, NoMemory, PrintFault}
-use Rattle.ras_listing.specs.Reporting.{ReportMoment}
+use Rattle.ras_daemon.specs.Reporting.{ReportMoment}
 use Rattle.ras_run.specs.Files.{KeepsFiles, files_refusal}
 use Rattle.ras_run.specs.Places.{Start}
 use Rattle.ras_texts.specs.Orders.{standing_lines}

@@ -7,6 +7,7 @@
 
 mod bank;
 mod block;
+mod details;
 mod entry;
 mod exact;
 mod fact;
@@ -16,12 +17,15 @@ mod name;
 mod record;
 mod section;
 
-pub use bank::{BankReport, fact_of_bank, name_of_bank};
-pub use block::fact_of_block;
+pub use bank::{BankReport, fact_of_bank, name_of_bank, report_of_bank};
+pub use block::{fact_of_block, report_of_block};
+pub use details::{Detail, Details, Report};
 pub use entry::Entry;
 pub use fact::Fact;
 pub use items::{Item, Items, MOST_ITEMS, MOST_WEIGHT, PAGES};
-pub use laws::{labels_are_of_their_sections, numbers};
+pub use laws::{
+    items_have_their_own_labels, labels_are_of_their_sections, numbers, reports_tell_of_each_item,
+};
 pub use name::Name;
-pub use record::fact_of_record;
+pub use record::{fact_of_record, report_of_record};
 pub use section::{section_item, severity_class};

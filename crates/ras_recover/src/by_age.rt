@@ -34,11 +34,11 @@ fn generation_told<B: Board>(
     board: &mut B,
 ) -> Result<Option<u64>, OpenRefused>
     requires short { file.size ≤ LONGEST_FILE }
-    requires size { IfSome (B.told board.old) (λ t. file.size ≡ length (file_of file.no t)) }
+    requires size { IfSome (B.seen board.old).told (λ t. file.size ≡ length (file_of file.no t)) }
     ensures refused { IfErr result TellsNothing }
     ensures looks { LooksAt open_failure result (λ t calls. Unit {0})
-        (B.told board.old) (B.clock board.old) (B.faults board.old)
-        (B.told board.new) (B.clock board.new) (B.faults board.new) }
+        (B.seen board.old).told (B.seen board.old).clock (B.seen board.old).faults
+        (B.seen board.new).told (B.seen board.new).clock (B.seen board.new).faults }
 {
     let mut window = Window::new(alloc);
     match window.hold(file, 0, CHECKPOINT_PLACE, board) {
@@ -81,12 +81,12 @@ fn newer_told<B: Board>(
     board: &mut B,
 ) -> Result<Option<FileNo>, OpenRefused>
     requires short { (zero.size ≤ LONGEST_FILE) × (one.size ≤ LONGEST_FILE) }
-    requires sizes { IfSome (B.told board.old)
+    requires sizes { IfSome (B.seen board.old).told
         (λ t. (zero.size ≡ length (file_of zero.no t)) × (one.size ≡ length (file_of one.no t))) }
     ensures refused { IfErr result TellsNothing }
     ensures looks { LooksAt open_failure result (λ t calls. Unit {0})
-        (B.told board.old) (B.clock board.old) (B.faults board.old)
-        (B.told board.new) (B.clock board.new) (B.faults board.new) }
+        (B.seen board.old).told (B.seen board.old).clock (B.seen board.old).faults
+        (B.seen board.new).told (B.seen board.new).clock (B.seen board.new).faults }
 {
     let zero = match generation_told(alloc, zero, board) {
         Ok(zero) => zero,
@@ -107,14 +107,14 @@ fn read_sound<B: Board>(
     board: &mut B,
 ) -> Result<Option<(Place, Account)>, OpenRefused>
     requires short { file.size ≤ LONGEST_FILE }
-    requires size { IfSome (B.told board.old) (λ t. file.size ≡ length (file_of file.no t)) }
-    ensures read { IfOk result (λ found. IfSome found (λ p. IfSome (B.told board.old)
+    requires size { IfSome (B.seen board.old).told (λ t. file.size ≡ length (file_of file.no t)) }
+    ensures read { IfOk result (λ found. IfSome found (λ p. IfSome (B.seen board.old).told
         (λ t. front_of None (file_of file.no t) ≡ Ok (Some (front_at p.0 p.1.state))))) }
     ensures refused { IfErr result TellsNothing }
     ensures looks { LooksAt open_failure result
         (λ t calls. IfFound result (ReadsStanding file.no (file_of file.no t) calls))
-        (B.told board.old) (B.clock board.old) (B.faults board.old)
-        (B.told board.new) (B.clock board.new) (B.faults board.new) }
+        (B.seen board.old).told (B.seen board.old).clock (B.seen board.old).faults
+        (B.seen board.new).told (B.seen board.new).clock (B.seen board.new).faults }
 {
     match read_file(alloc, None, before, file, board) {
         Ok(read) => Ok(read.front),
@@ -133,15 +133,15 @@ fn read_in_turn<B: Board>(
 ) -> Result<Option<BothRead>, OpenRefused>
     requires others { older.no ≡ other newer.no }
     requires short { (older.size ≤ LONGEST_FILE) × (newer.size ≤ LONGEST_FILE) }
-    requires sizes { IfSome (B.told board.old)
+    requires sizes { IfSome (B.seen board.old).told
         (λ t. (older.size ≡ length (file_of older.no t)) × (newer.size ≡ length (file_of newer.no t))) }
-    ensures read { IfOk result (λ found. IfSome found (λ both. IfSome (B.told board.old)
+    ensures read { IfOk result (λ found. IfSome found (λ both. IfSome (B.seen board.old).told
         (λ t. AreRead both t.here.file0 t.here.file1))) }
     ensures refused { IfErr result TellsNothing }
     ensures looks { LooksAt open_failure result
         (λ t calls. IfFound result (ReadsBoth t.here calls))
-        (B.told board.old) (B.clock board.old) (B.faults board.old)
-        (B.told board.new) (B.clock board.new) (B.faults board.new) }
+        (B.seen board.old).told (B.seen board.old).clock (B.seen board.old).faults
+        (B.seen board.new).told (B.seen board.new).clock (B.seen board.new).faults }
 {
     let first = match read_sound(alloc, None, older, board) {
         Ok(first) => first,
@@ -176,15 +176,15 @@ pub(crate) fn read_by_age<B: Board>(
 ) -> Result<Option<BothRead>, OpenRefused>
     requires numbers { (zero.no ≡ FileNo.Zero) × (one.no ≡ FileNo.One) }
     requires short { (zero.size ≤ LONGEST_FILE) × (one.size ≤ LONGEST_FILE) }
-    requires sizes { IfSome (B.told board.old)
+    requires sizes { IfSome (B.seen board.old).told
         (λ t. (zero.size ≡ length (file_of zero.no t)) × (one.size ≡ length (file_of one.no t))) }
-    ensures read { IfOk result (λ found. IfSome found (λ both. IfSome (B.told board.old)
+    ensures read { IfOk result (λ found. IfSome found (λ both. IfSome (B.seen board.old).told
         (λ t. AreRead both t.here.file0 t.here.file1))) }
     ensures refused { IfErr result TellsNothing }
     ensures looks { LooksAt open_failure result
         (λ t calls. IfFound result (ReadsBoth t.here calls))
-        (B.told board.old) (B.clock board.old) (B.faults board.old)
-        (B.told board.new) (B.clock board.new) (B.faults board.new) }
+        (B.seen board.old).told (B.seen board.old).clock (B.seen board.old).faults
+        (B.seen board.new).told (B.seen board.new).clock (B.seen board.new).faults }
 {
     let newer = match newer_told(alloc, zero, one, board) {
         Ok(newer) => newer,

@@ -1,7 +1,7 @@
 //! Writes a new generation of the journal over a file.
 ghost use Rattle.std.specs.Prelude.{◌≡◌, min, length, IfOk, IfSome};
 ghost use Rattle.board_core.specs.Cause.{disk_call};
-ghost use Rattle.board_core.specs.Doing.{Does, looks, one_end};
+ghost use Rattle.board_core.specs.Doing.{Does, one_end};
 ghost use Rattle.board_core.specs.Told.{file_of};
 ghost use Rattle.journal_format.specs.Checkpoints.{checkpoint_bytes, IsCheckpoint};
 ghost use Rattle.entry_format.specs.declared.version.Version.TheVariants.{Two};
@@ -50,7 +50,7 @@ pub(crate) fn next_bytes(
 
 // Closes the gate at the front of a file and syncs the file, unless the file is shut already.
 fn close_gate<B: Board>(file: FileNo, shut: bool, board: &mut B) -> Result<(), Failed>
-    ensures does { Does (looks B.told B.clock B.faults) (closing_acts file shut)
+    ensures does { Does B.seen (closing_acts file shut)
         (one_end disk_call result) board.old board.new }
 {
     if shut {
@@ -67,8 +67,8 @@ pub(crate) fn format_file<B: Board>(
     bytes: &[u8],
     board: &mut B,
 ) -> Result<(), Failed>
-    requires { IfSome (B.told board.old) (λ t. shut ≡ is_shut (file_of file t)) }
-    ensures does { Does (looks B.told B.clock B.faults) (formatting_acts file shut bytes.now)
+    requires { IfSome (B.seen board.old).told (λ t. shut ≡ is_shut (file_of file t)) }
+    ensures does { Does B.seen (formatting_acts file shut bytes.now)
         (one_end disk_call result) board.old board.new }
 {
     close_gate(file, shut, board)?;

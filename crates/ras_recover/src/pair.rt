@@ -48,15 +48,15 @@ fn read_one<B: Board>(
     board: &mut B,
 ) -> Result<FileRead, OpenRefused>
     requires short { file.size ≤ LONGEST_FILE }
-    requires size { IfSome (B.told board.old) (λ t. file.size ≡ length (file_of file.no t)) }
-    ensures read { IfSome (B.told board.old)
+    requires size { IfSome (B.seen board.old).told (λ t. file.size ≡ length (file_of file.no t)) }
+    ensures read { IfSome (B.seen board.old).told
         (λ t. TellsHeld (λ r. option_map (λ p. front_at p.0 p.1.state) r.front) result
         (in_file file.no (front_of taken (file_of file.no t)))) }
-    ensures shut { IfOk result (λ r. IfSome (B.told board.old)
+    ensures shut { IfOk result (λ r. IfSome (B.seen board.old).told
         (λ t. r.shut ≡ is_shut (file_of file.no t))) }
     ensures looks { LooksAt open_failure result (λ t. ReadsStanding file.no (file_of file.no t))
-        (B.told board.old) (B.clock board.old) (B.faults board.old)
-        (B.told board.new) (B.clock board.new) (B.faults board.new) }
+        (B.seen board.old).told (B.seen board.old).clock (B.seen board.old).faults
+        (B.seen board.new).told (B.seen board.new).clock (B.seen board.new).faults }
 {
     let file_number = match file.no {
         FileNo::Zero => 0,
@@ -112,16 +112,16 @@ fn read_one_by_one<B: Board>(
     board: &mut B,
 ) -> Result<BothRead, OpenRefused>
     requires short { (sizes.0 ≤ LONGEST_FILE) × (sizes.1 ≤ LONGEST_FILE) }
-    requires sizes { IfSome (B.told board.old)
+    requires sizes { IfSome (B.seen board.old).told
         (λ t. (sizes.0 ≡ length t.here.file0) × (sizes.1 ≡ length t.here.file1)) }
-    ensures read { IfSome (B.told board.old)
+    ensures read { IfSome (B.seen board.old).told
         (λ t. TellsHeld (λ r. option_map (λ j. record { file = j.0; front = front_at j.1 j.2.state })
         r.journal) result (journal_of t.here.file0 t.here.file1)) }
-    ensures shut { IfOk result (λ r. IfSome (B.told board.old)
+    ensures shut { IfOk result (λ r. IfSome (B.seen board.old).told
         (λ t. (r.shut.0 ≡ is_shut t.here.file0) × (r.shut.1 ≡ is_shut t.here.file1))) }
     ensures looks { LooksAt open_failure result (λ t. ReadsBoth t.here)
-        (B.told board.old) (B.clock board.old) (B.faults board.old)
-        (B.told board.new) (B.clock board.new) (B.faults board.new) }
+        (B.seen board.old).told (B.seen board.old).clock (B.seen board.old).faults
+        (B.seen board.new).told (B.seen board.new).clock (B.seen board.new).faults }
 {
     let file_zero = SizedFile {
         no: FileNo::Zero,
@@ -152,16 +152,16 @@ pub(crate) fn read_both<B: Board>(
     board: &mut B,
 ) -> Result<BothRead, OpenRefused>
     requires short { (sizes.0 ≤ LONGEST_FILE) × (sizes.1 ≤ LONGEST_FILE) }
-    requires sizes { IfSome (B.told board.old)
+    requires sizes { IfSome (B.seen board.old).told
         (λ t. (sizes.0 ≡ length t.here.file0) × (sizes.1 ≡ length t.here.file1)) }
-    ensures read { IfSome (B.told board.old)
+    ensures read { IfSome (B.seen board.old).told
         (λ t. TellsHeld (λ r. option_map (λ j. record { file = j.0; front = front_at j.1 j.2.state })
         r.journal) result (journal_of t.here.file0 t.here.file1)) }
-    ensures shut { IfOk result (λ r. IfSome (B.told board.old)
+    ensures shut { IfOk result (λ r. IfSome (B.seen board.old).told
         (λ t. (r.shut.0 ≡ is_shut t.here.file0) × (r.shut.1 ≡ is_shut t.here.file1))) }
     ensures looks { LooksAt open_failure result (λ t. ReadsBoth t.here)
-        (B.told board.old) (B.clock board.old) (B.faults board.old)
-        (B.told board.new) (B.clock board.new) (B.faults board.new) }
+        (B.seen board.old).told (B.seen board.old).clock (B.seen board.old).faults
+        (B.seen board.new).told (B.seen board.new).clock (B.seen board.new).faults }
 {
     let file_zero = SizedFile {
         no: FileNo::Zero,

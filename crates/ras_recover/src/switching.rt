@@ -1,6 +1,6 @@
 //! Switches the journal to its other file.
 ghost use Rattle.std.specs.Prelude.{◌≡◌, ◌+◌, ◌<◌, ◌≤◌, ◌↔◌, false, IfSome, IsTrue, None};
-ghost use Rattle.board_core.specs.Doing.{Does, IsMade, looks};
+ghost use Rattle.board_core.specs.Doing.{Does, IsMade};
 ghost use Rattle.board_core.specs.Told.{file_of};
 ghost use Rattle.ras_journal.specs.Recovered.{other, is_shut};
 ghost use Rattle.ras_recover.specs.Switching.{CanSwitch, IsFullBy, MovesOver, has_no_room};
@@ -75,9 +75,9 @@ pub fn switch_file<B: Board>(
     board: &mut B,
 ) -> Result<(), SwitchRefused>
     requires usable { journal.old.failed ≡ false }
-    requires shut { IfSome (B.told board.old)
+    requires shut { IfSome (B.seen board.old).told
         (λ t. journal.old.standing.shut ≡ is_shut (file_of (other journal.old.standing.file) t)) }
-    ensures does { Does (looks B.told B.clock B.faults)
+    ensures does { Does B.seen
         (switch_acts journal.old.standing account.now.state) (switch_end result)
         board.old board.new }
     ensures can { IsMade (switch_end result)

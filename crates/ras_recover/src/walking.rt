@@ -40,15 +40,15 @@ fn hold_link<B: Board>(
     window: &mut Window,
     board: &mut B,
 ) -> Result<(), ReadRefused>
-    requires covers { Covers file gate (B.told board.old) window.old }
-    ensures covers { OnOk result (Covers file gate (B.told board.new) window.new) }
-    ensures held { OnOk result (IfSome (B.told board.old)
+    requires covers { Covers file gate (B.seen board.old).told window.old }
+    ensures covers { OnOk result (Covers file gate (B.seen board.new).told window.new) }
+    ensures held { OnOk result (IfSome (B.seen board.old).told
         (λ t. LinkHeld (end_of window.new - gate) (drop gate (file_of file.no t)))) }
     ensures unread { IfErr result IsNoDamage }
     ensures looks { Looks read_failure result
         (ReadsPart file.no (end_of window.old) (end_of window.new))
-        (B.told board.old) (B.clock board.old) (B.faults board.old)
-        (B.told board.new) (B.clock board.new) (B.faults board.new) }
+        (B.seen board.old).told (B.seen board.old).clock (B.seen board.old).faults
+        (B.seen board.new).told (B.seen board.new).clock (B.seen board.new).faults }
 {
     match window.hold(file, gate, GATE_AND_COUNT, board) {
         Ok(()) => {}
@@ -74,18 +74,18 @@ fn next_in<B: Board>(
     board: &mut B,
 ) -> Result<Option<Place>, ReadRefused>
     requires links { place.links + 1 < 2 ^ 64 }
-    requires covers { Covers file place.gate (B.told board.old) window.old }
-    ensures read { IfSome (B.told board.old)
+    requires covers { Covers file place.gate (B.seen board.old).told window.old }
+    ensures read { IfSome (B.seen board.old).told
         (λ t. IsAnswer (λ next. option_map (λ p. front_at p account.new.state) next) result
         (next_front (front_at place account.old.state) (file_of file.no t))) }
     ensures closed { result ≡ Ok None
         → (account.new.state ≡ account.old.state) × (place.gate < end_of window.new) }
     ensures next { IfOk result (λ next. IfSome next (λ p. (p.links ≡ place.links + 1)
-        × Covers file p.gate (B.told board.new) window.new)) }
+        × Covers file p.gate (B.seen board.new).told window.new)) }
     ensures looks { Looks read_failure result
         (ReadsPart file.no (end_of window.old) (end_of window.new))
-        (B.told board.old) (B.clock board.old) (B.faults board.old)
-        (B.told board.new) (B.clock board.new) (B.faults board.new) }
+        (B.seen board.old).told (B.seen board.old).clock (B.seen board.old).faults
+        (B.seen board.new).told (B.seen board.new).clock (B.seen board.new).faults }
 {
     match hold_link(file, place.gate, window, board) {
         Ok(()) => {}
@@ -113,16 +113,16 @@ fn last_in<B: Board>(
     board: &mut B,
 ) -> Result<Place, ReadRefused>
     requires links { first.links ≡ 0 }
-    requires covers { Covers file first.gate (B.told board.old) window.old }
-    ensures read { IfSome (B.told board.old)
+    requires covers { Covers file first.gate (B.seen board.old).told window.old }
+    ensures read { IfSome (B.seen board.old).told
         (λ t. IsAnswer (λ place. front_at place account.new.state) result
         (whole_front (length (file_of file.no t)) (front_at first account.old.state)
         (file_of file.no t))) }
     ensures closed { IfOk result (λ place. place.gate < end_of window.new) }
     ensures looks { Looks read_failure result
         (ReadsPart file.no (end_of window.old) (end_of window.new))
-        (B.told board.old) (B.clock board.old) (B.faults board.old)
-        (B.told board.new) (B.clock board.new) (B.faults board.new) }
+        (B.seen board.old).told (B.seen board.old).clock (B.seen board.old).faults
+        (B.seen board.new).told (B.seen board.new).clock (B.seen board.new).faults }
 {
     let mut place = first;
     for _ in 0..file.size {
@@ -141,15 +141,15 @@ fn hold_front<B: Board>(
     window: &mut Window,
     board: &mut B,
 ) -> Result<(), ReadRefused>
-    requires covers { Covers file 0 (B.told board.old) window.old }
-    ensures covers { OnOk result (Covers file 0 (B.told board.new) window.new) }
-    ensures held { OnOk result (IfSome (B.told board.old)
+    requires covers { Covers file 0 (B.seen board.old).told window.old }
+    ensures covers { OnOk result (Covers file 0 (B.seen board.new).told window.new) }
+    ensures held { OnOk result (IfSome (B.seen board.old).told
         (λ t. FrontHeld (end_of window.new) (file_of file.no t))) }
     ensures unread { IfErr result IsNoDamage }
     ensures looks { Looks read_failure result
         (ReadsPart file.no (end_of window.old) (end_of window.new))
-        (B.told board.old) (B.clock board.old) (B.faults board.old)
-        (B.told board.new) (B.clock board.new) (B.faults board.new) }
+        (B.seen board.old).told (B.seen board.old).clock (B.seen board.old).faults
+        (B.seen board.new).told (B.seen board.new).clock (B.seen board.new).faults }
 {
     match window.hold(file, 0, CHECKPOINT_PLACE, board) {
         Ok(()) => {}
@@ -174,20 +174,20 @@ fn first_in<B: Board>(
     window: &mut Window,
     board: &mut B,
 ) -> Result<FileRead, ReadRefused>
-    requires covers { Covers file 0 (B.told board.old) window.old }
-    ensures begun { IfOk result (λ r. IfSome (B.told board.old)
+    requires covers { Covers file 0 (B.seen board.old).told window.old }
+    ensures begun { IfOk result (λ r. IfSome (B.seen board.old).told
         (λ t. IsBegun taken (file_of file.no t)
         (option_map (λ p. front_at p.0 p.1.state) r.front))) }
-    ensures broken { IfErr result (λ refused. IfSome (B.told board.old)
+    ensures broken { IfErr result (λ refused. IfSome (B.seen board.old).told
         (λ t. IsBroken taken (file_of file.no t) refused)) }
-    ensures shut { IfOk result (λ r. IfSome (B.told board.old)
+    ensures shut { IfOk result (λ r. IfSome (B.seen board.old).told
         (λ t. r.shut ≡ is_shut (file_of file.no t))) }
     ensures front { IfOk result (λ r. IfSome r.front (λ p. (p.0.links ≡ 0)
-        × Covers file p.0.gate (B.told board.new) window.new)) }
+        × Covers file p.0.gate (B.seen board.new).told window.new)) }
     ensures looks { Looks read_failure result
         (ReadsPart file.no (end_of window.old) (end_of window.new))
-        (B.told board.old) (B.clock board.old) (B.faults board.old)
-        (B.told board.new) (B.clock board.new) (B.faults board.new) }
+        (B.seen board.old).told (B.seen board.old).clock (B.seen board.old).faults
+        (B.seen board.new).told (B.seen board.new).clock (B.seen board.new).faults }
 {
     match hold_front(file, window, board) {
         Ok(()) => {}
@@ -221,15 +221,15 @@ pub(crate) fn read_file<B: Board>(
     board: &mut B,
 ) -> Result<FileRead, ReadRefused>
     requires short { file.size ≤ LONGEST_FILE }
-    requires size { IfSome (B.told board.old) (λ t. file.size ≡ length (file_of file.no t)) }
-    ensures read { IfSome (B.told board.old)
+    requires size { IfSome (B.seen board.old).told (λ t. file.size ≡ length (file_of file.no t)) }
+    ensures read { IfSome (B.seen board.old).told
         (λ t. IsAnswer (λ r. option_map (λ p. front_at p.0 p.1.state) r.front) result
         (front_of taken (file_of file.no t))) }
-    ensures shut { IfOk result (λ r. IfSome (B.told board.old)
+    ensures shut { IfOk result (λ r. IfSome (B.seen board.old).told
         (λ t. r.shut ≡ is_shut (file_of file.no t))) }
     ensures looks { LooksAt read_failure result (λ t. ReadsStanding file.no (file_of file.no t))
-        (B.told board.old) (B.clock board.old) (B.faults board.old)
-        (B.told board.new) (B.clock board.new) (B.faults board.new) }
+        (B.seen board.old).told (B.seen board.old).clock (B.seen board.old).faults
+        (B.seen board.new).told (B.seen board.new).clock (B.seen board.new).faults }
 {
     let mut window = Window::new(alloc);
     let FileRead { shut, front } = match first_in(alloc, taken, before, file, &mut window, board) {

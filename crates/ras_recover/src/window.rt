@@ -57,15 +57,15 @@ impl Window {
     ) -> Result<(), ReadRefused>
         requires within { place + count ≤ file.size }
         requires short { file.size ≤ LONGEST_FILE }
-        requires size { IfSome (B.told board.old) (λ t. file.size ≡ length (file_of file.no t)) }
-        ensures covers { OnOk result (Covers file place (B.told board.new) self.new) }
+        requires size { IfSome (B.seen board.old).told (λ t. file.size ≡ length (file_of file.no t)) }
+        ensures covers { OnOk result (Covers file place (B.seen board.new).told self.new) }
         ensures within { OnOk result (end_of self.new ≤ place + count) }
-        ensures all { OnOk result (IfSome (B.told board.old)
+        ensures all { OnOk result (IfSome (B.seen board.old).told
             (λ t. end_of self.new ≡ place + count)) }
         ensures unread { IfErr result IsNoDamage }
         ensures looks { Looks read_failure result (ReadsPart file.no place (place + count))
-            (B.told board.old) (B.clock board.old) (B.faults board.old)
-            (B.told board.new) (B.clock board.new) (B.faults board.new) }
+            (B.seen board.old).told (B.seen board.old).clock (B.seen board.old).faults
+            (B.seen board.new).told (B.seen board.new).clock (B.seen board.new).faults }
     {
         if let Err(AllocError) = self.bytes.resize(count, 0) {
             return Err(ReadRefused::NoMemory);
@@ -89,15 +89,15 @@ impl Window {
         count: usize,
         board: &mut B,
     ) -> Result<(), ReadRefused>
-        requires covers { Covers file place (B.told board.old) self.old }
-        ensures covers { OnOk result (Covers file place (B.told board.new) self.new) }
-        ensures held { OnOk result (IfSome (B.told board.old)
+        requires covers { Covers file place (B.seen board.old).told self.old }
+        ensures covers { OnOk result (Covers file place (B.seen board.new).told self.new) }
+        ensures held { OnOk result (IfSome (B.seen board.old).told
             (λ t. min (place + count) file.size ≤ end_of self.new)) }
         ensures unread { IfErr result IsNoDamage }
         ensures looks { Looks read_failure result
             (ReadsPart file.no (end_of self.old) (end_of self.new))
-            (B.told board.old) (B.clock board.old) (B.faults board.old)
-            (B.told board.new) (B.clock board.new) (B.faults board.new) }
+            (B.seen board.old).told (B.seen board.old).clock (B.seen board.old).faults
+            (B.seen board.new).told (B.seen board.new).clock (B.seen board.new).faults }
     {
         let left = file.size - place;
         let wanted = count.min(left);

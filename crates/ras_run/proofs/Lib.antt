@@ -1,3 +1,5 @@
+pub mod KeepingLemmas
+pub mod KeepingLaws
 pub mod StoreLemmas
 pub mod AdmittedLemmas
 pub mod DrivenLemmas

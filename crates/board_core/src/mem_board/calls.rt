@@ -19,11 +19,11 @@ use crate::{Access, Board, BoardPut, DiskCall, Failed, FileNo, Reg};
 use ras_base::NoMemory;
 
 impl Board for MemBoard {
-    ghost told = { λ b. Some (told_of b) };
-
-    ghost clock = { λ b. clock_of b.past };
-
-    ghost faults = { λ b. b.faults };
+    ghost seen = { λ b. record {
+      told = Some (told_of b);
+      clock = clock_of b.past;
+      faults = b.faults;
+    } };
 
     ghost told_may_be_left = { λ b t is. told_left b t is };
 

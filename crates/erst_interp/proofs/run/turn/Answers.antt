@@ -5,7 +5,7 @@ use Rattle.board_core.specs.declared.board.Reg.{Reg}
 use Rattle.board_core.specs.declared.board.Access.TheVariants.{Read}
 use Rattle.board_core.specs.Cause.{FailsAs, device_call}
 use Rattle.board_core.specs.Clock.{Passes}
-use Rattle.board_core.specs.Doing.{Seen, looks, reg_read}
+use Rattle.board_core.specs.Doing.{Seen, reg_read}
 use Rattle.board_core.specs.Stop.{Same}
 use Rattle.board_core.specs.Told.{Steps, with_access}
 use Rattle.erst_interp.specs.declared.entries.InstructionEntry.{InstructionEntry}
@@ -55,7 +55,7 @@ module _ {X : Type 0} (see : X → Seen) (e : InstructionEntry) (reg : Reg) (v :
 
 pub returns-in_err-reg_read-in-Reads-clause-turns : goal.returns-in_err-reg_read-in-Reads-clause-turns
 returns-in_err-reg_read-in-Reads-clause-turns g c =
-    let see = looks g.B.Board.told g.B.Board.clock g.B.Board.faults in
+    let see = g.B.Board.seen in
     let p = err_from_is_err_and c.from_residual.result c.from_residual.ensures.1 in
     let read = c.in_err-reg_read-in-Reads.ensures in
     rw (p.1, p.2) (unread c.args.entry.now c.args.variables c.in-Uses.how c.in-Some.reg c.in-Uses.ensures c.in-Some.is (rw c.in-Reads.is tt) (see c.args.board.now) (see c.reg_read.new.self)
@@ -63,7 +63,7 @@ returns-in_err-reg_read-in-Reads-clause-turns g c =
 
 pub returns-in_err-reg_read-in-Moves-clause-turns : goal.returns-in_err-reg_read-in-Moves-clause-turns
 returns-in_err-reg_read-in-Moves-clause-turns g c =
-    let see = looks g.B.Board.told g.B.Board.clock g.B.Board.faults in
+    let see = g.B.Board.seen in
     let p = err_from_is_err_and c.from_residual-in_err-reg_read-in-Moves.result c.from_residual-in_err-reg_read-in-Moves.ensures.1 in
     let read = c.in_err-reg_read-in-Moves.ensures in
     rw (p.1, p.2) (unread c.args.entry.now c.args.variables c.in-Uses.how c.in-Some.reg c.in-Uses.ensures c.in-Some.is (rw c.in-Moves.is tt) (see c.args.board.now) (see c.reg_read-in-Moves.new.self)
@@ -71,7 +71,7 @@ returns-in_err-reg_read-in-Moves-clause-turns g c =
 
 pub returns-in-Moves-clause-turns : goal.returns-in-Moves-clause-turns
 returns-in-Moves-clause-turns g c =
-    let see = looks g.B.Board.told g.B.Board.clock g.B.Board.faults in
+    let see = g.B.Board.seen in
     let e = c.args.entry.now in
     let a = see c.args.board.now in
     let b = see c.reg_read-in-Moves.new.self in
@@ -83,7 +83,7 @@ returns-in-Moves-clause-turns g c =
 
 pub returns-in_err-reg_read-clause-turns : goal.returns-in_err-reg_read-clause-turns
 returns-in_err-reg_read-clause-turns g c =
-    let see = looks g.B.Board.told g.B.Board.clock g.B.Board.faults in
+    let see = g.B.Board.seen in
     let e = c.args.entry.now in
     let v = c.args.variables in
     let reg = c.in-Some.reg in
@@ -101,7 +101,7 @@ returns-in_err-reg_read-clause-turns g c =
 
 pub returns-in_err-reg_write-clause-turns : goal.returns-in_err-reg_write-clause-turns
 returns-in_err-reg_write-clause-turns g c =
-    let see = looks g.B.Board.told g.B.Board.clock g.B.Board.faults in
+    let see = g.B.Board.seen in
     let e = c.args.entry.now in
     let v = c.args.variables in
     let reg = c.in-Some.reg in
@@ -125,7 +125,7 @@ returns-in_err-reg_write-clause-turns g c =
 
 pub returns-clause-turns : goal.returns-clause-turns
 returns-clause-turns g c =
-    let see = looks g.B.Board.told g.B.Board.clock g.B.Board.faults in
+    let see = g.B.Board.seen in
     let e = c.args.entry.now in
     let v = c.args.variables in
     let reg = c.in-Some.reg in

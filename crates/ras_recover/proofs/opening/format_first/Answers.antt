@@ -1,6 +1,6 @@
 use Rattle.std.proofs.Common.{◌≡◌, ◌∙◌, ◌+◌, ◌-◌, ◌^◌, ℕ, List, min, length, false, ap, subst, arith}
 use Rattle.board_core.specs.Cause.{disk_call}
-use Rattle.board_core.specs.Doing.{Does, broke, looks, went_well}
+use Rattle.board_core.specs.Doing.{Does, broke, went_well}
 use Rattle.entry_format.specs.declared.version.Version.TheVariants.{Two}
 use Rattle.board_core.specs.declared.board.FileNo.TheVariants.{Zero}
 use Rattle.journal_format.specs.Checkpoints.{checkpoint_bytes}
@@ -9,12 +9,12 @@ use Rattle.ras_recover.proofs.opening.format_first.Goals as goal
 
 pub returns-in-Err-clause-does : goal.returns-in-Err-clause-does
 returns-in-Err-clause-does g c =
-    subst (λ (bytes : List ℕ). Does (looks g.B.Board.told g.B.Board.clock g.B.Board.faults) (formatting_acts Zero c.args.shut.0 bytes) (broke disk_call) c.args.board.now c.format_file.new.board)
+    subst (λ (bytes : List ℕ). Does g.B.Board.seen (formatting_acts Zero c.args.shut.0 bytes) (broke disk_call) c.args.board.now c.format_file.new.board)
     (c.deref.ensures.value ∙ c.in-Ok.ensures.is) c.in-Err.ensures.does
 
 pub returns-clause-does : goal.returns-clause-does
 returns-clause-does g c =
-    subst (λ (bytes : List ℕ). Does (looks g.B.Board.told g.B.Board.clock g.B.Board.faults) (formatting_acts Zero c.args.shut.0 bytes) went_well c.args.board.now c.format_file.new.board)
+    subst (λ (bytes : List ℕ). Does g.B.Board.seen (formatting_acts Zero c.args.shut.0 bytes) went_well c.args.board.now c.format_file.new.board)
     (c.deref.ensures.value ∙ c.in-Ok.ensures.is) c.in_default-format_file.ensures.does
 
 pub returns-clause-journal : goal.returns-clause-journal

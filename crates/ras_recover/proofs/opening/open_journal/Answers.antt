@@ -1,5 +1,4 @@
 use Rattle.std.proofs.Common.{ap, ◌∙◌}
-use Rattle.board_core.specs.Doing.{looks}
 use Rattle.ras_account.specs.declared.account.Account.{Account}
 use Rattle.ras_journal.specs.declared.journal.Journal.{Journal}
 use Rattle.ras_journal.specs.View.{JournalView}
@@ -45,19 +44,19 @@ format_first-requires g c =
 
 pub returns-in-Ok-format_first-clause-stops : goal.returns-in-Ok-format_first-clause-stops
 returns-in-Ok-format_first-clause-stops g c = λ t told.
-    opening_stops (looks g.B.Board.told g.B.Board.clock g.B.Board.faults) c.in-Ok.recovered.0.account.state c.in-Ok.recovered.1.0 c.in-Ok.recovered.1.1 _ _ _ t told c.in-Ok.ensures.recovers (rw (← c.in_default.is) c.in-Ok.ensures.standing)
+    opening_stops g.B.Board.seen c.in-Ok.recovered.0.account.state c.in-Ok.recovered.1.0 c.in-Ok.recovered.1.1 _ _ _ t told c.in-Ok.ensures.recovers (rw (← c.in_default.is) c.in-Ok.ensures.standing)
     c.in-Ok.ensures.shut (c.in-Ok.ensures.rests t told) (open_end c.format_first.result) c.format_first.ensures.can c.format_first.ensures.does c.in-Ok.ensures.keeps
 
 pub returns-in-Err-format_first-clause-stops : goal.returns-in-Err-format_first-clause-stops
 returns-in-Err-format_first-clause-stops g c = λ t told.
-    opening_stops (looks g.B.Board.told g.B.Board.clock g.B.Board.faults) c.in-Ok.recovered.0.account.state c.in-Ok.recovered.1.0 c.in-Ok.recovered.1.1 _ _ _ t told c.in-Ok.ensures.recovers (rw (← c.in_default.is) c.in-Ok.ensures.standing)
+    opening_stops g.B.Board.seen c.in-Ok.recovered.0.account.state c.in-Ok.recovered.1.0 c.in-Ok.recovered.1.1 _ _ _ t told c.in-Ok.ensures.recovers (rw (← c.in_default.is) c.in-Ok.ensures.standing)
     c.in-Ok.ensures.shut (c.in-Ok.ensures.rests t told) (open_end c.format_first.result) c.format_first.ensures.can c.format_first.ensures.does c.in-Ok.ensures.keeps
 
 pub returns-in-Ok-format_first-clause-opened : goal.returns-in-Ok-format_first-clause-opened
 returns-in-Ok-format_first-clause-opened g c = λ t told.
     let standing = ap (λ (v : JournalView). v.standing) c.in-Ok-format_first.ensures.journal in
     rw standing
-    (opening_opens (looks g.B.Board.told g.B.Board.clock g.B.Board.faults) c.in-Ok.recovered.0.account.state c.in-Ok.recovered.1.0 c.in-Ok.recovered.1.1 c.args.board.now _ _ t told c.in-Ok.ensures.recovers (rw (← c.in_default.is) c.in-Ok.ensures.standing)
+    (opening_opens g.B.Board.seen c.in-Ok.recovered.0.account.state c.in-Ok.recovered.1.0 c.in-Ok.recovered.1.1 c.args.board.now _ _ t told c.in-Ok.ensures.recovers (rw (← c.in_default.is) c.in-Ok.ensures.standing)
     c.in-Ok.ensures.shut (c.in-Ok.ensures.rests t told) (c.in-Ok-format_first.ensures.can tt) c.in-Ok-format_first.ensures.does)
 
 pub returns-in-Ok-format_first-clause-ready : goal.returns-in-Ok-format_first-clause-ready
@@ -71,7 +70,7 @@ returns-in-Ok-format_first-clause-standing g c =
 
 pub returns-in-Ok-format_first-clause-does : goal.returns-in-Ok-format_first-clause-does
 returns-in-Ok-format_first-clause-does g c = record {
-  told = told_formatted (looks g.B.Board.told g.B.Board.clock g.B.Board.faults) c.in-Ok.recovered.0.account.state c.in-Ok.recovered.1.0 (open_end c.format_first.result) _ _ _
+  told = told_formatted g.B.Board.seen c.in-Ok.recovered.0.account.state c.in-Ok.recovered.1.0 (open_end c.format_first.result) _ _ _
       (recovered_none c.in-Ok.recovered.0.account.state c.in-Ok.recovered.1.0 c.in-Ok.recovered.1.1 _ _ c.in-Ok.ensures.recovers (rw (← c.in_default.is) c.in-Ok.ensures.standing) c.in-Ok.ensures.shut c.in-Ok.ensures.does.reads)
       c.recover_files.ensures.does.told c.format_first.ensures.does;
   whole = opens_formatted c.in-Ok.recovered.0.account.state c.in-Ok.recovered.1.0 _ _ _
@@ -82,11 +81,11 @@ returns-in-Ok-format_first-clause-does g c = record {
 
 pub returns-in-Err-format_first-clause-does : goal.returns-in-Err-format_first-clause-does
 returns-in-Err-format_first-clause-does g c = record {
-  told = told_formatted (looks g.B.Board.told g.B.Board.clock g.B.Board.faults) c.in-Ok.recovered.0.account.state c.in-Ok.recovered.1.0 (open_end c.format_first.result) _ _ _
+  told = told_formatted g.B.Board.seen c.in-Ok.recovered.0.account.state c.in-Ok.recovered.1.0 (open_end c.format_first.result) _ _ _
       (recovered_none c.in-Ok.recovered.0.account.state c.in-Ok.recovered.1.0 c.in-Ok.recovered.1.1 _ _ c.in-Ok.ensures.recovers (rw (← c.in_default.is) c.in-Ok.ensures.standing) c.in-Ok.ensures.shut c.in-Ok.ensures.does.reads)
       c.recover_files.ensures.does.told c.format_first.ensures.does;
   whole = tt;
-  unopened = unopened_formatting (looks g.B.Board.told g.B.Board.clock g.B.Board.faults) c.in-Ok.recovered.0.account.state c.in-Ok.recovered.1.0 c.in-Err-format_first.refused _ _ _
+  unopened = unopened_formatting g.B.Board.seen c.in-Ok.recovered.0.account.state c.in-Ok.recovered.1.0 c.in-Err-format_first.refused _ _ _
       (recovered_none c.in-Ok.recovered.0.account.state c.in-Ok.recovered.1.0 c.in-Ok.recovered.1.1 _ _ c.in-Ok.ensures.recovers (rw (← c.in_default.is) c.in-Ok.ensures.standing) c.in-Ok.ensures.shut c.in-Ok.ensures.does.reads)
       c.recover_files.ensures.does.told c.in-Err-format_first.ensures.does;
 }
@@ -96,5 +95,5 @@ returns-in-Ok-format_first-clause-cause g c = no_faults _ _ tt (c.in-Ok-format_f
 
 pub returns-in-Err-format_first-clause-cause : goal.returns-in-Err-format_first-clause-cause
 returns-in-Err-format_first-clause-cause g c =
-    refusal_cause (Account × Journal) (looks g.B.Board.told g.B.Board.clock g.B.Board.faults) (first_acts c.in-Ok.recovered.1.0 c.in-Ok.recovered.0.account.state) c.in-Err-format_first.refused _ _ _ (same_faults _ _ tt c.in-Ok.ensures.cause)
+    refusal_cause (Account × Journal) g.B.Board.seen (first_acts c.in-Ok.recovered.1.0 c.in-Ok.recovered.0.account.state) c.in-Err-format_first.refused _ _ _ (same_faults _ _ tt c.in-Ok.ensures.cause)
     c.in-Err-format_first.ensures.does

@@ -1,6 +1,6 @@
 use Rattle.std.proofs.Common.{◌∙◌, ◌<◌, ap, subst}
 use Rattle.board_core.specs.Cause.{disk_call}
-use Rattle.board_core.specs.Doing.{Does, broke, looks, went_well}
+use Rattle.board_core.specs.Doing.{Does, broke, went_well}
 use Rattle.ras_journal.specs.declared.standing.Standing.{Standing}
 use Rattle.ras_recover.specs.Formatting.{formatting_acts}
 use Rattle.ras_recover.specs.Switching.{switched}
@@ -9,7 +9,7 @@ use Rattle.ras_recover.proofs.switching.switch_file.Goals as goal
 
 pub returns-in-Err-clause-does : goal.returns-in-Err-clause-does
 returns-in-Err-clause-does g c =
-    let see = looks g.B.Board.told g.B.Board.clock g.B.Board.faults in
+    let see = g.B.Board.seen in
     let standing = c.args.journal.now.standing in
     let account = c.args.account.now.state in
     let next_is = c.in-Some.ensures.is ∙ ap (λ (s : Standing). switched s account) c.standing-standing.ensures in
@@ -26,7 +26,7 @@ returns-in-Err-clause-can g c = λ made.
 
 pub returns-clause-does : goal.returns-clause-does
 returns-clause-does g c =
-    let see = looks g.B.Board.told g.B.Board.clock g.B.Board.faults in
+    let see = g.B.Board.seen in
     let standing = c.args.journal.now.standing in
     let account = c.args.account.now.state in
     let next_is = c.in-Some.ensures.is ∙ ap (λ (s : Standing). switched s account) c.standing-standing.ensures in

@@ -2,7 +2,7 @@ use Rattle.std.proofs.Common.{◌≡◌, ℕ, List, arith, refl, subst, take, dr
 use Rattle.std.specs.Prelude.{Ok, Err, IfSome}
 use Rattle.std.proofs.lemmas.Result.{err_from_is_err_and}
 use Rattle.board_core.specs.declared.board.Access.TheVariants.{RangeRead}
-use Rattle.board_core.specs.Doing.{looks, range_read}
+use Rattle.board_core.specs.Doing.{range_read}
 use Rattle.board_core.specs.Told.{Relates, Steps, MayListAccess, device_of, with_access}
 use Rattle.erst_store.specs.Actions.{range_length}
 use Rattle.erst_interp.proofs.BreakLemmas.{one_fails}
@@ -18,7 +18,7 @@ use Rattle.erst_driver.proofs.driver.Driver.read.Goals as goal
 
 pub returns-in_err-operate : goal.returns-in_err-operate
 returns-in_err-operate g c =
-    let see = looks g.B.Board.told g.B.Board.clock g.B.Board.faults in
+    let see = g.B.Board.seen in
     let lists = c.args.self.now in
     let id = c.args.id in
     let a = c.args.board.now in
@@ -35,16 +35,16 @@ returns-in_err-operate g c =
 
 pub returns-in_err-range_read : goal.returns-in_err-range_read
 returns-in_err-range_read g c =
-    let see = looks g.B.Board.told g.B.Board.clock g.B.Board.faults in
+    let see = g.B.Board.seen in
     let lists = c.args.self.now in
     let id = c.args.id in
     let a = c.args.board.now in
     let m = c.operate.new.board in
     let b = c.range_read.new.self in
     let read = c.in_err-range_read.ensures in
-    let failed = subst (λ (n : ℕ). Relates (MayListAccess (RangeRead 0 n)) (g.B.Board.told m) (g.B.Board.told b)) c.requires read.failed in
+    let failed = subst (λ (n : ℕ). Relates (MayListAccess (RangeRead 0 n)) (g.B.Board.seen m).told (g.B.Board.seen b).told) c.requires read.failed in
     let done = fetch_failed lists (read_steps id) (see a) (see m) (see b) (rw c.read_steps-steps.ensures at c.in_ok-operate.ensures.operates)
-    (one_fails (range_read 0 range_length) (g.B.Board.told m) (g.B.Board.told b) failed) (quiet_fails (range_read 0 range_length) (see m) (see b) read.stops failed read.cause) in
+    (one_fails (range_read 0 range_length) (g.B.Board.seen m).told (g.B.Board.seen b).told failed) (quiet_fails (range_read 0 range_length) (see m) (see b) read.stops failed read.cause) in
     let p = err_from_is_err_and c.from_residual-in_err-range_read.result c.from_residual-in_err-range_read.ensures.1 in
     rw (p.1, p.2) (record {
       reads = reads see lists a b id (omega (arith, c.ranges.id.fits)) c.range_read.new.buf (Err Register) done
@@ -54,7 +54,7 @@ returns-in_err-range_read g c =
 
 pub returns : goal.returns
 returns g c =
-    let see = looks g.B.Board.told g.B.Board.clock g.B.Board.faults in
+    let see = g.B.Board.seen in
     let lists = c.args.self.now in
     let id = c.args.id in
     let a = c.args.board.now in
@@ -62,8 +62,8 @@ returns g c =
     let b = c.range_read.new.self in
     let buffer = c.range_read.new.buf in
     let read = c.in_ok-range_read.ensures in
-    let told = subst (λ (n : ℕ). Steps (with_access (RangeRead 0 n)) (g.B.Board.told m) (g.B.Board.told b)) c.requires read.told in
-    let bytes = subst (λ (n : ℕ). IfSome (g.B.Board.told m) (λ t. buffer ≡ take n (drop 0 (device_of t).range))) c.requires read.read in
+    let told = subst (λ (n : ℕ). Steps (with_access (RangeRead 0 n)) (g.B.Board.seen m).told (g.B.Board.seen b).told) c.requires read.told in
+    let bytes = subst (λ (n : ℕ). IfSome (g.B.Board.seen m).told (λ t. buffer ≡ take n (drop 0 (device_of t).range))) c.requires read.read in
     let done = fetched lists (read_steps id) buffer (see a) (see m) (see b) (rw c.read_steps-steps.ensures at c.in_ok-operate.ensures.operates) bytes told
     (quiet_well (range_read 0 range_length) (see m) (see b) read.stops (λ t. refl) told read.cause) in
     record {
