@@ -5,7 +5,8 @@ use Rattle.board_core.specs.Clock.{untold, Passes, Leads}
 use Rattle.board_core.specs.Stop.{Left, InOut, Begins, Appends}
 use Rattle.board_core.specs.declared.board.FileNo.{FileNo}
 use Rattle.board_core.specs.declared.board.FileNo.TheVariants.{Zero, One}
-use Rattle.host_system.specs.BoardFile.{KeepsOthersIn, KeepsOthers, SeesPrinted, SeesBegun}
+use Rattle.host_system.specs.BoardFile.{KeepsOthersIn, KeepsOthers}
+use Rattle.host_system.specs.Steps.Calls.{SeesPrinted, SeesBegun}
 use Rattle.host_system.specs.Folder.{Folder, printed, folder_after, Stopped, MayLeaveFolder, here_in}
 use Rattle.host_system.specs.FolderPast.{FolderPast, Did, IfTold, changed_by, folder_of, MayPrint}
 use Rattle.host_system.specs.Steps.FolderLemmas.{AfterFolder, print_before}

@@ -61,7 +61,7 @@ named_goes One f held = record { there = held.there; named = refl; is_locked = h
 abbrev IsOpenNow : FileNo → FolderPast → Type 0
 IsOpenNow file past = IsOpenIn file (folder_of past)
 
-if_some : (P Q : FolderPast → Type 0) → ((p : FolderPast) → P p → Q p) → (told : Option FolderPast) → IfSome told P → IfSome told Q
+pub if_some : (P Q : FolderPast → Type 0) → ((p : FolderPast) → P p → Q p) → (told : Option FolderPast) → IfSome told P → IfSome told Q
 if_some P Q implies None was = tt
 if_some P Q implies (Some past) was = implies past was
 

@@ -13,7 +13,8 @@ use Rattle.board_core.specs.Told.{overlay, Torn}
 use Rattle.board_core.specs.declared.board.FileNo.{FileNo}
 use Rattle.board_core.specs.declared.board.FileNo.TheVariants.{Zero, One}
 use Rattle.host_system.specs.declared.system.FileName.TheVariants.{Journal}
-use Rattle.host_system.specs.BoardFile.{IsNamedIn, IsUsableIn, IsReadableIn, IsNamed, IsUsable, IsReadable, KeepsOthers, SeesWritten, SeesTorn}
+use Rattle.host_system.specs.BoardFile.{IsNamedIn, IsUsableIn, IsReadableIn, IsNamed, IsUsable, IsReadable, KeepsOthers}
+use Rattle.host_system.specs.Steps.Calls.{SeesWritten, SeesTorn}
 use Rattle.host_system.specs.Folder.{FolderFile, Folder, with_now, after_writing, after_syncing, wrote, synced, folder_after, Stopped, MayLeaveAny, MayLeaveName, MayLeaveFolder, here_in, settled_folder}
 use Rattle.host_system.specs.FolderPast.{FolderPast, Did, IfTold, changed_by, folder_of, MayWrite, file_bytes, bytes_or}
 use Rattle.host_system.specs.Steps.FolderLemmas.{write_before}

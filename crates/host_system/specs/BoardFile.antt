@@ -1,14 +1,11 @@
--- The files of a board over a system: when a file may be used, and what a board sees of a call.
-use Rattle.std.specs.Prelude.{◌≡◌, ℕ, List, [], ◌++◌, true, Option, IfSome, IsSome, Result, OnOk}
+-- The files of a board over a system: when a file may be used, and what a call leaves as it was.
+use Rattle.std.specs.Prelude.{◌≡◌, [], true, IsSome}
 use Rattle.board_core.specs.declared.board.FileNo.{FileNo}
 use Rattle.board_core.specs.declared.board.FileNo.TheVariants.{Zero, One}
-use Rattle.board_core.specs.Clock.{IsSynced, Passes}
-use Rattle.board_core.specs.Stop.{Same, InFile, InOut, Begins, file_in, with_file_in}
-use Rattle.board_core.specs.Told.{Torn, overlay}
 use Rattle.host_system.specs.declared.system.FileName.TheVariants.{Journal}
 use Rattle.host_system.specs.Folder.{Folder, NameEntry, FileUse, locked, lost, use_in, entry_named, bytes_now}
-use Rattle.host_system.specs.FolderPast.{FolderPast, IfTold, folder_of}
-use Rattle.host_system.specs.View.{HasWholeStore, HasSettledStore, is_settled_file, is_settled, clock_over, seen_now}
+use Rattle.host_system.specs.FolderPast.{FolderPast, folder_of}
+use Rattle.host_system.specs.View.{HasWholeStore, HasSettledStore, is_settled_file, is_settled, seen_now}
 
 -- A file exists, its name is durable, and it is locked.
 pub record IsUsableAs (entry : NameEntry) (how : FileUse) : Type 0 where
@@ -103,29 +100,3 @@ KeepsOthers file old new = KeepsOthersIn file (folder_of old) (folder_of new)
 -- A board sees the same as before.
 abbrev pub SeesSame : FolderPast → FolderPast → Type 0
 SeesSame old new = seen_now new ≡ seen_now old
-
--- A board sees these bytes written at an offset of a file.
-abbrev pub SeesWritten : FileNo → ℕ → List ℕ → FolderPast → FolderPast → Type 0
-SeesWritten file place bytes old new =
-    seen_now new ≡ with_file_in file (overlay place bytes (file_in file (seen_now old))) (seen_now old)
-
--- A board sees a torn write at an offset of a file.
-abbrev pub SeesTorn : FileNo → ℕ → ℕ → FolderPast → FolderPast → Type 0
-SeesTorn file place count old new = InFile file (Torn place count) (seen_now old) (seen_now new)
-
--- A board sees a piece appended to the output, or a beginning of the piece.
-abbrev pub SeesPrinted : List ℕ → FolderPast → FolderPast → Type 0
-SeesPrinted piece old new = seen_now new ≡ record (seen_now old) { out = (seen_now old).out ++ piece }
-
--- A board sees a beginning of a piece appended to the output.
-abbrev pub SeesBegun : List ℕ → FolderPast → FolderPast → Type 0
-SeesBegun piece old new = InOut (Begins piece) (seen_now old) (seen_now new)
-
--- A file was synced, or the sync failed. A board sees the same, and the other file and the store's file are
--- as they were. On `Ok` the file is durable, and may be used as before.
-pub record Syncs {T E : Type 0} (IsFor : FileNo → FolderPast → Type 0) (file : FileNo) (result : Result T E) (old new : Option FolderPast) : Type 0 where
-  pub told : IfTold SeesSame old new
-  pub keeps : IfTold (KeepsOthers file) old new
-  pub stops : Passes Same (clock_over old) (clock_over new)
-  pub synced : OnOk result (IfSome old (λ p. IsSynced file (file_in file (seen_now p)) (clock_over new)))
-  pub usable : OnOk result (IfSome new (IsFor file))

@@ -57,6 +57,13 @@ AreHeld (Open sound) past = AreSound IsUsable sound past
 AreHeld Unread past = AreOpenable past
 AreHeld (Seen files sound) past = AreSeen files sound past
 
+-- A file may be used: it is open and sound, or was read.
+abbrev pub IsReady : FileNo → JournalFiles → Type 0
+IsReady file Shut = ⊥
+IsReady file (Open sound) = IsTrue (part_of file sound)
+IsReady file Unread = ⊥
+IsReady file (Seen files sound) = Unit {0}
+
 -- A file is sound. No file is before all names of the folder are durable.
 abbrev pub IsOneSound : JournalFiles → Type 0
 IsOneSound Shut = ⊥
