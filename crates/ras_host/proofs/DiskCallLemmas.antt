@@ -5,7 +5,7 @@ use Rattle.std.specs.Prelude.{Option, None, IfSome, IfOk, Result, Ok, Err, OnOk,
 use Rattle.std.specs.Option.{option_map}
 use Rattle.board_core.specs.Cause.{FailsAs, Faults, HasCause, count_of, disk_call, with_count}
 use Rattle.board_core.specs.Clock.{Clock, IsSynced, Passes, StoreIsLeft}
-use Rattle.board_core.specs.Doing.{Made, Settles, calls, prints, writes}
+use Rattle.board_core.specs.Doing.{ActMade, ActSettles, calls, prints, writes}
 use Rattle.board_core.specs.Stop.{InFile, Left, Same, file_in, with_file_in}
 use Rattle.board_core.specs.Steps.MomentLemmas.{torn_nothing, torn_same}
 use Rattle.board_core.specs.Told.{FailsPrint, FailsWrite, MayList, Relates, Steps, Told, Torn, after_print, after_write, file_of, overlay, with_call, with_file}
@@ -76,7 +76,7 @@ caused disk old now r same counts = rw same (record { own = subst (λ (f : Fault
 
 -- its file isn't ready
 pub made_unready : {T U E F : Type 0} (call : DiskCall) (r : Result T E) (e : F) → IsErr r → (old new : BoardState) → Steps (with_call call) (told_of old) (told_of new) → Passes Same (clock_of old) (clock_of new)
-    → FailsAs {T = U} disk_call old.faults new.faults (Err e) → Made (calls call) r (seen_of old) (seen_of new)
+    → FailsAs {T = U} disk_call old.faults new.faults (Err e) → ActMade (calls call) r (seen_of old) (seen_of new)
 made_unready call r e is old new told stops cause = record {
   told = on_never _ r is;
   failed = on_any_err _ r (relates_called call (told_of old) (told_of new) told);
@@ -88,10 +88,10 @@ made_unready call r e is old new told stops cause = record {
 -- the system was asked, and a board sees the same
 pub made_asked : {T : Type 0} (call : DiskCall) (answer result : Result T Failed) (disk count : ℕ) (a b : BoardState) (past : Option FolderPast) → Begun call a b → past ≡ b.past
     → IfOk answer (λ value. result ≡ Ok value) → OnErr answer (IsErr result) → HasCause b.faults.disk disk answer
-    → OnOk answer (Settles (calls call) (seen_of a) (seen_of (asked_to past disk count b))) → Made (calls call) result (seen_of a) (seen_of (asked_to past disk count b))
+    → OnOk answer (ActSettles (calls call) (seen_of a) (seen_of (asked_to past disk count b))) → ActMade (calls call) result (seen_of a) (seen_of (asked_to past disk count b))
 made_asked call answer result disk count a b past begun same ok err counts settles =
     let listed : Steps (with_call call) (told_of a) (told_of (asked_to past disk count b)) = ap (λ (o : Option FolderPast). option_map (told_with b) (told_over o)) same ∙ begun.told in
-    subst (λ (r : Result _ Failed). Made (calls call) r (seen_of a) (seen_of (asked_to past disk count b))) (counted_is answer result ok err) (record {
+    subst (λ (r : Result _ Failed). ActMade (calls call) r (seen_of a) (seen_of (asked_to past disk count b))) (counted_is answer result ok err) (record {
       told = on_any_ok _ answer listed;
       failed = on_any_err _ answer (relates_called call (told_of a) (told_of (asked_to past disk count b)) listed);
       stops = same_then Same (λ l. refl) (clock_of a) (clock_of b) (clock_over past) begun.stops (same_stops b.past past same);
@@ -134,10 +134,10 @@ begun_file file call P b (Some p) (Some t) steps holds = subst (λ (l : Left). P
 
 pub made_synced : (file : FileNo) (answer result : Result (Unit {0}) Failed) (disk count : ℕ) (a b : BoardState) (past : Option FolderPast) → Begun (Sync file) a b → IfTold SeesSame b.past past
     → Passes Same (clock_over b.past) (clock_over past) → OnOk answer (IfSome b.past (λ p. IsSynced file (file_in file (seen_now p)) (clock_over past))) → OnOk answer (IfSome past HasSettledStore)
-    → IfOk answer (λ value. result ≡ Ok value) → OnErr answer (IsErr result) → HasCause b.faults.disk disk answer → Made (calls (Sync file)) result (seen_of a) (seen_of (asked_to past disk count b))
+    → IfOk answer (λ value. result ≡ Ok value) → OnErr answer (IsErr result) → HasCause b.faults.disk disk answer → ActMade (calls (Sync file)) result (seen_of a) (seen_of (asked_to past disk count b))
 made_synced file answer result disk count a b past begun sees stops synced settled ok err counts =
     let listed : Steps (with_call (Sync file)) (told_of a) (told_of (asked_to past disk count b)) = same_told b b.past past sees ∙ begun.told in
-    subst (λ (r : Result (Unit {0}) Failed). Made (calls (Sync file)) r (seen_of a) (seen_of (asked_to past disk count b))) (counted_is answer result ok err) (record {
+    subst (λ (r : Result (Unit {0}) Failed). ActMade (calls (Sync file)) r (seen_of a) (seen_of (asked_to past disk count b))) (counted_is answer result ok err) (record {
       told = on_any_ok _ answer listed;
       failed = on_any_err _ answer (relates_called (Sync file) (told_of a) (told_of (asked_to past disk count b)) listed);
       stops = same_then Same (λ l. refl) (clock_of a) (clock_of b) (clock_over past) begun.stops stops;
@@ -146,7 +146,7 @@ made_synced file answer result disk count a b past begun sees stops synced settl
     })
   where
     settles : (r : Result (Unit {0}) Failed) → OnOk r (IfSome b.past (λ p. IsSynced file (file_in file (seen_now p)) (clock_over past))) → OnOk r (IfSome past HasSettledStore)
-        → OnOk r (Settles (calls (Sync file)) (seen_of a) (seen_of (asked_to past disk count b)))
+        → OnOk r (ActSettles (calls (Sync file)) (seen_of a) (seen_of (asked_to past disk count b)))
     settles (Ok x) synced settled = (
       of_file file (Sync file) (λ bytes. IsSynced file bytes (clock_over past)) b b.past (told_of a) begun.told synced,
       store_settled past b.kept (disk_calls_noted b.disk_calls) (accesses_noted b.accesses) settled,
@@ -195,7 +195,7 @@ relates_nothing file place count (Some t) = nothing_torn file place count t
 -- its file isn't ready, or isn't a run's
 pub write_unready : {T U E F : Type 0} (file : FileNo) (place : ℕ) (bytes : List ℕ) (r : Result T E) (e : F) → IsErr r → (old new : BoardState)
     → Steps (with_call (WriteAt file place (length bytes))) (told_of old) (told_of new) → Passes Same (clock_of old) (clock_of new) → FailsAs {T = U} disk_call old.faults new.faults (Err e)
-    → Made (writes file place bytes) r (seen_of old) (seen_of new)
+    → ActMade (writes file place bytes) r (seen_of old) (seen_of new)
 write_unready file place bytes r e is old new told stops cause = record {
   told = on_never _ r is;
   failed = on_any_err _ r (then_torn file place (length bytes) (told_of old) (told_of new) (told_of new) told (relates_nothing file place (length bytes) (told_of new)));
@@ -207,7 +207,7 @@ write_unready file place bytes r e is old new told stops cause = record {
 
 -- a report's file isn't written
 pub made_refused : (file : FileNo) (place : ℕ) (bytes : List ℕ) (result : Result (Unit {0}) Failed) (failed : Failed) (disk count : ℕ) (a b : BoardState) → Begun (WriteAt file place (length bytes)) a b → IsErr result
-    → HasCause {T = Unit {0}} b.faults.disk disk (Err failed) → Made (writes file place bytes) result (seen_of a) (seen_of (asked_to b.past disk count b))
+    → HasCause {T = Unit {0}} b.faults.disk disk (Err failed) → ActMade (writes file place bytes) result (seen_of a) (seen_of (asked_to b.past disk count b))
 made_refused file place bytes result failed disk count a b begun is counts = record {
   told = on_never _ result is;
   failed = on_any_err _ result (then_torn file place (length bytes) (told_of a) (told_of b) (told_of b) begun.told (relates_nothing file place (length bytes) (told_of b)));
@@ -236,9 +236,9 @@ torn_told file place count b (Some p) (Some q) sees = record { bytes = sees.byte
 -- the system was asked
 pub made_wrote : (file : FileNo) (place : ℕ) (bytes : List ℕ) (answer result : Result (Unit {0}) Failed) (disk count : ℕ) (a b : BoardState) (past : Option FolderPast) → Begun (WriteAt file place (length bytes)) a b
     → WritesFile file place bytes answer b.past past → IfOk answer (λ value. result ≡ Ok value) → OnErr answer (IsErr result) → HasCause b.faults.disk disk answer
-    → Made (writes file place bytes) result (seen_of a) (seen_of (asked_to past disk count b))
+    → ActMade (writes file place bytes) result (seen_of a) (seen_of (asked_to past disk count b))
 made_wrote file place bytes answer result disk count a b past begun wrote ok err counts =
-    subst (λ (r : Result (Unit {0}) Failed). Made (writes file place bytes) r (seen_of a) (seen_of (asked_to past disk count b))) (counted_is answer result ok err) (record {
+    subst (λ (r : Result (Unit {0}) Failed). ActMade (writes file place bytes) r (seen_of a) (seen_of (asked_to past disk count b))) (counted_is answer result ok err) (record {
       told = done answer wrote.told;
       failed = tore answer wrote.failed;
       stops = same_then (TearsFile file place (length bytes)) (torn_nothing file place (length bytes)) (clock_of a) (clock_of b) (clock_over past) begun.stops wrote.stops;
@@ -275,9 +275,9 @@ begun_told piece b (Some p) (Some q) sees =
 
 pub made_print : (piece : List ℕ) (answer result : Result (Unit {0}) Failed) (printed count : ℕ) (b : BoardState) (past : Option FolderPast) → PrintsPiece piece answer b.past past
     → IfOk answer (λ value. result ≡ Ok value) → OnErr answer (IsErr result) → HasCause b.faults.prints printed answer
-    → Made (prints piece) result (seen_of b) (seen_of (record b { past = past; faults = record b.faults { prints = printed }; count = count }))
+    → ActMade (prints piece) result (seen_of b) (seen_of (record b { past = past; faults = record b.faults { prints = printed }; count = count }))
 made_print piece answer result printed count b past print ok err counts =
-    subst (λ (r : Result (Unit {0}) Failed). Made (prints piece) r (seen_of b) (seen_of (record b { past = past; faults = record b.faults { prints = printed }; count = count }))) (counted_is answer result ok err)
+    subst (λ (r : Result (Unit {0}) Failed). ActMade (prints piece) r (seen_of b) (seen_of (record b { past = past; faults = record b.faults { prints = printed }; count = count }))) (counted_is answer result ok err)
     (record {
       told = done answer print.told;
       failed = broke answer print.failed;
