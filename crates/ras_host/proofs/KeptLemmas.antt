@@ -1,11 +1,11 @@
 -- The device that is kept and the folder go together, however a call on it ended.
 use Rattle.std.proofs.Common.{◌≡◌, ℕ, ◌≤◌, List, [], length, take, Some, refl, sym, ap, subst, ◌∙◌, arith, inl, inr}
-use Rattle.std.specs.Prelude.{◌⊎◌, ◌≢◌, Bool, true, false, ◌&&◌, nat_eq, ◌==◌, if◌then◌else◌, Option, None, IfSome, IfOk, Result, Ok, Err, OnOk, OnErr}
+use Rattle.std.specs.Prelude.{◌⊎◌, ◌≢◌, Bool, true, false, ◌&&◌, nat_eq, ◌==◌, if◌then◌else◌, Option, None, IfSome, IfOk, Result, Ok, Err, IsErr, OnOk, OnErr}
 use Rattle.std.specs.Bool.{Decides}
 use Rattle.std.specs.Cmp.{unsigned_Decides}
 use Rattle.std.specs.Cmp.Lexicographic.{pointwise, pointwise_decides, bytes_decides}
 use Rattle.std.specs.Option.{option_map}
-use Rattle.std.specs.Result.{result_or, result_unwrap_or}
+use Rattle.std.specs.Result.{is_err, result_or, result_unwrap_or}
 use Rattle.std.proofs.lemmas.List.{take_all}
 use Rattle.std.proofs.lemmas.Result.{on_ok_weaker, on_err_weaker}
 use Rattle.board_core.specs.Clock.{Passes}
@@ -27,7 +27,7 @@ use Rattle.erst_store.specs.Steps.KeptLemmas.{IsDevice-new}
 use Rattle.erst_store.specs.Steps.StoreLemmas.{IsStore-nil}
 use Rattle.host_system.specs.BoardFile.{KeepsFile}
 use Rattle.host_system.specs.FolderPast.{FolderPast, IfTold, bytes_named, bytes_or, length_told}
-use Rattle.host_system.specs.StoreFile.{HasReplaced, KeepsWhole}
+use Rattle.host_system.specs.StoreFile.{HasReplaced, KeepsWhole, Replaces}
 use Rattle.host_system.specs.View.{HasSettledStore, HasWholeStore, MayBeRead, MayBegin, clock_over, seen_now, store_in, store_or, with_store}
 use Rattle.host_system.specs.Steps.FolderPastLemmas.{stands}
 use Rattle.host_system.specs.declared.system.FileName.TheVariants.{Store}
@@ -418,6 +418,22 @@ pub turned_saved : {T E : Type 0} (change : Change) (new : Kept) (result : Resul
 turned_saved change new result told after again keeps writes step saved is in_step =
     turned_wrote step saved change.made change.had.items change.before new result told after again in_step is.before is.made is.device keeps is.had writes
 
+-- the file was replaced, or that failed
+pub replaces_ok : {T E F : Type 0} (bytes : List ℕ) (result : Result T E) (x : T) (old new : Option FolderPast) → is_err result ≡ false → Replaces bytes result old new → Replaces {E = F} bytes (Ok x) old new
+replaces_ok bytes (Ok y) x old new is r = record { whole = r.whole; files = r.files; ok = r.ok; err = tt; stops = r.stops }
+replaces_ok bytes (Err e) x old new is r = absurd cc
+
+pub replaces_err : {T U E F : Type 0} (bytes : List ℕ) (result : Result T E) (e : F) (old new : Option FolderPast) → is_err result ≡ true → Replaces bytes result old new → Replaces {T = U} bytes (Err e) old new
+replaces_err bytes (Ok y) e old new is r = absurd cc
+replaces_err bytes (Err f) e old new is r = record { whole = r.whole; files = r.files; ok = tt; err = r.err; stops = r.stops }
+
+pub replaces_same : {T E : Type 0} (bytes same : List ℕ) (result : Result T E) (old new : Option FolderPast) → bytes ≡ same → Replaces bytes result old new → Replaces same result old new
+replaces_same bytes same result old new is r = subst (λ (b : List ℕ). Replaces b result old new) is r
+
+-- the device that was taken out is put back
+pub put_back_stays : (step : Device → Device) (saved back : Saved) (new : Kept) → new ≡ Here back → IsDevice back.device → back.device ≡ saved.device → StaysOrLoses step saved new
+put_back_stays step saved back new here device same = inl (record { saved = back; kept = here; after = same; store = refl; device = device })
+
 -- no change was made, or it was lost
 device_here : (saved : Saved) (told : Option FolderPast) → IfSome told (IsInStep (Here saved)) → IfSome told (λ p. saved.device ≡ device_in (Here saved) p)
 device_here saved None is = tt
@@ -429,6 +445,14 @@ turned_failed {T = T} {E = E} step saved new e told after same is (inl acts) =
     acts_any {T = T} {E = E} step saved.device (Here saved) new (Err e) told after is (device_here saved told is) refl same tt acts
 turned_failed step saved new e told after same is (inr lost) =
     turned_unwritten step saved lost.before lost.made new e told after same is lost.was lost.same lost.device lost.lost
+
+pub turned_ended : {T E : Type 0} (step : Device → Device) (saved : Saved) (new : Kept) (result : Result T E) (told after : Option FolderPast) → IsErr result → after ≡ told → IfSome told (IsInStep (Here saved)) → StaysOrLoses step saved new
+    → Turned step (Here saved) new result told after
+turned_ended step saved new (Ok x) told after failed same is ends = absurd (not_err failed)
+  where
+    not_err : false ≡ true → ⊥
+    not_err e = cc
+turned_ended {T = T} step saved new (Err e) told after failed same is ends = turned_failed {T = T} step saved new e told after same is ends
 
 -- the device that was taken out and the folder go together
 pub in_step_taken : (saved : Saved) (old : Kept) (told : Option FolderPast) → IfSome told (IsInStep old) → IfSome told (λ p. saved.device ≡ device_in old p) → IfSome told (IsInStep (Here saved))

@@ -194,7 +194,11 @@ impl Kept {
     {
         file_laws();
         let Change { before, made, had } = change;
-        if made.file != had && replace_store(&made.file, system).is_err() {
+        if made.file.as_slice() == had.as_slice() {
+            *self = Kept::Here(made);
+            return Ok(());
+        }
+        if replace_store(&made.file, system).is_err() {
             *self = Kept::Lost {
                 before,
                 after: made.device,
