@@ -14,11 +14,11 @@ use Rattle.board_core.specs.declared.board.DiskCall.TheVariants.{Sync, WriteAt}
 use Rattle.board_core.specs.declared.board.FileNo.{FileNo}
 use Rattle.board_core.specs.declared.board.FileNo.TheVariants.{Zero, One}
 use Rattle.board_core.specs.declared.source.Failed.{Failed}
-use Rattle.host_system.specs.BoardFile.{SeesSame}
+use Rattle.host_system.specs.BoardFile.{SeesSame, HasSettledStore}
 use Rattle.host_system.specs.FolderPast.{FolderPast, IfTold}
 use Rattle.host_system.specs.Steps.Calls.{PrintsPiece, SeesBegun, SeesPrinted, SeesTorn, SeesWritten, WritesFile}
 use Rattle.host_system.specs.Steps.FolderPastLemmas.{passes_then, stands}
-use Rattle.host_system.specs.View.{HasSettledStore, clock_over, seen_now, told_over}
+use Rattle.host_system.specs.View.{clock_over, seen_now, told_over}
 use Rattle.ras_host.specs.BoardState.{BoardState}
 use Rattle.ras_host.specs.Steps.Listed.{accesses_noted, disk_calls_noted}
 use Rattle.ras_host.specs.Steps.Telling.{clock_of, seen_of, told_of, told_with}

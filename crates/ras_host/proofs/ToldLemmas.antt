@@ -20,10 +20,10 @@ use Rattle.board_core.specs.declared.board.FileNo.TheVariants.{Zero, One}
 use Rattle.erst_store.specs.Device.{Device, Volatile, device_with, volatile_of}
 use Rattle.erst_store.specs.DeviceLaws.{IsDevice}
 use Rattle.erst_store.specs.Store.{Stored}
-use Rattle.host_system.specs.BoardFile.{KeepsFile, KeepsOthers, KeepsStore}
+use Rattle.host_system.specs.BoardFile.{KeepsFile, KeepsOthers, KeepsStore, HasSettledStore}
 use Rattle.host_system.specs.Steps.Calls.{SeesBegun, SeesPrinted, WritesFile}
 use Rattle.host_system.specs.FolderPast.{FolderPast, IfTold}
-use Rattle.host_system.specs.View.{HasSettledStore, HasWholeStore, clock_over, seen_now, told_over}
+use Rattle.host_system.specs.View.{HasWholeStore, clock_over, seen_now, told_over}
 use Rattle.host_system.specs.Steps.FolderPastLemmas.{stands}
 use Rattle.host_system.specs.Steps.LawLemmas.{store_left}
 use Rattle.ras_host.specs.JournalFiles.{AreHeld, IsOneSound, IsRead, Moves}
