@@ -1,15 +1,14 @@
 -- What a call of one of a board's files comes to, where a system tells.
-use Rattle.std.proofs.Common.{◌∷◌, ◌≡◌, ℕ, [], List, Some, refl, ap, sym, ◌∙◌, subst, inl, inr, ◌⊎◌, OnOk}
-use Rattle.std.specs.Prelude.{true, false, Option, None, IfSome, IsSome, Result, Ok, Err, OnErr}
+use Rattle.std.proofs.Common.{◌≡◌, ℕ, List, Some, refl, ap, sym, ◌∙◌, subst, inl, inr, ◌⊎◌, OnOk}
+use Rattle.std.specs.Prelude.{Option, None, IfSome, IsSome, Result, Ok, Err, OnErr}
 use Rattle.std.specs.Option.{option_map}
 use Rattle.board_core.specs.Clock.{untold, Passes}
-use Rattle.board_core.specs.DiskModel.{DiskFile}
 use Rattle.board_core.specs.Stop.{Left, Same}
 use Rattle.board_core.specs.declared.board.FileNo.{FileNo}
 use Rattle.board_core.specs.declared.board.FileNo.TheVariants.{Zero, One}
 use Rattle.host_system.specs.declared.system.FileName.TheVariants.{Journal}
 use Rattle.host_system.specs.BoardFile.{IsUsableAs, KeepsFileIn, other_than, KeepsOthersIn, KeepsOthers, SeesSame, IsSettled}
-use Rattle.host_system.specs.Folder.{FolderFile, NameEntry, Folder, FileUse, opened, locked, lost, used, change_name, entry_named, settled_name, FolderChange, wrote, synced, made, opens, locks, loses, synced_names, folder_after, Stopped, MayLeaveFolder, During, bytes_now, here_in}
+use Rattle.host_system.specs.Folder.{FolderFile, NameEntry, Folder, FileUse, opened, locked, lost, used, change_name, entry_named, FolderChange, wrote, synced, made, opens, locks, loses, synced_names, folder_after, Stopped, MayLeaveFolder, During, bytes_now, here_in}
 use Rattle.host_system.specs.FolderPast.{FolderPast, Did, IfTold, changed_by, folder_of, MayDo, IsMissing, bytes_or}
 use Rattle.host_system.specs.Steps.FolderLemmas.{AfterFolder, none_before, names_before, used_before, sync_before, made_before, after_syncing}
 use Rattle.host_system.specs.Steps.FolderPastLemmas.{consistent_of, folder_of-more, passes_change, passes_then, stands}

@@ -1,10 +1,10 @@
 -- What a disk call and a print of a board over a system come to. A disk call is listed and its file made ready, and then the
 -- system is called.
-use Rattle.std.proofs.Common.{◌≡◌, ℕ, ◌<◌, List, length, ◌++◌, Some, refl, sym, ap, subst, ◌∙◌, inl, inr}
+use Rattle.std.proofs.Common.{◌≡◌, ℕ, List, length, Some, refl, sym, ap, subst, ◌∙◌, inr}
 use Rattle.std.specs.Prelude.{Option, None, IfSome, IfOk, Result, Ok, Err, OnOk, OnErr, IsErr, true, false}
 use Rattle.std.specs.Option.{option_map}
-use Rattle.board_core.specs.Cause.{FailsAs, Faults, HasCause, count_of, disk_call, with_count}
-use Rattle.board_core.specs.Clock.{Clock, IsSynced, Passes, StoreIsLeft}
+use Rattle.board_core.specs.Cause.{FailsAs, Faults, HasCause, disk_call, with_count}
+use Rattle.board_core.specs.Clock.{Clock, IsSynced, Passes}
 use Rattle.board_core.specs.Doing.{Made, Settles, calls, prints, writes}
 use Rattle.board_core.specs.Stop.{InFile, Left, Same, file_in, with_file_in}
 use Rattle.board_core.specs.Steps.MomentLemmas.{torn_nothing, torn_same}
