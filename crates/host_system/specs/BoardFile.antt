@@ -1,24 +1,26 @@
 -- The files of a board over a system: when a file may be used, and what a call leaves as it was.
-use Rattle.std.specs.Prelude.{◌≡◌, [], true, IsSome}
+use Rattle.std.specs.Prelude.{◌≡◌, [], List, IsSome}
+use Rattle.erst_store.specs.Store.{Stored}
+use Rattle.board_core.specs.Stop.{Left}
 use Rattle.board_core.specs.declared.board.FileNo.{FileNo}
 use Rattle.board_core.specs.declared.board.FileNo.TheVariants.{Zero, One}
 use Rattle.host_system.specs.declared.system.FileName.TheVariants.{Journal}
-use Rattle.host_system.specs.Folder.{Folder, NameEntry, FileUse, locked, lost, use_in, entry_named, bytes_now}
+use Rattle.host_system.specs.Folder.{Folder, NameEntry, locked, lost, entry_named, bytes_now}
 use Rattle.host_system.specs.FolderPast.{FolderPast, folder_of}
-use Rattle.host_system.specs.View.{HasWholeStore, HasSettledStore, is_settled_file, is_settled, seen_now}
+use Rattle.host_system.specs.View.{HasWholeStore, IsWhole, seen_now}
 
 -- A file exists, its name is durable, and it is locked.
-pub record IsUsableAs (entry : NameEntry) (how : FileUse) : Type 0 where
+pub record IsUsableAs (entry : NameEntry) : Type 0 where
   pub there : IsSome (bytes_now entry)
   pub named : entry.others ≡ []
-  pub is_locked : how ≡ locked
+  pub is_locked : entry.how ≡ locked
 
 abbrev pub IsUsableIn : FileNo → Folder → Type 0
-IsUsableIn file folder = IsUsableAs (entry_named (Journal file) folder) (use_in (Journal file) folder.uses)
+IsUsableIn file folder = IsUsableAs (entry_named (Journal file) folder)
 
 -- no sync of the file failed
 abbrev pub IsOpenableIn : FileNo → Folder → Type 0
-IsOpenableIn file folder = use_in (Journal file) folder.uses ≡ lost → ⊥
+IsOpenableIn file folder = (entry_named (Journal file) folder).how ≡ lost → ⊥
 
 abbrev pub IsUsable : FileNo → FolderPast → Type 0
 IsUsable file past = IsUsableIn file (folder_of past)
@@ -29,7 +31,7 @@ IsOpenable file past = IsOpenableIn file (folder_of past)
 -- A file exists and is locked. Its name may not be durable yet.
 pub record IsHeldIn (file : FileNo) (folder : Folder) : Type 0 where
   pub there : IsSome (bytes_now (entry_named (Journal file) folder))
-  pub is_locked : use_in (Journal file) folder.uses ≡ locked
+  pub is_locked : (entry_named (Journal file) folder).how ≡ locked
 
 abbrev pub IsHeld : FileNo → FolderPast → Type 0
 IsHeld file past = IsHeldIn file (folder_of past)
@@ -48,6 +50,21 @@ pub record IsReadableIn (file : FileNo) (folder : Folder) : Type 0 where
 
 abbrev pub IsReadable : FileNo → FolderPast → Type 0
 IsReadable file past = IsReadableIn file (folder_of past)
+
+-- ---- the record store's file
+
+-- A name and all bytes of its file are durable.
+abbrev pub IsSettled : NameEntry → Type 0
+IsSettled entry = (entry.others ≡ []) × IsWhole entry.now
+
+-- The store's file is durable, and so is its name.
+abbrev pub HasSettledStore : FolderPast → Type 0
+HasSettledStore past = IsSettled (folder_of past).store
+
+abbrev pub with_store : List Stored → Left → Left
+with_store store left = record left { store = store }
+
+-- ---- what stays as it was
 
 -- A file stays as usable as it was.
 pub record KeepsFileIn (file : FileNo) (old new : Folder) : Type 0 where
@@ -90,8 +107,8 @@ other_than One = Zero
 
 -- A call of one file leaves the other file as usable as it was, and the store's file as durable.
 pub record KeepsOthersIn (file : FileNo) (old new : Folder) : Type 0 where
-  pub settled : is_settled old.store ≡ true → is_settled new.store ≡ true
-  pub whole : is_settled_file old.store.now ≡ true → is_settled_file new.store.now ≡ true
+  pub settled : IsSettled old.store → IsSettled new.store
+  pub whole : IsWhole old.store.now → IsWhole new.store.now
   pub other : KeepsFileIn (other_than file) old new
 
 abbrev pub KeepsOthers : FileNo → FolderPast → FolderPast → Type 0

@@ -12,13 +12,12 @@ use Rattle.mem_system.specs.declared.mem_system.Kept.{Kept}
 use Rattle.mem_system.specs.declared.mem_system.Kept.TheVariants.{Nothing, Folder as AFolder, NoMemory}
 use Rattle.host_system.specs.declared.system.FileName.{FileName}
 use Rattle.host_system.specs.declared.system.FileName.TheVariants.{Journal, Store, New}
-use Rattle.host_system.specs.Folder.{Folder, NameEntry, FolderChange, wrote, printed, folder_after, change_name, entry_named, Uses, Stopped, FileUse, with_use, using, bytes_now, MayLeaveFolder, settled_folder}
+use Rattle.host_system.specs.Folder.{Folder, NameEntry, FolderChange, wrote, printed, folder_after, change_name, entry_named, Stopped, FileUse, FolderFile, bytes_now, renewed, used, MayLeaveFolder, settled_folder}
 use Rattle.host_system.specs.FolderPast.{FolderPast, changed_by, folder_of, bytes_or, file_bytes, MayLeaveFolderSince, MayWrite, MayPrint}
 use Rattle.host_system.specs.Steps.FolderPastLemmas.{folder_of-more, since_kept, now_counts}
-use Rattle.host_system.specs.Steps.FolderLemmas.{uses_before}
 use Rattle.mem_system.specs.Steps.Kept.{IsCopied, IsOfPast, Holds}
 use Rattle.mem_system.specs.MemSystem.{MemState, with_change, as_stopped, name_numbered, change_numbered, change_noted, changes_noted, past_noted}
-use Rattle.mem_system.specs.Steps.MemFiles.{number_of, entry_seen, mem_entry, held_in, IsChanged, AreHeld}
+use Rattle.mem_system.specs.Steps.MemFiles.{Uses, number_of, entry_seen, mem_entry, held_in, uses_of, with_use, IsChanged, IsRenewed, AreHeld}
 
 named_again : (name : FileName) → name_numbered (number_of name) ≡ name
 named_again (Journal Zero) = refl
@@ -47,38 +46,56 @@ before_on change past NoMemory of = tt
 
 -- What is held is the folder after it.
 pub held_after : (change : FolderChange) (past next : FolderPast) (files after : MemFiles) (out text : List ℕ) (kept : Kept) → next ≡ changed_by change past
-    → ((uses : Uses) → held_in after text (folder_after change (held_in files out uses)).uses ≡ folder_after change (held_in files out uses))
+    → ((uses : Uses) → held_in after text (uses_of (folder_after change (held_in files out uses))) ≡ folder_after change (held_in files out uses))
     → Holds past files out kept → Holds next after text kept
 held_after change past next files after out text kept is step holds =
     subst (λ (p : FolderPast). Holds p after text kept) (sym is) (record {
-      held = subst (λ (f : Folder). held_in after text f.uses ≡ f) (sym (folder_of-more change past))
-          (subst (λ (f : Folder). held_in after text (folder_after change f).uses ≡ folder_after change f) holds.held (step (folder_of past).uses));
+      held = subst (λ (f : Folder). held_in after text (uses_of f) ≡ f) (sym (folder_of-more change past))
+          (subst (λ (f : Folder). held_in after text (uses_of (folder_after change f)) ≡ folder_after change f) holds.held (step (uses_of (folder_of past))));
       before = before_on change past kept holds.before;
     })
+
+-- what a stop leaves doesn't depend on how a run has the files
+any_uses : (files : MemFiles) (out : List ℕ) (uses other : Uses) (left : Stopped) → MayLeaveFolder (held_in files out uses) left → MayLeaveFolder (held_in files out other) left
+any_uses files out uses other left may = record { zero = may.zero; one = may.one; store = may.store; new = may.new; out = may.out }
 
 -- what is there now, as it is kept
 pub kept_now : (past : FolderPast) (files : MemFiles) (out : List ℕ) (kept : Kept) → AreHeld past files out → IsCopied files out kept → IsOfPast past kept
 kept_now past files out Nothing held is = tt
 kept_now past files out (AFolder kept text) held is = λ uses left may.
     now_counts (settled_folder past.first) past.changes 0 left (omega arith)
-    (subst (λ (f : Folder). MayLeaveFolder f left) held (uses_before uses (held_in files out (folder_of past).uses) left (subst (λ (f : Folder). MayLeaveFolder f left) (is uses) may)))
+    (subst (λ (f : Folder). MayLeaveFolder f left) held (any_uses files out uses (uses_of (folder_of past)) left (subst (λ (f : Folder). MayLeaveFolder f left) (is uses) may)))
 kept_now past files out NoMemory held is = tt
 
-uses_named : (name : FileName) (step : NameEntry → NameEntry) (folder : Folder) → (change_name name step folder).uses ≡ folder.uses
-uses_named (Journal Zero) step folder = refl
-uses_named (Journal One) step folder = refl
-uses_named Store step folder = refl
-uses_named New step folder = refl
+uses_named : (name : FileName) (step : NameEntry → NameEntry) → ((entry : NameEntry) → (step entry).how ≡ entry.how) → (folder : Folder) → uses_of (change_name name step folder) ≡ uses_of folder
+uses_named (Journal Zero) step keeps folder = ap (λ (how : FileUse). record (uses_of folder) { zero = how }) (keeps folder.zero)
+uses_named (Journal One) step keeps folder = ap (λ (how : FileUse). record (uses_of folder) { one = how }) (keeps folder.one)
+uses_named Store step keeps folder = ap (λ (how : FileUse). record (uses_of folder) { store = how }) (keeps folder.store)
+uses_named New step keeps folder = ap (λ (how : FileUse). record (uses_of folder) { new = how }) (keeps folder.new)
 
--- one name went on, and maybe how a run has its file
-pub changed_held : (name : FileName) (step : NameEntry → NameEntry) (files after : MemFiles) (out : List ℕ) → IsChanged name step files after
-    → (uses : Uses) → held_in after out (change_name name step (held_in files out uses)).uses ≡ change_name name step (held_in files out uses)
-changed_held name step files after out is uses = ap (held_in after out) (uses_named name step (held_in files out uses)) ∙ is out uses
+-- one name went on
+pub changed_held : (name : FileName) (step : NameEntry → NameEntry) → ((entry : NameEntry) → (step entry).how ≡ entry.how) → (files after : MemFiles) (out : List ℕ) → IsChanged name step files after
+    → (uses : Uses) → held_in after out (uses_of (change_name name step (held_in files out uses))) ≡ change_name name step (held_in files out uses)
+changed_held name step keeps files after out is uses = ap (held_in after out) (uses_named name step keeps (held_in files out uses)) ∙ is out uses
 
-pub used_held : (name : FileName) (how : FileUse) (step : NameEntry → NameEntry) (files after : MemFiles) (out : List ℕ) → IsChanged name step files after
-    → (uses : Uses) → held_in after out (using name how (change_name name step (held_in files out uses))).uses ≡ using name how (change_name name step (held_in files out uses))
-used_held name how step files after out is uses =
-    ap (λ (f : Folder). record f { uses = with_use name how (change_name name step (held_in files out uses)).uses }) (is out uses)
+uses_renewed : (name : FileName) (file : Option FolderFile) (how : FileUse) (files : MemFiles) (out : List ℕ) (uses : Uses) → uses_of (change_name name (renewed file how) (held_in files out uses)) ≡ with_use name how uses
+uses_renewed (Journal Zero) file how files out uses = refl
+uses_renewed (Journal One) file how files out uses = refl
+uses_renewed Store file how files out uses = refl
+uses_renewed New file how files out uses = refl
+
+-- one name refers to another file now, or to none
+pub renewed_held : (name : FileName) (file : Option FolderFile) (how : FileUse) (files after : MemFiles) (out : List ℕ) → IsRenewed name file files after
+    → (uses : Uses) → held_in after out (uses_of (change_name name (renewed file how) (held_in files out uses))) ≡ change_name name (renewed file how) (held_in files out uses)
+renewed_held name file how files after out is uses = ap (held_in after out) (uses_renewed name file how files out uses) ∙ is out uses how
+
+-- a run has a file in another way
+pub used_held : (name : FileName) (how : FileUse) (files : MemFiles) (out : List ℕ) (uses : Uses)
+    → held_in files out (uses_of (change_name name (used how) (held_in files out uses))) ≡ change_name name (used how) (held_in files out uses)
+used_held (Journal Zero) how files out uses = refl
+used_held (Journal One) how files out uses = refl
+used_held Store how files out uses = refl
+used_held New how files out uses = refl
 
 -- nothing was printed
 pub no_text : (files : MemFiles) (out : List ℕ) (uses : Uses) → held_in files out uses ≡ record (held_in files out uses) { out = out ++ [] }
@@ -87,14 +104,14 @@ no_text files out uses = ap (λ (o : List ℕ). held_in files o uses) (sym (appe
 -- ---- what is read
 
 -- a name's part of what is held
-pub entry_held : (name : FileName) (past : FolderPast) (files : MemFiles) (out : List ℕ) → AreHeld past files out → entry_seen (mem_entry name files) ≡ entry_named name (folder_of past)
-entry_held (Journal Zero) past files out held = ap (λ (f : Folder). f.zero) held
-entry_held (Journal One) past files out held = ap (λ (f : Folder). f.one) held
-entry_held Store past files out held = ap (λ (f : Folder). f.store) held
-entry_held New past files out held = ap (λ (f : Folder). f.new) held
+pub entry_held : (name : FileName) (past : FolderPast) (files : MemFiles) (out : List ℕ) → AreHeld past files out → bytes_now (entry_seen (mem_entry name files)) ≡ bytes_now (entry_named name (folder_of past))
+entry_held (Journal Zero) past files out held = ap (λ (f : Folder). bytes_now f.zero) held
+entry_held (Journal One) past files out held = ap (λ (f : Folder). bytes_now f.one) held
+entry_held Store past files out held = ap (λ (f : Folder). bytes_now f.store) held
+entry_held New past files out held = ap (λ (f : Folder). bytes_now f.new) held
 
 pub bytes_held : (name : FileName) (past now : FolderPast) (files : MemFiles) (out : List ℕ) → past ≡ now → AreHeld past files out → bytes_or (bytes_now (entry_seen (mem_entry name files))) ≡ file_bytes name now
-bytes_held name past now files out is held = ap (λ (e : NameEntry). bytes_or (bytes_now e)) (entry_held name past files out held) ∙ ap (file_bytes name) is
+bytes_held name past now files out is held = ap bytes_or (entry_held name past files out held) ∙ ap (file_bytes name) is
 
 pub read_front : (most count len : ℕ) (bytes taken whole : List ℕ) → taken ≡ take count bytes → count ≡ min most len → len ≡ length bytes → bytes ≡ whole → taken ≡ take most whole
 read_front most count len bytes taken whole is counted long same =
@@ -129,13 +146,13 @@ pub left_now : {E : Type 0} (made : Result LeftFolder E) (past now : FolderPast)
 left_now (Ok left) past now files out seen is held same may =
     subst (λ (p : FolderPast). MayLeaveFolder (folder_of p) (as_stopped left)) is
     (subst (λ (f : Folder). MayLeaveFolder f (as_stopped left)) held
-    (subst (λ (o : List ℕ). MayLeaveFolder (held_in files o (folder_of past).uses) (as_stopped left)) same (may (folder_of past).uses)))
+    (subst (λ (o : List ℕ). MayLeaveFolder (held_in files o (uses_of (folder_of past))) (as_stopped left)) same (may (uses_of (folder_of past)))))
 left_now (Err e) past now files out seen is held same may = tt
 
 pub left_then : (past now : FolderPast) (kept : Kept) (files : MemFiles) (text : Vec ℕ Global) (seen : List ℕ) (left : Stopped) → past ≡ now → IsOfPast past kept → kept ≡ AFolder files text → seen ≡ text.items
     → ((uses : Uses) → MayLeaveFolder (held_in files seen uses) left) → MayLeaveFolderSince (settled_folder now.first) now.changes 0 left
 left_then past now kept files text seen left same of is all may =
-    let uses : Uses = (settled_folder past.first).uses in
+    let uses : Uses = uses_of (settled_folder past.first) in
     let moment : IsOfPast past (AFolder files text) = subst (λ (k : Kept). IsOfPast past k) is of in
     subst (λ (p : FolderPast). MayLeaveFolderSince (settled_folder p.first) p.changes 0 left) same
     (moment uses left (subst (λ (o : List ℕ). MayLeaveFolder (held_in files o uses) left) all (may uses)))

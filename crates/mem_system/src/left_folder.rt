@@ -1,9 +1,9 @@
 //! What a crash leaves of a system in memory.
 ghost use Rattle.std.specs.Prelude.{◌≡◌, ℕ, List, Option, length, IfOk, OnOk};
 ghost use Rattle.board_core.specs.DiskModel.{MayLeaveFile};
-ghost use Rattle.host_system.specs.Folder.{Uses, MayLeaveOne, MayLeaveName, MayLeaveFolder};
+ghost use Rattle.host_system.specs.Folder.{MayLeaveOne, MayLeaveName, MayLeaveFolder};
 ghost use Rattle.mem_system.specs.MemSystem.{as_stopped, items_in, nothing_there};
-ghost use Rattle.mem_system.specs.Steps.MemFiles.{disk_seen, entry_seen, held_in, other_seen, range_of};
+ghost use Rattle.mem_system.specs.Steps.MemFiles.{Uses, disk_seen, entry_seen, held_in, other_seen, range_of};
 ghost use Rattle.mem_system.specs.Steps.LeftFolder.{IsLaid, IsPadded};
 
 use crate::mem_files::{MemEntry, MemFile, MemFiles, MemWrite, copy_bytes, overlaid};

@@ -2,11 +2,12 @@
 ghost use Rattle.std.specs.Prelude.{◌≡◌, ◌+◌, ◌≤◌, length, map, take, vec_len, vec_capacity, None, Some, IfOk, OnOk, OnErr};
 ghost use Rattle.std.specs.Option.{option_map};
 ghost use Rattle.board_core.specs.Told.{overlay};
-ghost use Rattle.host_system.specs.Folder.{after_writing, after_syncing, with_now, renewed, settled_name, empty_file, entry_from, bytes_now};
+ghost use Rattle.host_system.specs.Folder.{after_writing, with_now, renewed, settled_name, shut, entry_from, bytes_now};
+ghost use Rattle.host_system.specs.Steps.FolderLemmas.{after_syncing, empty_file};
 ghost use Rattle.host_system.specs.FolderPast.{bytes_or};
 ghost use Rattle.std.specs.Borrow.{sem};
 ghost use Rattle.mem_system.specs.MemSystem.{items_in};
-ghost use Rattle.mem_system.specs.Steps.MemFiles.{entry_seen, file_seen, other_seen, mem_entry, range_of, IsChanged, IsSame, IsRenamed, AreSettled, LendsEntry};
+ghost use Rattle.mem_system.specs.Steps.MemFiles.{entry_seen, file_seen, other_seen, mem_entry, range_of, IsChanged, IsRenewed, IsSame, IsRenamed, AreSettled, LendsEntry};
 
 use board_core::FileNo;
 use host_system::FileName;
@@ -205,7 +206,7 @@ impl MemEntry {
     // Lets the name refer to another file, or to no file.
     fn renew(&mut self, file: Option<MemFile>) -> Result<(), NoMemory>
         ensures ok { OnOk result (entry_seen self.new
-            ≡ renewed (option_map file_seen file) (entry_seen self.old)) }
+            ≡ renewed (option_map file_seen file) shut (entry_seen self.old)) }
         ensures err { OnErr result (entry_seen self.new ≡ entry_seen self.old) }
         ensures full { OnErr result (vec_capacity self.old.others ≤ vec_len self.old.others) }
     {
@@ -284,8 +285,8 @@ impl MemFiles {
 
     /// Lets a name refer to another file, or to no file.
     pub fn renew(&mut self, name: FileName, file: Option<MemFile>) -> Result<(), NoMemory>
-        ensures ok { OnOk result (IsChanged name (renewed (option_map file_seen file))
-            self.old self.new) }
+        ensures ok { OnOk result (IsRenewed name (option_map file_seen file) self.old
+            self.new) }
         ensures err { OnErr result (IsSame self.old self.new) }
     {
         self.get_mut(name).renew(file)

@@ -1,10 +1,10 @@
 -- What a disk call and a print of a board over a system come to. A disk call is listed and its file made ready, and then the
 -- system is called.
-use Rattle.std.proofs.Common.{◌≡◌, ℕ, ◌<◌, List, length, ◌++◌, Some, refl, sym, ap, subst, ◌∙◌, inl, inr}
+use Rattle.std.proofs.Common.{◌≡◌, ℕ, List, length, Some, refl, sym, ap, subst, ◌∙◌, inr}
 use Rattle.std.specs.Prelude.{Option, None, IfSome, IfOk, Result, Ok, Err, OnOk, OnErr, IsErr, true, false}
 use Rattle.std.specs.Option.{option_map}
-use Rattle.board_core.specs.Cause.{FailsAs, Faults, HasCause, count_of, disk_call, with_count}
-use Rattle.board_core.specs.Clock.{Clock, IsSynced, Passes, StoreIsLeft}
+use Rattle.board_core.specs.Cause.{FailsAs, Faults, HasCause, disk_call, with_count}
+use Rattle.board_core.specs.Clock.{Clock, IsSynced, Passes}
 use Rattle.board_core.specs.Doing.{ActMade, ActSettles, calls, prints, writes}
 use Rattle.board_core.specs.Stop.{InFile, Left, Same, file_in, with_file_in}
 use Rattle.board_core.specs.Steps.MomentLemmas.{torn_nothing, torn_same}
@@ -14,11 +14,11 @@ use Rattle.board_core.specs.declared.board.DiskCall.TheVariants.{Sync, WriteAt}
 use Rattle.board_core.specs.declared.board.FileNo.{FileNo}
 use Rattle.board_core.specs.declared.board.FileNo.TheVariants.{Zero, One}
 use Rattle.board_core.specs.declared.source.Failed.{Failed}
-use Rattle.host_system.specs.BoardFile.{SeesSame}
+use Rattle.host_system.specs.BoardFile.{SeesSame, HasSettledStore}
 use Rattle.host_system.specs.FolderPast.{FolderPast, IfTold}
 use Rattle.host_system.specs.Steps.Calls.{PrintsPiece, SeesBegun, SeesPrinted, SeesTorn, SeesWritten, WritesFile}
 use Rattle.host_system.specs.Steps.FolderPastLemmas.{passes_then, stands}
-use Rattle.host_system.specs.View.{HasSettledStore, clock_over, seen_now, told_over}
+use Rattle.host_system.specs.View.{clock_over, seen_now, told_over}
 use Rattle.ras_host.specs.BoardState.{BoardState}
 use Rattle.ras_host.specs.Steps.Listed.{accesses_noted, disk_calls_noted}
 use Rattle.ras_host.specs.Steps.Telling.{clock_of, seen_of, told_of, told_with}

@@ -1,18 +1,14 @@
 -- What a call of the journal's files comes to, by what it asks of the system.
-use Rattle.std.proofs.Common.{◌≡◌, ℕ, List, length, Some, refl, sym, ap, ◌∙◌, subst, OnOk, inl, inr}
-use Rattle.std.specs.Prelude.{◌⊎◌, Bool, true, false, IsTrue, Option, None, IfSome, IfOk, Result, Ok, Err, OnErr}
+use Rattle.std.proofs.Common.{◌≡◌, ℕ, List, Some, refl, sym, ◌∙◌, subst, OnOk, inl, inr}
+use Rattle.std.specs.Prelude.{◌⊎◌, Bool, true, false, IsTrue, Option, None, IfSome, IfOk, Result, Ok, Err}
 use Rattle.std.specs.Result.{is_ok}
 use Rattle.board_core.specs.Clock.{Passes}
-use Rattle.board_core.specs.Stop.{Left, Same, InFile, file_in, with_file_in}
-use Rattle.board_core.specs.Steps.MomentLemmas.{torn_nothing}
-use Rattle.board_core.specs.Told.{Torn, overlay}
+use Rattle.board_core.specs.Stop.{Left, Same, file_in}
 use Rattle.board_core.specs.declared.board.FileNo.{FileNo}
 use Rattle.board_core.specs.declared.board.FileNo.TheVariants.{Zero, One}
-use Rattle.host_system.specs.BoardFile.{AreNamed, AreOpenable, AreOpened, IsReadable, IsUsable, KeepsFile, KeepsOthers, KeepsStore, SeesSame}
-use Rattle.host_system.specs.Steps.Calls.{SeesWritten, SeesTorn}
+use Rattle.host_system.specs.BoardFile.{AreNamed, AreOpenable, AreOpened, IsReadable, IsUsable, KeepsFile, KeepsOthers, KeepsStore, SeesSame, HasSettledStore}
 use Rattle.host_system.specs.FolderPast.{FolderPast, IfTold}
-use Rattle.host_system.specs.Steps.FolderPastLemmas.{passes_then, stands}
-use Rattle.host_system.specs.View.{HasSettledStore, HasWholeStore, clock_over, seen_now}
+use Rattle.host_system.specs.View.{HasWholeStore, clock_over, seen_now}
 use Rattle.ras_host.specs.JournalFiles.{AreHeld, AreRead, AreSound, IsOneSound, IsRead, IsReady, Moves, SettlesStore, part_of, with_part}
 use Rattle.ras_host.specs.declared.journal.JournalFiles.{JournalFiles}
 use Rattle.ras_host.specs.declared.journal.JournalFiles.TheVariants.{Open, Seen, Shut, Unread}

@@ -25,10 +25,10 @@ use Rattle.erst_store.specs.StoreReading.{file_at, store_at}
 use Rattle.erst_store.specs.declared.reading.StoreRefused.{StoreRefused}
 use Rattle.erst_store.specs.Steps.KeptLemmas.{IsDevice-new}
 use Rattle.erst_store.specs.Steps.StoreLemmas.{IsStore-nil}
-use Rattle.host_system.specs.BoardFile.{KeepsFile}
+use Rattle.host_system.specs.BoardFile.{KeepsFile, HasSettledStore, with_store}
 use Rattle.host_system.specs.FolderPast.{FolderPast, IfTold, bytes_named, bytes_or, length_told}
 use Rattle.host_system.specs.StoreFile.{HasReplaced, KeepsWhole, Replaces}
-use Rattle.host_system.specs.View.{HasSettledStore, HasWholeStore, MayBeRead, MayBegin, clock_over, seen_now, store_in, store_or, with_store}
+use Rattle.host_system.specs.View.{HasWholeStore, MayBeRead, MayBegin, clock_over, seen_now, store_in}
 use Rattle.host_system.specs.Steps.FolderPastLemmas.{stands}
 use Rattle.host_system.specs.declared.system.FileName.TheVariants.{Store}
 use Rattle.ras_host.specs.JournalFiles.{AreHeld, files_for}
@@ -215,7 +215,8 @@ acts_any step was old new (Err e) before after in_step taken used same ok err =
 
 -- the bytes of a store's file are read as the store
 pub bytes_again : ((records : List Stored) → IsStore records → file_at (store_bytes records) ≡ Ok records) → (bytes : List ℕ) (store : List Stored) → IsStore store → bytes ≡ store_bytes store → store_in (Some bytes) ≡ store
-bytes_again again bytes store kept is = ap (λ (b : List ℕ). store_or (file_at b)) is ∙ ap store_or (again store kept)
+bytes_again again bytes store kept is =
+    ap (λ (b : List ℕ). result_unwrap_or (file_at b) []) is ∙ ap (λ (r : Result (List Stored) StoreRefused). result_unwrap_or r []) (again store kept)
 
 -- the file has this store once that went well
 record Wrote {T E : Type 0} (store : List Stored) (result : Result T E) (p : FolderPast) (after : Option FolderPast) : Type 0 where
@@ -472,13 +473,9 @@ put_is id bytes d made is free = is ∙ ap (λ (r : Option PutRefused). unless_r
 
 -- ---- a beginning
 
-unwrapped : (r : Result (List Stored) StoreRefused) → result_unwrap_or r [] ≡ store_or r
-unwrapped (Ok records) = refl
-unwrapped (Err refused) = refl
-
 pub store_kept : (AreBytes : List ℕ → Type 0) → ((bytes : List ℕ) → AreBytes bytes → IsStore (store_at bytes)) → (o : Option (List ℕ)) → AreBytes (bytes_or o) → IsStore (store_in o)
 store_kept AreBytes law None are = IsStore-nil
-store_kept AreBytes law (Some bytes) are = subst IsStore (unwrapped (file_at bytes)) (law bytes are)
+store_kept AreBytes law (Some bytes) are = law bytes are
 
 pub in_step_begun : ((p : FolderPast) → MayBegin p → IsStore (seen_now p).store) → (told : Option FolderPast) → IfSome told MayBegin → IfSome told (IsInStep Unread)
 in_step_begun law None may = tt

@@ -1,14 +1,14 @@
 -- What a board over a system tells after a call, by what it told before. Of the board here are what
 -- the system tells, the device that is kept, and what is listed.
-use Rattle.std.proofs.Common.{◌≡◌, ℕ, List, length, [], ◌∷◌, ◌++◌, Some, refl, sym, ap, subst, ◌∙◌, inl, inr}
+use Rattle.std.proofs.Common.{◌≡◌, ℕ, List, [], ◌∷◌, ◌++◌, Some, refl, sym, ap, subst, ◌∙◌, inl, inr}
 use Rattle.std.specs.Prelude.{Option, None, IfSome, IfOk, Result, Ok, Err, OnOk, OnErr, IsErr}
 use Rattle.std.specs.Option.{option_map}
 use Rattle.std.specs.Result.{result_unwrap_or}
 use Rattle.board_core.specs.Cause.{FailsAs, device_call, put_failure, with_count}
 use Rattle.board_core.specs.Clock.{Passes, StoreIsLeft}
 use Rattle.board_core.specs.Doing.{PutMade, Seen as SeenBoard}
-use Rattle.board_core.specs.Stop.{Left, InFile, InStore, Same, file_in, with_file_in}
-use Rattle.board_core.specs.Told.{Told, Torn, Relates, Steps, StoreBy, MayListAccess, MayAct, FailsAccess, after_put, device_of, on_device, overlay, register_in, with_access}
+use Rattle.board_core.specs.Stop.{Left, InStore, Same, file_in, with_file_in}
+use Rattle.board_core.specs.Told.{Told, Relates, Steps, StoreBy, MayListAccess, MayAct, FailsAccess, after_put, device_of, on_device, overlay, register_in, with_access}
 use Rattle.board_core.specs.declared.board.Access.{Access}
 use Rattle.board_core.specs.declared.board.Access.TheVariants.{Read}
 use Rattle.board_core.specs.declared.board.Reg.{Reg}
@@ -20,10 +20,10 @@ use Rattle.board_core.specs.declared.board.FileNo.TheVariants.{Zero, One}
 use Rattle.erst_store.specs.Device.{Device, Volatile, device_with, volatile_of}
 use Rattle.erst_store.specs.DeviceLaws.{IsDevice}
 use Rattle.erst_store.specs.Store.{Stored}
-use Rattle.host_system.specs.BoardFile.{KeepsFile, KeepsOthers, KeepsStore}
+use Rattle.host_system.specs.BoardFile.{KeepsFile, KeepsOthers, KeepsStore, HasSettledStore}
 use Rattle.host_system.specs.Steps.Calls.{SeesBegun, SeesPrinted, WritesFile}
 use Rattle.host_system.specs.FolderPast.{FolderPast, IfTold}
-use Rattle.host_system.specs.View.{HasSettledStore, HasWholeStore, clock_over, seen_now, told_over}
+use Rattle.host_system.specs.View.{HasWholeStore, clock_over, seen_now, told_over}
 use Rattle.host_system.specs.Steps.FolderPastLemmas.{stands}
 use Rattle.host_system.specs.Steps.LawLemmas.{store_left}
 use Rattle.ras_host.specs.JournalFiles.{AreHeld, IsOneSound, IsRead, Moves}

@@ -1,8 +1,8 @@
 //! The working folder's files and standard output as a board.
 ghost use Rattle.std.specs.Prelude.{◌≡◌, [], IfSome, OnOk};
 ghost use Rattle.board_core.specs.Cause.{FailsAs, disk_call};
-ghost use Rattle.board_core.specs.Clock.{LeftNow, Passes};
-ghost use Rattle.board_core.specs.Stop.{Left, Same};
+ghost use Rattle.board_core.specs.Clock.{Passes};
+ghost use Rattle.board_core.specs.Stop.{Same};
 ghost use Rattle.board_core.specs.Told.{Steps, with_call};
 ghost use Rattle.host_system.specs.View.{MayBegin};
 ghost use Rattle.ras_host.specs.Steps.Telling.{clock_of, seen_of, told_of};

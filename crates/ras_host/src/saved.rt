@@ -1,5 +1,5 @@
 //! The record store of the working folder, and a device over it.
-ghost use Rattle.std.specs.Prelude.{◌≡◌, OnOk, OnErr, IfOk, IfSome};
+ghost use Rattle.std.specs.Prelude.{◌≡◌, IfOk, IfSome};
 ghost use Rattle.std.specs.Option.{option_map};
 ghost use Rattle.erst_store.specs.Device.{new_device};
 ghost use Rattle.erst_store.specs.StoreFile.{store_bytes};

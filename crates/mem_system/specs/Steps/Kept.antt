@@ -3,9 +3,9 @@ use Rattle.std.specs.Prelude.{◌≡◌, ℕ, List}
 use Rattle.mem_system.specs.declared.mem_files.MemFiles.{MemFiles}
 use Rattle.mem_system.specs.declared.mem_system.Kept.{Kept}
 use Rattle.mem_system.specs.declared.mem_system.Kept.TheVariants.{Nothing, Folder as AFolder, NoMemory}
-use Rattle.host_system.specs.Folder.{Uses, Stopped, MayLeaveFolder, settled_folder}
+use Rattle.host_system.specs.Folder.{Stopped, MayLeaveFolder, settled_folder}
 use Rattle.host_system.specs.FolderPast.{FolderPast, MayLeaveFolderSince}
-use Rattle.mem_system.specs.Steps.MemFiles.{held_in, AreHeld}
+use Rattle.mem_system.specs.Steps.MemFiles.{Uses, held_in, AreHeld}
 
 -- These files and this output are kept, if anything is.
 abbrev pub IsCopied : MemFiles → List ℕ → Kept → Type 0

@@ -13,7 +13,7 @@ use Rattle.host_system.specs.declared.system.FileName.{FileName}
 use Rattle.host_system.specs.declared.system.FileName.TheVariants.{Journal, Store, New}
 use Rattle.mem_system.specs.contracts.mem_files.MemEntry as of_entry
 use Rattle.mem_system.specs.contracts.mem_files.MemFiles as of_files
-use Rattle.host_system.specs.Folder.{FolderFile, NameEntry, Folder, Uses, change_name, folder_after, renamed, synced_names, on_disk}
+use Rattle.host_system.specs.Folder.{FileUse, shut, FolderFile, NameEntry, Folder, change_name, folder_after, renamed, renewed, synced_names, on_disk, used}
 use Rattle.host_system.specs.FolderPast.{FolderPast, folder_of}
 
 -- the number that a name is noted by
@@ -42,7 +42,7 @@ abbrev pub other_seen : Option MemFile → Option DiskFile
 other_seen file = on_disk (option_map file_seen file)
 
 abbrev pub entry_seen : MemEntry → NameEntry
-entry_seen entry = record { now = option_map file_seen entry.here; others = map other_seen entry.others.items }
+entry_seen entry = record { now = option_map file_seen entry.here; others = map other_seen entry.others.items; how = shut }
 
 -- ---- the files
 
@@ -61,30 +61,50 @@ with_mem_entry New files entry = record files { fresh = entry }
 abbrev pub LendsEntry : FileName → MutBor MemFiles → MutBor MemEntry → Fml
 LendsEntry name files entry = Lends of_files.the_row of_entry.the_row files entry (with_mem_entry name files.now)
 
+-- ---- how a run has the files, which they don't hold
+
+pub record Uses : Type 0 where
+  pub zero : FileUse
+  pub one : FileUse
+  pub store : FileUse
+  pub new : FileUse
+
+abbrev pub with_use : FileName → FileUse → Uses → Uses
+with_use (Journal Zero) how uses = record uses { zero = how }
+with_use (Journal One) how uses = record uses { one = how }
+with_use Store how uses = record uses { store = how }
+with_use New how uses = record uses { new = how }
+
+abbrev pub uses_of : Folder → Uses
+uses_of folder = record { zero = folder.zero.how; one = folder.one.how; store = folder.store.how; new = folder.new.how }
+
 -- the folder of these files, with this output, and so used
 abbrev pub held_in : MemFiles → List ℕ → Uses → Folder
 held_in files out uses = record {
-  zero = entry_seen files.zero;
-  one = entry_seen files.one;
-  store = entry_seen files.store;
-  new = entry_seen files.fresh;
+  zero = used uses.zero (entry_seen files.zero);
+  one = used uses.one (entry_seen files.one);
+  store = used uses.store (entry_seen files.store);
+  new = used uses.new (entry_seen files.fresh);
   out = out;
-  uses = uses;
 }
 
 -- One name went on by a step.
 abbrev pub IsChanged : FileName → (NameEntry → NameEntry) → MemFiles → MemFiles → Type 0
 IsChanged name step old new = (out : List ℕ) (uses : Uses) → held_in new out uses ≡ change_name name step (held_in old out uses)
 
+-- One name refers to another file now, or to none.
+abbrev pub IsRenewed : FileName → Option FolderFile → MemFiles → MemFiles → Type 0
+IsRenewed name file old new = (out : List ℕ) (uses : Uses) (how : FileUse) → held_in new out (with_use name how uses) ≡ change_name name (renewed file how) (held_in old out uses)
+
 abbrev pub IsSame : MemFiles → MemFiles → Type 0
 IsSame old new = (out : List ℕ) (uses : Uses) → held_in new out uses ≡ held_in old out uses
 
 abbrev pub IsRenamed : MemFiles → MemFiles → Type 0
-IsRenamed old new = (out : List ℕ) (uses : Uses) → held_in new out (folder_after renamed (held_in old out uses)).uses ≡ folder_after renamed (held_in old out uses)
+IsRenamed old new = (out : List ℕ) (uses : Uses) → held_in new out (uses_of (folder_after renamed (held_in old out uses))) ≡ folder_after renamed (held_in old out uses)
 
 abbrev pub AreSettled : MemFiles → MemFiles → Type 0
 AreSettled old new = (out : List ℕ) (uses : Uses) → held_in new out uses ≡ folder_after synced_names (held_in old out uses)
 
 -- The files and the output are the folder's, with all that the disk may have of it.
 abbrev pub AreHeld : FolderPast → MemFiles → List ℕ → Type 0
-AreHeld past files out = held_in files out (folder_of past).uses ≡ folder_of past
+AreHeld past files out = held_in files out (uses_of (folder_of past)) ≡ folder_of past

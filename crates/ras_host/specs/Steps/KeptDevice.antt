@@ -10,9 +10,9 @@ use Rattle.board_core.specs.declared.board.FileNo.{FileNo}
 use Rattle.erst_store.specs.Device.{Device, Volatile, device_with, volatile_of, new_device, with_put}
 use Rattle.erst_store.specs.DeviceLaws.{IsDevice}
 use Rattle.erst_store.specs.Store.{Stored, refusal_of}
-use Rattle.host_system.specs.BoardFile.{KeepsFile}
+use Rattle.host_system.specs.BoardFile.{KeepsFile, HasSettledStore, with_store}
 use Rattle.host_system.specs.FolderPast.{FolderPast, IfTold}
-use Rattle.host_system.specs.View.{HasSettledStore, HasWholeStore, clock_over, seen_now, with_store}
+use Rattle.host_system.specs.View.{HasWholeStore, clock_over, seen_now}
 use Rattle.ras_host.specs.declared.kept.Change.{Change}
 use Rattle.ras_host.specs.declared.kept.Kept.{Kept}
 use Rattle.ras_host.specs.declared.saved.Saved.{Saved}

@@ -12,6 +12,6 @@ pub returns-clause-read : goal.returns-clause-read
 returns-clause-read c =
     front_counted c.front-answer.result c.counted.result c.args.most _ (bytes_named c.args.name c.args.self.now.past) (MayBeRead c.args.name c.args.self.now.past)
     (ap (λ (e : MemEntry). bytes_now (entry_seen e)) c.get.ensures
-    ∙ (ap bytes_now (entry_held c.args.name (past_noted (as_stopped c.self.inside.first) c.self.inside.notes.calls) c.self.inside.files c.self.inside.out.items c.self.invariant.held)
+    ∙ (entry_held c.args.name (past_noted (as_stopped c.self.inside.first) c.self.inside.notes.calls) c.self.inside.files c.self.inside.out.items c.self.invariant.held
     ∙ ap (bytes_named c.args.name) (ap (λ (s : MemState). s.past) c.self.view_is ∙ c.begin.ensures.past)))
     c.front-answer.ensures c.counted.ensures.ok c.counted.ensures.err

@@ -48,8 +48,7 @@ invariant_of-self-2 g c =
     let usable = ready_open c.args.file b.files _ ready c.in_default.not-Seen c.self.invariant.0 in
     let within = begun_file c.args.file (WriteAt c.args.file c.args.place (length c.args.bytes.now)) (λ bytes. c.args.place ≤ length bytes) board (g.S.System.told b.system) _ first.told c.requires in
     let r = c.write_at-answer in
-    let wrote = writes c.args.file c.args.place c.args.bytes.now r.result _ _ usable within r.ensures.told r.ensures.failed in
-    (
+    let wrote = writes c.args.file c.args.place c.args.bytes.now r.result _ _ usable within r.ensures.told r.ensures.failed in (
       held_wrote c.args.file b.files _ _ ready c.in_default.not-Seen c.self.invariant.0 wrote.keeps wrote.usable,
       in_step_wrote c.args.file c.args.place c.args.bytes.now r.result b.kept _ _ wrote c.self.invariant.1,
       settled_wrote c.args.file b.files b.kept _ _ wrote.keeps c.self.invariant.2,
