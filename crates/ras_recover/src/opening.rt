@@ -19,9 +19,9 @@ ghost use Rattle.ras_recover.specs.OpeningActs.{DoesOpening};
 use crate::formatting::{format_file, next_bytes};
 use crate::recovering::recover_files;
 use crate::{OpenRefused, Recovered};
-use board_core::{Board, Failed, FileNo};
+use board_core::{Board, FileNo};
 use entry_format::Version;
-use journal_format::{CHECKPOINT_PLACE, checkpoint_len};
+use journal_format::CHECKPOINT_PLACE;
 use ras_account::Account;
 use ras_journal::{Journal, Standing};
 use std::alloc::Global;
@@ -46,13 +46,8 @@ fn format_first<B: Board>(
     }) }
     ensures refuses { IfErr result (λ refused. (held : Result State Refusal) → RefusesHeld refused held) }
 {
-    let count = checkpoint_len(account);
-    let Ok(bytes) = next_bytes(alloc, 1, count, account) else {
-        return Err(OpenRefused::NoMemory);
-    };
-    if let Err(Failed) = format_file(FileNo::Zero, shut.0, &bytes, board) {
-        return Err(OpenRefused::Disk);
-    }
+    let (bytes, count) = next_bytes(alloc, 1, account)?;
+    format_file(FileNo::Zero, shut.0, &bytes, board)?;
     Ok(Journal::at(Standing {
         file: FileNo::Zero,
         version: Version::Two,
