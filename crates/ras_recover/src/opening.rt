@@ -95,15 +95,11 @@ pub fn open_journal<B: Board>(
     ensures cause { FailsAs disk_call (B.seen board.old).faults (B.seen board.new).faults
         (open_failure result) }
 {
-    let (Recovered { account, standing }, shut) = match recover_files(alloc, board) {
-        Ok(recovered) => recovered,
-        Err(refused) => return Err(refused),
-    };
+    let recovered = recover_files(alloc, board)?;
+    let (Recovered { account, standing }, shut) = recovered;
     if let Some(standing) = standing {
         return Ok((account, Journal::at(standing)));
     }
-    match format_first(alloc, &account, shut, board) {
-        Ok(journal) => Ok((account, journal)),
-        Err(refused) => Err(refused),
-    }
+    let journal = format_first(alloc, &account, shut, board)?;
+    Ok((account, journal))
 }
