@@ -3,13 +3,13 @@ use Rattle.std.proofs.Common.{◌≡◌, ℕ, ◌+◌, ◌≤◌, ◌⊎◌, max
 use Rattle.erst_store.specs.Store.{Stored}
 use Rattle.board_core.specs.declared.board.FileNo.{FileNo}
 use Rattle.board_core.specs.declared.board.FileNo.TheVariants.{Zero, One}
-use Rattle.board_core.specs.Doing.{Seen}
+use Rattle.board_core.specs.Doing.{Act, DeviceCall, Seen, after_device, device, prints as prints_act}
 use Rattle.board_core.specs.CallsMade.{IsMade, AreMade, KeepsDisk, range_in, ranges_in}
 use Rattle.board_core.specs.Clock.{Clock, LeftNow, After, Passes, IsSynced}
 use Rattle.board_core.specs.Steps.DiskLemmas.{torn_more, settled_left, begins_none, nothing_begins, outside_front, greatest_length-more}
 use Rattle.board_core.specs.DiskModel.{Range, greatest_length, DiskFile, Disk, MayLeave, MayLeaveFile, MayLeaveSince, Call, writes, syncs, stores, prints, rests, after, after_all}
-use Rattle.board_core.specs.MemBoard.{Past, Change, acted, printed, with_change, DeviceChange, device_step, device_in, call_of, calls_of, settled_disk, clock_of, disk_of, held_of}
-use Rattle.board_core.specs.Steps.ChangeLemmas.{here_left, calls_of-more}
+use Rattle.board_core.specs.MemBoard.{Past, with_act, steps_of, steps_of_all, settled_disk, clock_of, disk_of, now_of}
+use Rattle.board_core.specs.Steps.ChangeLemmas.{here_left, steps_of_all-more}
 use Rattle.board_core.specs.Steps.MomentLemmas.{becomes_same, call_more, last_counts}
 use Rattle.board_core.specs.Stop.{Left, Same, Becomes, Begins, Appends, InFile, InStore, InOut, file_in}
 use Rattle.board_core.specs.Told.{Torn}
@@ -207,29 +207,29 @@ module _ {B : Type 0} (see : B → Seen) (file : FileNo) where
 -- a board in memory that prints, and one whose device acts
 
 module _ (past : Past) where
-  last_call : (change : Change) (left : Left) → MayLeave (disk_of past) (call_of change (held_of past)) left → (clock_of (with_change change past)).may_leave_since (clock_of past).now left
-  last_call change left may =
-      rw (calls_of-more past.changes change past.first)
-      (last_counts (settled_disk past.first.here) (calls_of past.changes past.first) (call_of change (held_of past)) left may)
+  last_call : (act : Act) (call : Call) (left : Left) → steps_of act (now_of past) ≡ call ∷ [] → MayLeave (disk_of past) call left → (clock_of (with_act act past)).may_leave_since (clock_of past).now left
+  last_call act call left is may =
+      rw (steps_of_all-more past.acts act past.first, is)
+      (last_counts (settled_disk past.first.here) (steps_of_all past.acts past.first) call left may)
 
-  pub while_printing : (part missing : List ℕ) → (clock_of (with_change (printed (part ++ missing)) past)).may_leave_since (clock_of past).now (record (held_of past).here { out = (held_of past).here.out ++ part })
+  pub while_printing : (part missing : List ℕ) → (clock_of (with_act (prints_act (part ++ missing)) past)).may_leave_since (clock_of past).now (record (now_of past).here { out = (now_of past).here.out ++ part })
   while_printing part missing =
-      let may : MayLeave (disk_of past) rests (held_of past).here = here_left past in
-      last_call (printed (part ++ missing)) (record (held_of past).here { out = (held_of past).here.out ++ part }) (record {
+      let may : MayLeave (disk_of past) rests (now_of past).here = here_left past in
+      last_call (prints_act (part ++ missing)) (prints (part ++ missing) (part ++ missing)) (record (now_of past).here { out = (now_of past).here.out ++ part }) refl (record {
         zero = may.zero;
         one = may.one;
         store = may.store;
-        out = record { part = part; missing = missing; splits = refl; is = ap (λ xs. xs ++ part) (begins_none (disk_of past).out (held_of past).here.out may.out) };
+        out = record { part = part; missing = missing; splits = refl; is = ap (λ xs. xs ++ part) (begins_none (disk_of past).out (now_of past).here.out may.out) };
       })
 
-  pub while_acting : (change : DeviceChange) (store : List Stored) → Becomes (device_step change (device_in (held_of past))).store (held_of past).here.store store
-      → (clock_of (with_change (acted change) past)).may_leave_since (clock_of past).now (record (held_of past).here { store = store })
-  while_acting change store becomes =
-      let may : MayLeave (disk_of past) rests (held_of past).here = here_left past in
-      let kept : (held_of past).here.store ≡ (disk_of past).store = becomes_same (disk_of past).store (held_of past).here.store may.store in
-      last_call (acted change) (record (held_of past).here { store = store }) (record {
+  pub while_acting : (call : DeviceCall) (store : List Stored) → Becomes (after_device call (now_of past)).here.store (now_of past).here.store store
+      → (clock_of (with_act (device call) past)).may_leave_since (clock_of past).now (record (now_of past).here { store = store })
+  while_acting call store becomes =
+      let may : MayLeave (disk_of past) rests (now_of past).here = here_left past in
+      let kept : (now_of past).here.store ≡ (disk_of past).store = becomes_same (disk_of past).store (now_of past).here.store may.store in
+      last_call (device call) (stores (after_device call (now_of past)).here.store (after_device call (now_of past)).here.store) (record (now_of past).here { store = store }) refl (record {
         zero = may.zero;
         one = may.one;
-        store = subst (λ (records : List Stored). Becomes (device_step change (device_in (held_of past))).store records store) kept becomes;
+        store = subst (λ (records : List Stored). Becomes (after_device call (now_of past)).here.store records store) kept becomes;
         out = may.out;
       })

@@ -1,17 +1,16 @@
 -- Acts one after another, and what calls that do them come to.
-use Rattle.std.proofs.Common.{ℕ, ◌≤◌, ◌≡◌, ◌∙◌, List, [], ◌∷◌, ◌++◌, Option, None, Some, Result, Ok, Err, OnOk, OnErr, refl, sym, ap, subst, inl, inr, ◌⊎◌}
+use Rattle.std.proofs.Common.{ℕ, ◌≤◌, ◌≡◌, ◌∙◌, List, [], ◌∷◌, ◌++◌, Option, None, Some, Result, Ok, Err, refl, sym, ap, subst, inl, inr, ◌⊎◌}
 use Rattle.std.specs.Option.{option_map}
 use Rattle.erst_store.specs.Device.{Device}
 use Rattle.erst_store.specs.Store.{Stored}
 use Rattle.board_core.specs.declared.board.BoardPut.{BoardPut}
 use Rattle.board_core.specs.declared.board.BoardPut.TheVariants.{Refused, Failed}
-use Rattle.board_core.specs.declared.board.DiskCall.{DiskCall}
 use Rattle.board_core.specs.Cause.{Faults, FailsAs, Kind, disk_call, device_call, print_call, count_of, put_failure, with_count}
 use Rattle.board_core.specs.Clock.{After, Clock, Adds, LeftNow, Passes, Rests, StoreIsLeft}
 use Rattle.board_core.specs.Steps.ClockLemmas.{adds_at_rest, adds_both, adds_none, adds_weaker, rests_listed, rests_on, rests_printed, rests_store, rests_stored}
 use Rattle.board_core.specs.Stop.{Becomes, InStore, Left, Same}
 use Rattle.board_core.specs.Told.{Told, Relates, Steps, StoreBy, after_put, after_reg_write, device_of}
-use Rattle.board_core.specs.Doing.{Act, DeviceCall, Does, Ended, FailsAct, FailsActs, GoesWell, IsBad, IsMade, IsSafe, Made, Moment, PutMade, Raises, Seen, Settles, Stays, Tears, after_act, after_acts, after_device, broke, calls, device, gave_up, kind_of, one_end, prints, put, put_acts, range_read, range_write, reg_read, reg_write, through, went_well, writes}
+use Rattle.board_core.specs.Doing.{Act, DeviceCall, Does, Ended, FailsAct, FailsActs, GoesWell, IsBad, IsMade, ActMade, Moment, PutMade, Raises, Seen, ActSettles, Tears, after_act, after_acts, after_device, broke, calls, device, gave_up, kind_of, one_end, prints, put, put_acts, range_read, range_write, reg_read, reg_write, through, went_well, writes}
 
 -- ---- lists of acts
 
@@ -127,7 +126,13 @@ does_stops see acts gave_up a b does t rests = subst (λ x. Adds (Moment acts t)
 
 -- ---- one act
 
-same_count : (kind : Kind) (faults : Faults) → with_count kind (count_of kind faults) faults ≡ faults
+-- One call, after which a crash leaves what the model says if a crash before did: any but a write without its sync.
+abbrev pub IsSafe : Act → Type 0
+IsSafe (through file place bytes) = ⊥
+IsSafe (writes file place bytes) = ⊥
+IsSafe act = Unit {0}
+
+pub same_count : (kind : Kind) (faults : Faults) → with_count kind (count_of kind faults) faults ≡ faults
 same_count disk_call faults = refl
 same_count device_call faults = refl
 same_count print_call faults = refl
@@ -168,7 +173,7 @@ rests_changed call step t a b frame steps passes stored rests =
     there = steps ∙ ap (option_map (after_device call)) rests.is
 
 -- If a crash before would have left what the model says, so does one after an act that is done.
-rests_one : (act : Act) → IsSafe act → (t : Told) (a b : Seen) → Steps (after_act act) a.told b.told → Passes (Tears act a.told) a.clock b.clock → Settles act a b
+rests_one : (act : Act) → IsSafe act → (t : Told) (a b : Seen) → Steps (after_act act) a.told b.told → Passes (Tears act a.told) a.clock b.clock → ActSettles act a b
     → Rests t a.told a.clock → Rests (after_act act t) b.told b.clock
 rests_one (through file place bytes) safe t a b steps passes settles rests = absurd safe
 rests_one (writes file place bytes) safe t a b steps passes settles rests = absurd safe
@@ -181,7 +186,7 @@ rests_one (device (range_write place bytes)) safe t a b steps passes settles res
 rests_one (device (put id bytes)) safe t a b steps passes settles rests = rests_changed (put id bytes) (after_put id bytes) t a b refl steps passes settles rests
 
 -- a call of a board, as an act
-pub does_made : {X T E : Type 0} (see : X → Seen) (act : Act) (result : Result T E) (a b : X) → IsSafe act → Made act result (see a) (see b) → Does see (act ∷ []) (one_end (kind_of act) result) a b
+pub does_made : {X T E : Type 0} (see : X → Seen) (act : Act) (result : Result T E) (a b : X) → IsSafe act → ActMade act result (see a) (see b) → Does see (act ∷ []) (one_end (kind_of act) result) a b
 does_made see act (Ok x) a b safe made = record {
   told = made.told;
   stops = stops_one see act a b made.stops;

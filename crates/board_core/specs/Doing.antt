@@ -50,7 +50,7 @@ kind_of (prints bytes) = print_call
 kind_of (calls call) = disk_call
 kind_of (device call) = device_call
 
--- ---- a call of the device: done, failed, torn by a crash
+-- ---- a call of the device: done, failed
 
 -- the model after a device call that succeeded
 abbrev pub after_device : DeviceCall → Told → Told
@@ -69,12 +69,6 @@ FailsDevice (range_read place count) old new = MayListAccess (RangeRead place co
 FailsDevice (range_write place bytes) old new =
     FailsAccess (RangeWrite place (length bytes)) (after_range_write place bytes) old new
 FailsDevice (put id bytes) old new = MayAct (after_put id bytes) old new
-
--- A crash during a device call leaves the store as before the call or as after it, if the board is modelled.
-abbrev pub TearsDevice : DeviceCall → Option Told → Left → Left → Type 0
-TearsDevice (reg_write reg value) told = InStore (StoreBy (after_reg_write reg value) told)
-TearsDevice (put id bytes) told = InStore (StoreBy (after_put id bytes) told)
-TearsDevice call told = Same
 
 -- the accesses that are listed of a device call
 abbrev pub accesses_by : DeviceCall → Device → List Access
@@ -107,8 +101,9 @@ abbrev pub Tears : Act → Option Told → Left → Left → Type 0
 Tears (through file place bytes) told = InFile file (Torn place (length bytes))
 Tears (writes file place bytes) told = InFile file (Torn place (length bytes))
 Tears (prints bytes) told = InOut (Begins bytes)
-Tears (calls call) told = Same
-Tears (device call) told = TearsDevice call told
+Tears (device (reg_write reg value)) told = InStore (StoreBy (after_reg_write reg value) told)
+Tears (device (put id bytes)) told = InStore (StoreBy (after_put id bytes) told)
+Tears act told = Same
 
 -- the disk calls that are listed of an act
 abbrev pub disk_calls_by : Act → List DiskCall
@@ -122,39 +117,33 @@ disk_calls_by (device call) = []
 
 -- What is certain of a crash once this act has succeeded: a sync leaves the file's bytes and the store, a print the
 -- whole piece, and a device call that may change the store leaves the changed one if a crash before left the old one.
-abbrev pub Settles : Act → Seen → Seen → Type 0
-Settles (calls (Sync file)) old new =
+abbrev pub ActSettles : Act → Seen → Seen → Type 0
+ActSettles (calls (Sync file)) old new =
     IfSome old.told (λ t. IsSynced file (file_of file t) new.clock) × StoreIsLeft new.told new.clock
-Settles (prints bytes) old new = Leads (InOut (Appends bytes)) old.clock new.clock
-Settles (device (reg_write reg value)) old new = StoreIsLeft old.told old.clock → StoreIsLeft new.told new.clock
-Settles (device (put id bytes)) old new = StoreIsLeft old.told old.clock → StoreIsLeft new.told new.clock
-Settles act old new = Unit {0}
+ActSettles (prints bytes) old new = Leads (InOut (Appends bytes)) old.clock new.clock
+ActSettles (device (reg_write reg value)) old new = StoreIsLeft old.told old.clock → StoreIsLeft new.told new.clock
+ActSettles (device (put id bytes)) old new = StoreIsLeft old.told old.clock → StoreIsLeft new.told new.clock
+ActSettles act old new = Unit {0}
 
 -- An act was made by one call, with this result. The model changes as the act does, or as a failed call of it may; a
 -- crash tears the act at most; the call counts one fault of its kind if and only if it failed.
-pub record Made {T E : Type 0} (act : Act) (result : Result T E) (old new : Seen) : Type 0 where
+pub record ActMade {T E : Type 0} (act : Act) (result : Result T E) (old new : Seen) : Type 0 where
   pub told : OnOk result (Steps (after_act act) old.told new.told)
   pub failed : OnErr result (Relates (FailsAct act) old.told new.told)
   pub stops : Passes (Tears act old.told) old.clock new.clock
-  pub settles : OnOk result (Settles act old new)
+  pub settles : OnOk result (ActSettles act old new)
   pub cause : FailsAs (kind_of act) old.faults new.faults result
 
--- One call, after which a crash leaves what the model says if a crash before did: any but a write without its sync.
-abbrev pub IsSafe : Act → Type 0
-IsSafe (through file place bytes) = ⊥
-IsSafe (writes file place bytes) = ⊥
-IsSafe act = Unit {0}
-
 -- Nothing changed, and a crash meanwhile leaves what a crash before might have left.
-pub record Stays (old new : Seen) : Type 0 where
+pub record BoardStays (old new : Seen) : Type 0 where
   pub told : new.told ≡ old.told
   pub stops : Passes Same old.clock new.clock
   pub faults : new.faults ≡ old.faults
 
 -- A put was made. One that is refused changes nothing.
 abbrev pub PutMade : ℕ → List ℕ → Result (Unit {0}) BoardPut → Seen → Seen → Type 0
-PutMade id bytes (Err (Refused cause)) old new = Stays old new
-PutMade id bytes result old new = Made (device (put id bytes)) (put_failure result) old new
+PutMade id bytes (Err (Refused cause)) old new = BoardStays old new
+PutMade id bytes result old new = ActMade (device (put id bytes)) (put_failure result) old new
 
 -- ---- acts one after another
 

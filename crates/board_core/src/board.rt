@@ -6,7 +6,7 @@ ghost use Rattle.erst_store.specs.DeviceLaws.{IsDevice};
 ghost use Rattle.erst_store.specs.Store.{refusal_of};
 ghost use Rattle.board_core.specs.declared.board.DiskCall.TheVariants.{Size, ReadAt, Sync};
 ghost use Rattle.board_core.specs.Clock.{LeftNow};
-ghost use Rattle.board_core.specs.Doing.{Seen, Made, PutMade, writes, prints, calls, device};
+ghost use Rattle.board_core.specs.Doing.{Seen, ActMade, PutMade, writes, prints, calls, device};
 ghost use Rattle.board_core.specs.Doing.{reg_read, reg_write, range_read, range_write};
 ghost use Rattle.board_core.specs.Stop.{Left};
 ghost use Rattle.board_core.specs.Told.{Told, file_of, ReadsBytes, device_of, register_in, AnswersPut};
@@ -78,7 +78,7 @@ pub trait Board {
     fn size(&mut self, file: FileNo) -> Result<u64, Failed>
         ensures length { IfOk result (λ n. IfSome (seen self.old).told (λ t. n
             ≡ length (file_of file t))) }
-        ensures does { Made (calls (Size file)) result (seen self.old) (seen self.new) };
+        ensures does { ActMade (calls (Size file)) result (seen self.old) (seen self.new) };
 
     /// Reads the bytes from offset `place` on into the front of `buf` and returns how many: fewer
     /// than `buf` has room for only if the file ends there.
@@ -86,7 +86,7 @@ pub trait Board {
         ensures within { IfOk result (λ n. n ≤ length buf.old) }
         ensures read { IfOk result
             (λ n. IfSome (seen self.old).told (λ t. ReadsBytes place n buf.new (file_of file t))) }
-        ensures does { Made (calls (ReadAt file place (length buf.old))) result (seen self.old)
+        ensures does { ActMade (calls (ReadAt file place (length buf.old))) result (seen self.old)
             (seen self.new) };
 
     /// Writes `bytes` at offset `place`, which is at most the file's length. They replace what is
@@ -97,19 +97,20 @@ pub trait Board {
     /// between the old one and the new one.
     fn write_at(&mut self, file: FileNo, place: u64, bytes: &[u8]) -> Result<(), Failed>
         requires { IfSome (seen self.old).told (λ t. place ≤ length (file_of file t)) }
-        ensures does { Made (writes file place bytes.now) result (seen self.old) (seen self.new) };
+        ensures does { ActMade (writes file place bytes.now) result (seen self.old)
+            (seen self.new) };
 
     /// Makes the file durable: until its next write, a crash leaves what a read returns. The same
     /// holds of the record store until a device call changes it. After `Failed` neither is known to
     /// be durable.
     fn sync(&mut self, file: FileNo) -> Result<(), Failed>
-        ensures does { Made (calls (Sync file)) result (seen self.old) (seen self.new) };
+        ensures does { ActMade (calls (Sync file)) result (seen self.old) (seen self.new) };
 
     /// Returns the number in a register of the device.
     fn reg_read(&mut self, reg: Reg) -> Result<u64, Failed>
         ensures value { IfOk result (λ n. IfSome (seen self.old).told (λ t. n
             ≡ register_in reg (device_of t))) }
-        ensures does { Made (device (reg_read reg)) result (seen self.old) (seen self.new) }
+        ensures does { ActMade (device (reg_read reg)) result (seen self.old) (seen self.new) }
         ensures device { IfSome (seen self.old).told (λ t. IsDevice (device_of t)) };
 
     /// Writes a number to a register of the device. A number written to Action is an action, which
@@ -118,7 +119,7 @@ pub trait Board {
     /// record store as before it or as after it. So does a crash after `Failed`, which need not
     /// leave the store that the model has.
     fn reg_write(&mut self, reg: Reg, value: u64) -> Result<(), Failed>
-        ensures does { Made (device (reg_write reg value)) result (seen self.old)
+        ensures does { ActMade (device (reg_write reg value)) result (seen self.old)
             (seen self.new) }
         ensures device { IfSome (seen self.old).told (λ t. IsDevice (device_of t)) };
 
@@ -127,7 +128,7 @@ pub trait Board {
         requires { place + length buf.old ≤ range_length }
         ensures read { OnOk result (IfSome (seen self.old).told
             (λ t. buf.new ≡ take (length buf.old) (drop place (device_of t).range))) }
-        ensures does { Made (device (range_read place (length buf.old))) result (seen self.old)
+        ensures does { ActMade (device (range_read place (length buf.old))) result (seen self.old)
             (seen self.new) }
         ensures device { IfSome (seen self.old).told (λ t. IsDevice (device_of t)) };
 
@@ -135,7 +136,7 @@ pub trait Board {
     /// have been written.
     fn range_write(&mut self, place: u32, bytes: &[u8]) -> Result<(), Failed>
         requires { place + length bytes.now ≤ range_length }
-        ensures does { Made (device (range_write place bytes.now)) result (seen self.old)
+        ensures does { ActMade (device (range_write place bytes.now)) result (seen self.old)
             (seen self.new) }
         ensures device { IfSome (seen self.old).told (λ t. IsDevice (device_of t)) };
 
@@ -155,7 +156,7 @@ pub trait Board {
     /// Appends `bytes` to the output. After `Failed` a beginning of them, maybe nothing, was
     /// appended. A crash during the call leaves such a beginning too.
     fn print(&mut self, bytes: &[u8]) -> Result<(), Failed>
-        ensures does { Made (prints bytes.now) result (seen self.old) (seen self.new) };
+        ensures does { ActMade (prints bytes.now) result (seen self.old) (seen self.new) };
 
     /// A crash now may leave what the model says.
     ghost told_may_be_left: { (board : Self) (t : Told) → (seen board).told ≡ Some t

@@ -28,7 +28,8 @@ pub fn write_through<B: Board>(
         (one_end disk_call result) board.old board.new }
     // This holds even if a crash before the call might have left something other than the model
     // says.
-    ensures stops { Adds (After (B.seen board.old).clock (InFile file (Torn place (length bytes.now))))
+    ensures stops { Adds (After (B.seen board.old).clock
+        (InFile file (Torn place (length bytes.now))))
         (B.seen board.old).clock (B.seen board.new).clock }
 {
     board.write_at(file, place, bytes)?;

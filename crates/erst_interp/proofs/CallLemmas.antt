@@ -8,7 +8,7 @@ use Rattle.erst_store.specs.Store.{Stored}
 use Rattle.board_core.specs.declared.board.Reg.{Reg}
 use Rattle.board_core.specs.Cause.{device_call}
 use Rattle.board_core.specs.Clock.{After, Clock, Passes, StoreIsLeft}
-use Rattle.board_core.specs.Doing.{Act, DeviceCall, Made as MadeBy, Moment, Seen, Settles, Tears, after_acts, after_device, device, put, range_read, range_write, reg_read, reg_write}
+use Rattle.board_core.specs.Doing.{Act, DeviceCall, ActMade, Moment, Seen, ActSettles, Tears, after_acts, after_device, device, put, range_read, range_write, reg_read, reg_write}
 use Rattle.board_core.specs.Stop.{Becomes, InStore, Left, Same}
 use Rattle.board_core.specs.Steps.ClockLemmas.{not_told}
 use Rattle.board_core.specs.Told.{Steps, StoreBy, Told, after_put, after_reg_write, device_of, register_in}
@@ -87,14 +87,14 @@ stored_still call here a b stops told before u is left now = by a.told refl told
         ap (λ (l : Left). l.store) from.by ∙ before t at from.from from.was
         ∙ ap (λ (l : Left). l.store) (sym (here t)) ∙ ap (λ (v : Told). v.here.store) (some (after_device call t) u (sym steps ∙ is))
 
-stored_in : (call : DeviceCall) (a b : Seen) → Steps (λ t. after_device call t) a.told b.told → Passes (Tears (device call) a.told) a.clock b.clock → Settles (device call) a b → StoreIsLeft a.told a.clock → StoreIsLeft b.told b.clock
+stored_in : (call : DeviceCall) (a b : Seen) → Steps (λ t. after_device call t) a.told b.told → Passes (Tears (device call) a.told) a.clock b.clock → ActSettles (device call) a b → StoreIsLeft a.told a.clock → StoreIsLeft b.told b.clock
 stored_in (reg_read reg) a b told stops settles = stored_still (reg_read reg) (λ t. refl) a b stops told
 stored_in (reg_write reg n) a b told stops settles = settles
 stored_in (range_read place count) a b told stops settles = stored_still (range_read place count) (λ t. refl) a b stops told
 stored_in (range_write place bytes) a b told stops settles = stored_still (range_write place bytes) (λ t. refl) a b stops told
 stored_in (put id bytes) a b told stops settles = settles
 
-pub one_made : {T E : Type 0} {x : T} (call : DeviceCall) (a b : Seen) → MadeBy {T = T} {E = E} (device call) (Ok x) a b → Made (call ∷ []) a b
+pub one_made : {T E : Type 0} {x : T} (call : DeviceCall) (a b : Seen) → ActMade {T = T} {E = E} (device call) (Ok x) a b → Made (call ∷ []) a b
 one_made call a b made = record {
   told = made.told;
   well = record {
@@ -105,7 +105,7 @@ one_made call a b made = record {
   };
 }
 
-pub one_cut : {T E : Type 0} {e : E} (call : DeviceCall) (a b : Seen) → MadeBy {T = T} {E = E} (device call) (Err e) a b → Cut (call ∷ []) a b
+pub one_cut : {T E : Type 0} {e : E} (call : DeviceCall) (a b : Seen) → ActMade {T = T} {E = E} (device call) (Err e) a b → Cut (call ∷ []) a b
 one_cut call a b made = record {
   told = one_fails call a.told b.told made.failed;
   fails = record {
@@ -117,7 +117,7 @@ one_cut call a b made = record {
 
 -- ---- calls that leave the store
 
-pub quiet_well : {T E : Type 0} {x : T} (call : DeviceCall) (a b : Seen) → ((t : Told) → (after_device call t).here ≡ t.here) → Passes Same a.clock b.clock → MadeBy {T = T} {E = E} (device call) (Ok x) a b → GoesWell Stays a b
+pub quiet_well : {T E : Type 0} {x : T} (call : DeviceCall) (a b : Seen) → ((t : Told) → (after_device call t).here ≡ t.here) → Passes Same a.clock b.clock → ActMade {T = T} {E = E} (device call) (Ok x) a b → GoesWell Stays a b
 quiet_well call a b here stops made = record {
   kept = call_keeps call a.told b.told made.told;
   stops = passes_same Stays (λ x. refl) a.clock b.clock stops;
@@ -125,7 +125,7 @@ quiet_well call a b here stops made = record {
   faults = well_faults device_call a.faults b.faults made.cause;
 }
 
-pub quiet_fails : {T E : Type 0} {e : E} (call : DeviceCall) (a b : Seen) → Passes Same a.clock b.clock → MadeBy {T = T} {E = E} (device call) (Err e) a b → Fails Stays a b
+pub quiet_fails : {T E : Type 0} {e : E} (call : DeviceCall) (a b : Seen) → Passes Same a.clock b.clock → ActMade {T = T} {E = E} (device call) (Err e) a b → Fails Stays a b
 quiet_fails call a b stops made = record {
   kept = call_fails_keeps call a.told b.told made.failed;
   stops = passes_same Stays (λ x. refl) a.clock b.clock stops;
@@ -133,8 +133,8 @@ quiet_fails call a b stops made = record {
 }
 
 -- a read of so many bytes
-pub read_of : {T E : Type 0} (result : Result T E) (place count n : ℕ) (a b : Seen) → count ≡ n → MadeBy (device (range_read place count)) result a b → MadeBy (device (range_read place n)) result a b
-read_of result place count n a b is made = subst (λ (k : ℕ). MadeBy (device (range_read place k)) result a b) is made
+pub read_of : {T E : Type 0} (result : Result T E) (place count n : ℕ) (a b : Seen) → count ≡ n → ActMade (device (range_read place count)) result a b → ActMade (device (range_read place n)) result a b
+read_of result place count n a b is made = subst (λ (k : ℕ). ActMade (device (range_read place k)) result a b) is made
 
 -- a register was read
 abbrev pub IsRead : Reg → ℕ → Option Told → Type 0

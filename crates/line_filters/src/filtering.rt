@@ -59,7 +59,8 @@ fn take_lines<S: Source, B: Board, F: LineFilter>(
 ) -> Exit
     requires begins { (lines.old ≡ no_lines) × (F.taken filter.old ≡ 0) }
     ensures ends { (script : List ℕ) (t : Told) → S.left source.old ≡ Some script
-        → (B.seen board.old).told ≡ Some t → EndsBoth (F.makes filter.old) script t (B.seen board.old).clock
+        → (B.seen board.old).told ≡ Some t → EndsBoth (F.makes filter.old) script t
+        (B.seen board.old).clock
         result (F.makes filter.new) lines.new.reader (S.left source.new)
         (B.seen board.new).told (B.seen board.new).clock }
     ensures takes { IfSome (S.left source.old)
@@ -196,7 +197,8 @@ fn end_lines<B: Board, F: LineFilter>(
         (closing_text (F.makes filter.now) [] exit) board.old board.new }
     ensures cut { IsCut exit → board.new ≡ board.old }
     ensures exits { IsFilterExit result }
-    ensures faults { IsAnswer exit → BoardCause result (B.seen board.old).faults (B.seen board.new).faults }
+    ensures faults { IsAnswer exit → BoardCause result (B.seen board.old).faults
+        (B.seen board.new).faults }
     ensures device { LeavesDevice (B.seen board.old).told (B.seen board.new).told
         (B.seen board.old).clock (B.seen board.new).clock }
 {

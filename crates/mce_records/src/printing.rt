@@ -34,7 +34,8 @@ pub fn print_record<S: Source, B: Board>(
     ensures takes { IfSome (S.left source.old)
         (λ input. IsSomeAnd (S.left source.new) (TakesRecord result input)) }
     // Also if a stop before might have left something else than the board tells.
-    ensures stops { StopsPrinting boot (S.left source.old) (B.seen board.old).clock (B.seen board.new).clock }
+    ensures stops { StopsPrinting boot (S.left source.old) (B.seen board.old).clock
+        (B.seen board.new).clock }
     ensures exits { IsRecordExit result }
     ensures source { SourceCause result (S.faults source.old) (S.faults source.new) }
     ensures board { BoardCause result (B.seen board.old).faults (B.seen board.new).faults }

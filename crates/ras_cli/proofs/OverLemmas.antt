@@ -29,7 +29,7 @@ use Rattle.ras_exit.specs.StopLine.{stop_line}
 use Rattle.ras_exit.specs.Telling.{OnlyText, PrintsPart}
 use Rattle.ras_exit.specs.declared.exit.Exit.{Exit}
 use Rattle.ras_host.specs.BoardState.{BoardState}
-use Rattle.ras_host.specs.Steps.Telling.{clock_of, told_of, told_with}
+use Rattle.ras_host.specs.Steps.Telling.{clock_of, seen_of, told_of, told_with}
 use Rattle.ras_host.specs.declared.kept.Kept.TheVariants.{Unread}
 use Rattle.ras_journal.specs.Recovered.{Recovers}
 use Rattle.ras_daemon.specs.Reporting.{ReportMoment, Reports, report_output}
@@ -153,7 +153,7 @@ module _ (exit : Exit) (Same : Type 0) (task : Option Task) (left rest : Option 
   AllRan = OverRun (λ start script told. StillTell (Ran exit Same start script told) rest (told_of new)) task left (told_of old)
 
   abbrev AllStops : Type 0
-  AllStops = OverRun (λ start script told. RunStops told_of clock_of exit Same start script told old new) task left (told_of old)
+  AllStops = OverRun (λ start script told. RunStops seen_of exit Same start script told old new) task left (told_of old)
 
   module _ (ran : AllRan) (stops : AllStops) (account : State) (script : List ℕ) (p : FolderPast) (asked : task ≡ Some Run) (is_left : left ≡ Some script) (is_past : past ≡ Some p) (recovers : Recovers account (seen_now p)) where
     at_end : ToldAtEnd (Ran exit Same (start_of account (begun_over p)) script (begun_over p)) (told_of new)
@@ -164,9 +164,9 @@ module _ (exit : Exit) (Same : Type 0) (task : Option Task) (left rest : Option 
     the_end : Ended new at_end.t
     the_end = ended new at_end.t at_end.is
 
-    stopped : RunStops told_of clock_of exit Same (start_of account (begun_over p)) script (begun_over p) old new
+    stopped : RunStops seen_of exit Same (start_of account (begun_over p)) script (begun_over p) old new
     stopped =
-        from_over (λ start script told. RunStops told_of clock_of exit Same start script told old new) task left (told_of old) script (begun_over p) asked is_left (told_begun past old p begun is_past) stops account recovers
+        from_over (λ start script told. RunStops seen_of exit Same start script told old new) task left (told_of old) script (begun_over p) asked is_left (told_begun past old p begun is_past) stops account recovers
 
     is_old : old.past ≡ Some p
     is_old = past_begun past old p begun is_past
@@ -187,7 +187,7 @@ module _ (exit : Exit) (Same : Type 0) (task : Option Task) (left rest : Option 
     pub headline : IsSomeAnd now (Outlives (start_of account (begun_over p)) script p)
     headline = at_now (Outlives (start_of account (begun_over p)) script p) outlives
 
-    opened : Settles told_of clock_of (start_of account (begun_over p)) script (begun_over p) old new → OutlivesOpened (start_of account (begun_over p)) script p the_end.now
+    opened : Settles seen_of (start_of account (begun_over p)) script (begun_over p) old new → OutlivesOpened (start_of account (begun_over p)) script p the_end.now
     opened s = by (ended s.opened (after_acts s.just.acts (begun_over p)) s.just.rests.is)
       where
         by : Ended s.opened (after_acts s.just.acts (begun_over p)) → OutlivesOpened (start_of account (begun_over p)) script p the_end.now
@@ -215,7 +215,7 @@ module _ (exit : Exit) (Same : Type 0) (task : Option Task) (left rest : Option 
     pub settles : IsSomeAnd now (λ q. OutlivesOpened (start_of account (begun_over p)) script p q ⊎ NeverOpened exit (start_of account (begun_over p)) p q)
     settles = at_now (λ q. OutlivesOpened (start_of account (begun_over p)) script p q ⊎ NeverOpened exit (start_of account (begun_over p)) p q) (by stopped.settled)
       where
-        by : Settles told_of clock_of (start_of account (begun_over p)) script (begun_over p) old new ⊎ NeverOpens exit Same (start_of account (begun_over p)) (seen_now p) (clock_of old) (clock_of new)
+        by : Settles seen_of (start_of account (begun_over p)) script (begun_over p) old new ⊎ NeverOpens exit Same (start_of account (begun_over p)) (seen_now p) (clock_of old) (clock_of new)
             → OutlivesOpened (start_of account (begun_over p)) script p the_end.now ⊎ NeverOpened exit (start_of account (begun_over p)) p the_end.now
         by (inl s) = inl (opened s)
         by (inr n) = inr (never n)

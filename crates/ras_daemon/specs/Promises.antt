@@ -3,7 +3,7 @@
 use Rattle.std.specs.Prelude.{◌≡◌, ℕ, ◌≤◌, ◌⊎◌, List, ◌++◌, Option, Some, IfSome, IsSomeAnd, ⊤}
 use Rattle.board_core.specs.declared.board.DiskCall.{DiskCall}
 use Rattle.board_core.specs.Cause.{Faults, Kind, Rose, count_of}
-use Rattle.board_core.specs.Clock.{Adds, Always, LeftNow}
+use Rattle.board_core.specs.Clock.{Adds, Always, Clock, LeftNow}
 use Rattle.board_core.specs.Doing.{Seen}
 use Rattle.board_core.specs.Device.{LeavesDevice}
 use Rattle.board_core.specs.Told.{Told}

@@ -66,7 +66,8 @@ pub fn rasd<S: Source, B: Board>(
     // What every other command prints, and unrecognized arguments too, by what the source and the
     // files contain.
     ensures commands { ByTask result (task_of words.now) (S.left source.old) (S.left source.new)
-        (B.seen board.old).told (B.seen board.new).told (B.seen board.old).clock (B.seen board.new).clock }
+        (B.seen board.old).told (B.seen board.new).told (B.seen board.old).clock
+        (B.seen board.new).clock }
 
     // A command that reads the source takes at most 67,108,865 bytes of it, and all of them if it
     // ends as done. Every other command leaves the source alone.

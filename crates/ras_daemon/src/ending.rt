@@ -37,7 +37,8 @@ pub fn closing_line(alloc: Global, exit: Exit, account: &Account) -> Result<Vec<
 pub fn end_run<B: Board>(alloc: Global, exit: Exit, account: &Account, board: &mut B) -> Exit
     ensures ends { Ends B.seen exit result
         (closing_line account.now.state exit) board.old board.new }
-    ensures stops { Adds (PrintMoment (B.seen board.old).clock (closing_line account.now.state exit))
+    ensures stops { Adds (PrintMoment (B.seen board.old).clock
+        (closing_line account.now.state exit))
         (B.seen board.old).clock (B.seen board.new).clock }
     ensures device { LeavesDevice (B.seen board.old).told (B.seen board.new).told
         (B.seen board.old).clock (B.seen board.new).clock }

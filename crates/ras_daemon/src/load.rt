@@ -31,7 +31,8 @@ pub fn load<B: Board>(alloc: Global, n: u64, board: &mut B) -> Exit
     requires { n ≤ MOST_LINES }
     ensures loads { Relates (OnlyTells Exit.Done (load_output n) result)
         (B.seen board.old).told (B.seen board.new).told }
-    ensures stops { Adds (PrintMoment (B.seen board.old).clock (load_output n)) (B.seen board.old).clock
+    ensures stops { Adds (PrintMoment (B.seen board.old).clock (load_output n))
+        (B.seen board.old).clock
         (B.seen board.new).clock }
     ensures exits { IsLoadExit result }
     ensures board { BoardCause result (B.seen board.old).faults (B.seen board.new).faults }

@@ -26,7 +26,8 @@ use std::alloc::Global;
 /// line instead, as a comment for metrics. It writes nothing, and reads no script.
 pub fn report<B: Board>(alloc: Global, listing: Listing, board: &mut B) -> Exit
     // The exit and the text follow from the files. Files and device are unchanged.
-    ensures reports { Relates (Reports listing result) (B.seen board.old).told (B.seen board.new).told }
+    ensures reports { Relates (Reports listing result) (B.seen board.old).told
+        (B.seen board.new).told }
     // A crash leaves what a crash before may have left, or else what the model said, with a
     // beginning of the text.
     ensures stops { (t : Told) → (B.seen board.old).told ≡ Some t

@@ -22,7 +22,8 @@ pub fn print<B: Board>(text: &[u8], board: &mut B) -> Result<(), Exit>
     ensures exit { OnErr result (result ≡ Err Exit.PrintFault) }
     // The clauses that follow hold even if a crash before might have left something other than the
     // model says.
-    ensures stops { Passes (InOut (Begins text.now)) (B.seen board.old).clock (B.seen board.new).clock }
+    ensures stops { Passes (InOut (Begins text.now)) (B.seen board.old).clock
+        (B.seen board.new).clock }
     ensures printed { OnOk result
         (Leads (InOut (Appends text.now)) (B.seen board.old).clock (B.seen board.new).clock) }
     ensures device { LeavesDevice (B.seen board.old).told (B.seen board.new).told

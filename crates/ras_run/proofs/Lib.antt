@@ -1,5 +1,4 @@
 pub mod KeepingLemmas
-pub mod KeepingLaws
 pub mod StoreLemmas
 pub mod AdmittedLemmas
 pub mod DrivenLemmas

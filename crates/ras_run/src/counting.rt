@@ -16,7 +16,8 @@ ghost use Rattle.ras_texts.specs.OrderRoom.{HasOrderRoom};
 ghost use Rattle.ras_texts.specs.Orders.{order_lines};
 ghost use Rattle.ras_texts.specs.Text.{done_line};
 
-use crate::{KeepRefused, Ledger};
+use crate::Ledger;
+use crate::refused::KeepRefused;
 use board_core::Board;
 use ras_events::{Made, News, PrepareRefused, Prepared, count, prepare};
 use ras_exit::{Exit, print};
@@ -44,7 +45,8 @@ pub fn take_made<B: Board>(
     ensures does { Does B.seen
         (made_acts ledger.old.account.state number ledger.old.journal.standing made)
         (part_end result) board.old board.new }
-    ensures ready { OnOk result (IsReady ledger.new (B.seen board.new).told (B.seen board.new).clock) }
+    ensures ready { OnOk result
+        (IsReady ledger.new (B.seen board.new).told (B.seen board.new).clock) }
     ensures stop { IfErr result IsStop }
     ensures faults { Causes BoardCause result (B.seen board.old).faults (B.seen board.new).faults }
 {
@@ -73,7 +75,8 @@ pub(crate) fn tell_made<B: Board>(
     ensures does { Does B.seen
         (told_acts ledger.old.account.state ledger.old.journal.standing made)
         (part_end result) board.old board.new }
-    ensures ready { OnOk result (IsReady ledger.new (B.seen board.new).told (B.seen board.new).clock) }
+    ensures ready { OnOk result
+        (IsReady ledger.new (B.seen board.new).told (B.seen board.new).clock) }
     ensures done { IfOk result (λ done. done.items ≡ done_line number) }
 {
     let Prepared {
@@ -111,7 +114,8 @@ fn keep<B: Board>(
     ensures text { OnOk result (text.new.items ≡ text.old.items
         ++ order_lines (account_after_all ledger.old.account.state (news_entries news)).modules
         (orders_along_entries ledger.old.account.state (news_entries news))) }
-    ensures ready { OnOk result (IsReady ledger.new (B.seen board.new).told (B.seen board.new).clock) }
+    ensures ready { OnOk result
+        (IsReady ledger.new (B.seen board.new).told (B.seen board.new).clock) }
 {
     let Some(news) = news else {
         return Ok(());

@@ -1,4 +1,5 @@
-//! The account with its journal.
+//! The account with its journal. New entries are in the journal before they are counted, and a
+//! crash at any point leaves the account without them or with them.
 
 ghost use Rattle.std.specs.Prelude.{◌≡◌, false};
 ghost use Rattle.board_core.specs.Doing.{Does, IsMade};
@@ -6,7 +7,7 @@ ghost use Rattle.ras_run.specs.Keeping.{CanMake, IsFullBy, KeepsLedger, Stands, 
 ghost use Rattle.ras_run.specs.Keeping.{keeping_acts, lacks_room, room_acts};
 ghost use Rattle.ras_run.specs.Keeping.{standing_kept, standing_roomy};
 
-use crate::KeepRefused;
+use crate::refused::KeepRefused;
 use board_core::Board;
 use journal_format::Link;
 use ras_account::Account;
@@ -34,7 +35,7 @@ impl Ledger {
     /// `Full`: if and only if a switch is due and has no room. `NoMemory`: only if memory for the
     /// switch runs out. In both cases no disk call was made. `Disk`: only if a disk call failed;
     /// the journal has then failed.
-    pub fn keep<B: Board>(
+    pub(crate) fn keep<B: Board>(
         &mut self,
         alloc: Global,
         link: &Link,

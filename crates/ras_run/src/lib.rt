@@ -20,5 +20,4 @@ pub use laws::line_laws;
 pub use ledger::Ledger;
 pub use line::take_line;
 pub use opening::{open, print_standing};
-pub use refused::KeepRefused;
 pub use run::Run;

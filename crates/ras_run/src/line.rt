@@ -91,7 +91,8 @@ fn take_read<B: Board>(
     requires short { IsShortLine line }
     requires ready { IsReady run.old.ledger (B.seen board.old).told (B.seen board.old).clock }
 
-    ensures takes { (t : Told) → (B.seen board.old).told ≡ Some t → IsDrivable run.old.settings.driver
+    ensures takes { (t : Told) → (B.seen board.old).told ≡ Some t → IsDrivable
+        run.old.settings.driver
         → let site = site_of run.old t in
         TakesEvent B.seen site number
         (settings_after site.settings line) (event_of site.settings line) t result
@@ -205,7 +206,8 @@ fn reopen<B: Board>(
     ensures does { (t : Told) → (B.seen board.old).told ≡ Some t
         → DoesReopening B.seen ledger.old.account.state number t.here
         result board.old board.new }
-    ensures ready { OnOk result (IsReady ledger.new (B.seen board.new).told (B.seen board.new).clock) }
+    ensures ready { OnOk result
+        (IsReady ledger.new (B.seen board.new).told (B.seen board.new).clock) }
     ensures stop { IfErr result IsStop }
     ensures faults { Causes BoardCause result (B.seen board.old).faults (B.seen board.new).faults }
 {

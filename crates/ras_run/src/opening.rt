@@ -27,14 +27,17 @@ use std::alloc::Global;
 /// `TooLong` and `Damaged` come exactly if the files' bytes say so, `DiskFault` only if a disk call
 /// failed, and `NoMemory` only if memory runs out.
 pub fn open<B: Board>(alloc: Global, board: &mut B) -> Result<Ledger, Exit>
-    ensures opens { Opened result (B.seen board.old).told (B.seen board.new).told (B.seen board.new).clock }
+    ensures opens { Opened result (B.seen board.old).told (B.seen board.new).told
+        (B.seen board.new).clock }
     ensures does { DoesOpening (λ exit. exit ≡ Exit.DiskFault) result
         (B.seen board.old).told (B.seen board.new).told }
     ensures stops { (t : Told) → (B.seen board.old).told ≡ Some t
-        → Adds (Opening (B.seen board.old).clock t.here) (B.seen board.old).clock (B.seen board.new).clock }
+        → Adds (Opening (B.seen board.old).clock t.here) (B.seen board.old).clock
+        (B.seen board.new).clock }
     // If the files are refused, a stop then leaves just what the board told of them, the store and
     // the text.
-    ensures refused { IfErr result (λ exit. OnAnswer exit ((t : Told) → (B.seen board.old).told ≡ Some t
+    ensures refused { IfErr result
+        (λ exit. OnAnswer exit ((t : Told) → (B.seen board.old).told ≡ Some t
         → RestsHere t.here (B.seen board.new).told (B.seen board.new).clock)) }
     ensures ends { EndsOpening result (B.seen board.old).faults (B.seen board.new).faults }
 {

@@ -48,7 +48,8 @@ pub(crate) fn poll_store<B: Board>(
         → DoesPoll B.seen driver.now t number
         (polled topology.now seconds t.here.store) (readable_ids t.here.store)
         result ledger.old ledger.new board.old board.new }
-    ensures ready { OnOk result (IsReady ledger.new (B.seen board.new).told (B.seen board.new).clock) }
+    ensures ready { OnOk result
+        (IsReady ledger.new (B.seen board.new).told (B.seen board.new).clock) }
     ensures stop { IfErr result IsStop }
     ensures faults { Causes BoardCause result (B.seen board.old).faults (B.seen board.new).faults }
 {

@@ -2,7 +2,7 @@ use Rattle.std.proofs.Common.{◌≡◌, ◌∙◌, ℕ, true, false, Some, sym,
 use Rattle.std.specs.Prelude.{Ok}
 use Rattle.std.proofs.lemmas.Result.{err_from_is_err_and}
 use Rattle.board_core.specs.declared.board.Reg.{Reg}
-use Rattle.board_core.specs.Doing.{Made as MadeBy, Seen, device, reg_read, reg_write}
+use Rattle.board_core.specs.Doing.{ActMade, Seen, device, reg_read, reg_write}
 use Rattle.erst_interp.specs.declared.entries.InstructionEntry.{InstructionEntry}
 use Rattle.erst_interp.specs.declared.machine.Use.{Use}
 use Rattle.erst_interp.specs.declared.machine.Use.TheVariants.{Changes, Moves, Writes}
@@ -25,7 +25,7 @@ used how this work is kind = subst (λ (h : Use). Work.TheVariants.Uses h ≡ wo
 
 module _ {X : Type 0} (see : X → Seen) (e : InstructionEntry) (reg : Reg) (v : Variables) where
   changes : {E : Type 0} (how : Use) (number x n : ℕ) (old new board : X) → how ≡ Changes → Work.TheVariants.Uses how ≡ work_of e.instruction → e.register ≡ Some reg → board ≡ new
-      → number ≡ changed e.instruction e x → x ≡ field_of e n → IsRead reg n (see old).told → MadeBy {T = ℕ} {E = E} (device (reg_read reg)) (Ok n) (see old) (see new) → Numbered e reg v number (see old) (see board)
+      → number ≡ changed e.instruction e x → x ≡ field_of e n → IsRead reg n (see old).told → ActMade {T = ℕ} {E = E} (device (reg_read reg)) (Ok n) (see old) (see new) → Numbered e reg v number (see old) (see board)
   changes how number x n old new board is kind there same number_is x_is value made =
       subst (λ (b : X). Numbered e reg v number (see old) (see b)) (sym same)
       (numbered_changed e reg v n number (see old) (see new) (used how Changes (work_of e.instruction) is kind) there value (number_is ∙ ap (changed e.instruction e) x_is)
@@ -37,7 +37,7 @@ module _ {X : Type 0} (see : X → Seen) (e : InstructionEntry) (reg : Reg) (v :
       subst (λ (b : X). Numbered e reg v number (see old) (see b)) (sym same) (numbered_given e reg v number (see old) (used how Writes (work_of e.instruction) is kind) there number_is)
 
   kept : {E : Type 0} (number whole n : ℕ) (a : Seen) (old new board : X) → Numbered e reg v number a (see old) → e.preserves ≡ true → board ≡ new → whole ≡ with_field e number n
-      → IsRead reg n (see old).told → MadeBy {T = ℕ} {E = E} (device (reg_read reg)) (Ok n) (see old) (see new) → Filled e reg v whole a (see board)
+      → IsRead reg n (see old).told → ActMade {T = ℕ} {E = E} (device (reg_read reg)) (Ok n) (see old) (see new) → Filled e reg v whole a (see board)
   kept number whole n a old new board numbered keeps same whole_is value made =
       subst (λ (b : X). Filled e reg v whole a (see b)) (sym same)
       (filled_kept e reg v number a (see old) numbered n whole (see new) keeps value whole_is (one_made (reg_read reg) (see old) (see new) made))
