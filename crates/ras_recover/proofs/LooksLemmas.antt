@@ -7,7 +7,7 @@ use Rattle.board_core.specs.declared.board.FileNo.{FileNo}
 use Rattle.board_core.specs.declared.board.DiskCall.{DiskCall}
 use Rattle.board_core.specs.declared.board.DiskCall.TheVariants.{ReadAt}
 use Rattle.board_core.specs.Cause.{Faults, disk_call, FailsAs}
-use Rattle.board_core.specs.Doing.{Ended, Made, Seen, calls as asks, broke, gave_up, one_end, went_well}
+use Rattle.board_core.specs.Doing.{ActMade, Ended, Seen, calls as asks, broke, gave_up, one_end, went_well}
 use Rattle.board_core.specs.Told.{Relates, Told}
 use Rattle.ras_recover.specs.declared.place.ReadRefused.{ReadRefused}
 use Rattle.ras_recover.specs.declared.place.ReadRefused.TheVariants.{Disk, Damaged, NoMemory}
@@ -24,7 +24,7 @@ use Rattle.ras_recover.proofs.KeepingLemmas.{keeps_call, keeps_failed, keeps_not
 -- ---- one call
 
 -- a call that only reads was made, with this result
-pub looks_call : {T E : Type 0} (call : DiskCall) (result : Result T E) (old new : Seen) → IsReading call → Made (asks call) result old new → Looks (one_end disk_call result) (λ t made. made ≡ call ∷ []) old new
+pub looks_call : {T E : Type 0} (call : DiskCall) (result : Result T E) (old new : Seen) → IsReading call → ActMade (asks call) result old new → Looks (one_end disk_call result) (λ t made. made ≡ call ∷ []) old new
 looks_call call (Ok x) old new reads made = record {
   keeps = keeps_call call old.told old.clock new.told new.clock made.told made.stops;
   calls = call_done (AreReads went_well (λ made. made ≡ call ∷ [])) call (record { alone = one_reads call reads; done = refl }) old.told new.told made.told;

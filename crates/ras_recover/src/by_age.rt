@@ -31,8 +31,7 @@ fn generation_told<B: Board>(
     requires short { file.size ≤ LONGEST_FILE }
     requires size { IfSome (B.seen board.old).told (λ t. file.size ≡ length (file_of file.no t)) }
     ensures looks { Looks (read_end result) (λ t calls. Unit {0})
-        (B.seen board.old)
-        (B.seen board.new) }
+        (B.seen board.old) (B.seen board.new) }
 {
     let mut window = Window::new(alloc);
     window.hold(file, 0, CHECKPOINT_PLACE, board)?;
@@ -74,8 +73,7 @@ fn by_age<B: Board>(
         (λ t. (zero.size ≡ length (file_of zero.no t)) × (one.size ≡ length (file_of one.no t))) }
     ensures files { IfOk result (λ r. IfSome r (λ files. AreBoth zero one files.0 files.1)) }
     ensures looks { Looks (read_end result) (λ t calls. Unit {0})
-        (B.seen board.old)
-        (B.seen board.new) }
+        (B.seen board.old) (B.seen board.new) }
 {
     let first = generation_told(alloc, zero, board)?;
     let second = generation_told(alloc, one, board)?;
@@ -97,8 +95,7 @@ pub(crate) fn read_by_age<B: Board>(
     ensures read { IfOk result (λ found. IfSome found (λ both. IfSome (B.seen board.old).told
         (λ t. AreRead both t.here.file0 t.here.file1))) }
     ensures looks { Looks (read_end result) (λ t calls. IfFound result (ReadsBoth t.here calls))
-        (B.seen board.old)
-        (B.seen board.new) }
+        (B.seen board.old) (B.seen board.new) }
 {
     let Some((older, newer)) = by_age(alloc, zero, one, board)? else {
         return Ok(None);

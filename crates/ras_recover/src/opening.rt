@@ -80,12 +80,14 @@ pub fn open_journal<B: Board>(
     // valid. After `Ok` a crash leaves exactly what the board's model says, and the journal's
     // position is that of the files.
     ensures stops { (t : Told) → (B.seen board.old).told ≡ Some t
-        → Adds (Opening (B.seen board.old).clock t.here) (B.seen board.old).clock (B.seen board.new).clock }
+        → Adds (Opening (B.seen board.old).clock t.here) (B.seen board.old).clock
+        (B.seen board.new).clock }
     ensures opened { IfOk result (λ r. (t : Told) → (B.seen board.old).told ≡ Some t
         → IsOpened r.1.standing r.0.state (B.seen board.new).told (B.seen board.new).clock) }
     // If the files are refused, a crash afterwards leaves exactly what the board's model said of
     // the files, the store and the text.
-    ensures refused { IfErr result (λ why. OnRefusal why ((t : Told) → (B.seen board.old).told ≡ Some t
+    ensures refused { IfErr result (λ why. OnRefusal why
+        ((t : Told) → (B.seen board.old).told ≡ Some t
         → RestsHere t.here (B.seen board.new).told (B.seen board.new).clock)) }
 
     // What the opening does, as acts and as disk calls, whatever it returns.

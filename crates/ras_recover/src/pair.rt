@@ -55,8 +55,7 @@ fn read_one<B: Board>(
     ensures shut { IfOk result (λ r. IfSome (B.seen board.old).told
         (λ t. r.shut ≡ is_shut (file_of file.no t))) }
     ensures looks { Looks (open_end result) (λ t. ReadsStanding file.no (file_of file.no t))
-        (B.seen board.old)
-        (B.seen board.new) }
+        (B.seen board.old) (B.seen board.new) }
 {
     let file_number = match file.no {
         FileNo::Zero => 0,
@@ -121,8 +120,7 @@ pub(crate) fn read_both<B: Board>(
     ensures shut { IfOk result (λ r. IfSome (B.seen board.old).told
         (λ t. (r.shut.0 ≡ is_shut t.here.file0) × (r.shut.1 ≡ is_shut t.here.file1))) }
     ensures looks { Looks (open_end result) (λ t. ReadsBoth t.here)
-        (B.seen board.old)
-        (B.seen board.new) }
+        (B.seen board.old) (B.seen board.new) }
 {
     let zero = SizedFile {
         no: FileNo::Zero,

@@ -20,7 +20,8 @@ use std::alloc::Global;
 
 // Syncs both files.
 fn sync_both<B: Board>(board: &mut B) -> Result<(), Failed>
-    ensures keeps { KeepsTold (B.seen board.old).told (B.seen board.old).clock (B.seen board.new).told (B.seen board.new).clock }
+    ensures keeps { KeepsTold (B.seen board.old).told (B.seen board.old).clock
+        (B.seen board.new).told (B.seen board.new).clock }
     ensures rests { OnOk result ((t : Told) → (B.seen board.old).told ≡ Some t
         → RestsHere t.here (B.seen board.new).told (B.seen board.new).clock) }
     ensures syncs { Relates (Calls (AreSyncs result)) (B.seen board.old).told (B.seen board.new).told }
@@ -39,8 +40,7 @@ fn short_size<B: Board>(file: FileNo, board: &mut B) -> Result<Option<usize>, Fa
     ensures long { result ≡ Ok None → IfSome (B.seen board.old).told
         (λ t. LONGEST_FILE < length (file_of file t)) }
     ensures looks { Looks (one_end disk_call result) (λ t calls. Unit {0})
-        (B.seen board.old)
-        (B.seen board.new) }
+        (B.seen board.old) (B.seen board.new) }
 {
     let size = board.size(file)?;
     if size > LONGEST_FILE {
@@ -58,8 +58,7 @@ fn short_sizes<B: Board>(board: &mut B) -> Result<Option<(usize, usize)>, Failed
     ensures long { result ≡ Ok None → IfSome (B.seen board.old).told
         (λ t. recovered t.here.file0 t.here.file1 ≡ Err too_long) }
     ensures looks { Looks (one_end disk_call result) (λ t calls. Unit {0})
-        (B.seen board.old)
-        (B.seen board.new) }
+        (B.seen board.old) (B.seen board.new) }
 {
     let Some(zero) = short_size(FileNo::Zero, board)? else {
         return Ok(None);
@@ -83,8 +82,7 @@ fn recover_synced<B: Board>(
         (λ t. (r.1.0 ≡ is_shut t.here.file0) × (r.1.1 ≡ is_shut t.here.file1))) }
     ensures waiting { IfOk result (λ r. r.0.account.waiting ≡ nothing) }
     ensures looks { Looks (open_end result) (λ t. ReadsBoth t.here)
-        (B.seen board.old)
-        (B.seen board.new) }
+        (B.seen board.old) (B.seen board.new) }
 {
     let Some(sizes) = short_sizes(board)? else {
         return Err(OpenRefused::TooLong);
@@ -106,7 +104,8 @@ pub(crate) fn recover_files<B: Board>(
     ensures shut { IfOk result (λ r. IfSome (B.seen board.old).told
         (λ t. (r.1.0 ≡ is_shut t.here.file0) × (r.1.1 ≡ is_shut t.here.file1))) }
     ensures waiting { IfOk result (λ r. r.0.account.waiting ≡ nothing) }
-    ensures keeps { KeepsTold (B.seen board.old).told (B.seen board.old).clock (B.seen board.new).told (B.seen board.new).clock }
+    ensures keeps { KeepsTold (B.seen board.old).told (B.seen board.old).clock
+        (B.seen board.new).told (B.seen board.new).clock }
     ensures rests { UnlessDisk result ((t : Told) → (B.seen board.old).told ≡ Some t
         → RestsHere t.here (B.seen board.new).told (B.seen board.new).clock) }
     ensures does { DoesRecovery result (B.seen board.old).told (B.seen board.new).told }
@@ -137,8 +136,8 @@ pub fn recover<B: Board>(alloc: Global, board: &mut B) -> Result<Recovered, Open
 
     // A crash leaves what a crash before may have left. After the call, unless a disk call failed,
     // a crash leaves exactly what the board's model says.
-    ensures keeps { KeepsTold (B.seen board.old).told (B.seen board.old).clock (B.seen board.new).told
-        (B.seen board.new).clock }
+    ensures keeps { KeepsTold (B.seen board.old).told (B.seen board.old).clock
+        (B.seen board.new).told (B.seen board.new).clock }
     ensures rests { UnlessDisk result ((t : Told) → (B.seen board.old).told ≡ Some t
         → RestsHere t.here (B.seen board.new).told (B.seen board.new).clock) }
 

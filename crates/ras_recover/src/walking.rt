@@ -47,8 +47,7 @@ fn hold_link<B: Board>(
     ensures unread { IfErr result IsNoDamage }
     ensures looks { Looks (read_end result)
         (λ t. ReadsPart file.no (end_of window.old) (end_of window.new))
-        (B.seen board.old)
-        (B.seen board.new) }
+        (B.seen board.old) (B.seen board.new) }
 {
     window.hold(file, gate, GATE_AND_COUNT, board)?;
     let Some(count) = link_len(window.rest(gate)) else {
@@ -81,8 +80,7 @@ fn next_in<B: Board>(
         × Covers file p.gate (B.seen board.new).told window.new)) }
     ensures looks { Looks (read_end result)
         (λ t. ReadsPart file.no (end_of window.old) (end_of window.new))
-        (B.seen board.old)
-        (B.seen board.new) }
+        (B.seen board.old) (B.seen board.new) }
 {
     hold_link(file, place.gate, window, board)?;
     let here = Place { gate: 0, ..place };
@@ -117,8 +115,7 @@ fn last_in<B: Board>(
     ensures closed { IfOk result (λ place. place.gate < end_of window.new) }
     ensures looks { Looks (read_end result)
         (λ t. ReadsPart file.no (end_of window.old) (end_of window.new))
-        (B.seen board.old)
-        (B.seen board.new) }
+        (B.seen board.old) (B.seen board.new) }
 {
     let mut place = first;
     for _ in 0..file.size {
@@ -143,8 +140,7 @@ fn hold_front<B: Board>(
     ensures unread { IfErr result IsNoDamage }
     ensures looks { Looks (read_end result)
         (λ t. ReadsPart file.no (end_of window.old) (end_of window.new))
-        (B.seen board.old)
-        (B.seen board.new) }
+        (B.seen board.old) (B.seen board.new) }
 {
     window.hold(file, 0, CHECKPOINT_PLACE, board)?;
     let Some(count) = front_len(window.rest(0)) else {
@@ -178,8 +174,7 @@ fn first_in<B: Board>(
         × Covers file p.0.gate (B.seen board.new).told window.new)) }
     ensures looks { Looks (read_end result)
         (λ t. ReadsPart file.no (end_of window.old) (end_of window.new))
-        (B.seen board.old)
-        (B.seen board.new) }
+        (B.seen board.old) (B.seen board.new) }
 {
     hold_front(file, window, board)?;
     let front = window.rest(0);
@@ -214,8 +209,7 @@ pub(crate) fn read_file<B: Board>(
     ensures shut { IfOk result (λ r. IfSome (B.seen board.old).told
         (λ t. r.shut ≡ is_shut (file_of file.no t))) }
     ensures looks { Looks (read_end result) (λ t. ReadsStanding file.no (file_of file.no t))
-        (B.seen board.old)
-        (B.seen board.new) }
+        (B.seen board.old) (B.seen board.new) }
 {
     let mut window = Window::new(alloc);
     let FileRead { shut, front } = first_in(alloc, taken, before, file, &mut window, board)?;

@@ -64,8 +64,7 @@ impl Window {
             (λ t. end_of self.new ≡ place + count)) }
         ensures unread { IfErr result IsNoDamage }
         ensures looks { Looks (read_end result) (λ t. ReadsPart file.no place (place + count))
-            (B.seen board.old)
-            (B.seen board.new) }
+            (B.seen board.old) (B.seen board.new) }
     {
         self.bytes.resize(count, 0)?;
         self.start = place;
@@ -90,8 +89,7 @@ impl Window {
         ensures unread { IfErr result IsNoDamage }
         ensures looks { Looks (read_end result)
             (λ t. ReadsPart file.no (end_of self.old) (end_of self.new))
-            (B.seen board.old)
-            (B.seen board.new) }
+            (B.seen board.old) (B.seen board.new) }
     {
         let left = file.size - place;
         let wanted = count.min(left);
