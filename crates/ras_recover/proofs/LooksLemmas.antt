@@ -1,5 +1,5 @@
 -- Calls that only read, one after another.
-use Rattle.std.proofs.Common.{◌≡◌, ◌∙◌, ℕ, ◌+◌, ◌≤◌, ◌<◌, List, [], ◌∷◌, ◌++◌, Option, Result, Ok, Err, refl, sym, ap, subst, arith, inl, inr}
+use Rattle.std.proofs.Common.{◌≡◌, ℕ, ◌+◌, ◌≤◌, List, [], ◌∷◌, ◌++◌, Result, Ok, Err, refl, sym, ap, subst, arith, inl, inr}
 use Rattle.std.specs.Prelude.{Any, OnOk}
 use Rattle.std.proofs.lemmas.Bool.{cases_lt}
 use Rattle.std.proofs.lemmas.List.Elements.{All-nil}
@@ -8,7 +8,7 @@ use Rattle.board_core.specs.declared.board.DiskCall.{DiskCall}
 use Rattle.board_core.specs.declared.board.DiskCall.TheVariants.{ReadAt}
 use Rattle.board_core.specs.Cause.{Faults, disk_call, FailsAs}
 use Rattle.board_core.specs.Doing.{ActMade, Ended, Seen, calls as asks, broke, gave_up, one_end, went_well}
-use Rattle.board_core.specs.Told.{Relates, Told}
+use Rattle.board_core.specs.Told.{Told}
 use Rattle.ras_recover.specs.declared.place.ReadRefused.{ReadRefused}
 use Rattle.ras_recover.specs.declared.place.ReadRefused.TheVariants.{Disk, Damaged, NoMemory}
 use Rattle.ras_recover.specs.declared.refused.OpenRefused.{OpenRefused}

@@ -23,7 +23,6 @@ use Rattle.ras_journal.specs.View.{JournalView}
 use Rattle.ras_journal.proofs.FrontLemmas.{front_parts}
 use Rattle.ras_journal.proofs.JournalLemmas.{both_whole, both_parts, here_of, recovers_of, at_of}
 use Rattle.ras_journal.proofs.SwitchLemmas.{taken_for_other, greater_with, other_changed}
-use Rattle.ras_recover.specs.Formatting.{behind_gate}
 use Rattle.ras_recover.specs.declared.refused.SwitchRefused.{SwitchRefused}
 use Rattle.ras_recover.specs.declared.refused.SwitchRefused.TheVariants.{Full, Disk, NoMemory}
 use Rattle.ras_recover.specs.Switching.{CanSwitch, IsFullBy, MovesOver, Switching, after_switch, next_bytes, switch_acts, switch_refused_end, switched}

@@ -1,4 +1,3 @@
-use Rattle.std.proofs.Common.{List}
 use Rattle.std.proofs.lemmas.Result.{err_from_is_err_and}
 use Rattle.board_core.specs.Doing.{went_well}
 use Rattle.ras_recover.proofs.LooksLemmas.{looks_then, read_refused, read_then}

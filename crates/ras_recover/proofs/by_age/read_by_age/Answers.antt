@@ -6,7 +6,7 @@ use Rattle.board_core.specs.Stop.{Left}
 use Rattle.board_core.specs.Told.{Told}
 use Rattle.ras_recover.specs.Steps.Pair.{AreRead}
 use Rattle.ras_recover.specs.Steps.Reading.{front_at}
-use Rattle.ras_recover.proofs.AgeLemmas.{Aged, aged, aged_later, aged_reads, aged_told, older_size, reads_later}
+use Rattle.ras_recover.proofs.AgeLemmas.{aged, aged_later, aged_reads, aged_told, older_size, reads_later}
 use Rattle.ras_recover.proofs.KeepingLemmas.{before}
 use Rattle.ras_recover.proofs.LooksLemmas.{looks_then, read_refused, read_then}
 use Rattle.ras_recover.proofs.by_age.read_by_age.Goals as goal

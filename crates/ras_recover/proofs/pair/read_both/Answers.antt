@@ -1,4 +1,4 @@
-use Rattle.std.proofs.Common.{◌≡◌, Ok, None, Some, List, Option, length, refl}
+use Rattle.std.proofs.Common.{◌≡◌, Ok, List, length, refl}
 use Rattle.std.specs.Option.{option_map}
 use Rattle.std.proofs.lemmas.Result.{err_from_is_err_and}
 use Rattle.board_core.specs.declared.board.DiskCall.{DiskCall}

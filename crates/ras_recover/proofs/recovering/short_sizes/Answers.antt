@@ -5,7 +5,7 @@ use Rattle.board_core.specs.Doing.{broke, went_well}
 use Rattle.board_core.specs.Stop.{Left}
 use Rattle.ras_journal.specs.declared.limits.TheConstants.{LONGEST_FILE}
 use Rattle.ras_recover.proofs.KeepingLemmas.{before}
-use Rattle.ras_recover.proofs.LooksLemmas.{looks_then, looks_weaker}
+use Rattle.ras_recover.proofs.LooksLemmas.{looks_then}
 use Rattle.ras_recover.proofs.PairLemmas.{long_zero, long_one}
 use Rattle.ras_recover.proofs.recovering.short_sizes.Goals as goal
 

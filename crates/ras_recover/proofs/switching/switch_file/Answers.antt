@@ -5,7 +5,7 @@ use Rattle.board_core.specs.declared.board.FileNo.{FileNo}
 use Rattle.board_core.specs.Doing.{Does, Ended, IsMade, broke, gave_up, went_well}
 use Rattle.ras_journal.specs.declared.standing.Standing.{Standing}
 use Rattle.ras_recover.specs.Formatting.{formatting_acts}
-use Rattle.ras_recover.specs.Switching.{CanSwitch, IsFullBy, has_no_room, next_bytes, switch_acts, switch_end, switch_refused_end, switched}
+use Rattle.ras_recover.specs.Switching.{CanSwitch, next_bytes, switch_acts, switch_end, switch_refused_end, switched}
 use Rattle.ras_recover.proofs.SwitchingLemmas.{as_switch, full_as, unmoved}
 use Rattle.ras_recover.proofs.switching.switch_file.Goals as goal
 

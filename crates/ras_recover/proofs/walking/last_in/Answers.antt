@@ -1,4 +1,4 @@
-use Rattle.std.proofs.Common.{◌∙◌, ◌+◌, ℕ, Option, Ok, Err, None, Some, refl, sym, ap, arith}
+use Rattle.std.proofs.Common.{◌∙◌, ◌+◌, ℕ, Option, Ok, None, Some, refl, sym, ap, arith}
 use Rattle.std.specs.Option.{option_map}
 use Rattle.std.proofs.lemmas.Result.{err_from_is_err_and}
 use Rattle.board_core.specs.Doing.{went_well}
@@ -6,7 +6,7 @@ use Rattle.ras_account.specs.Account.{State}
 use Rattle.ras_recover.specs.Steps.Reading.{front_at}
 use Rattle.ras_recover.specs.Steps.Windows.{read_refused_end}
 use Rattle.ras_recover.proofs.HoldingLemmas.{next_before, goes_next, goes_end, goes_over, goes_wrong, wrong_before}
-use Rattle.ras_recover.proofs.LooksLemmas.{looks_given_up, looks_on, looks_weaker}
+use Rattle.ras_recover.proofs.LooksLemmas.{looks_given_up, looks_on}
 use Rattle.ras_recover.proofs.walking.last_in.Goals as goal
 
 pub returns-in-None-clause-read : goal.returns-in-None-clause-read

@@ -1,6 +1,6 @@
 use Rattle.std.proofs.lemmas.Result.{err_from_is_err_and}
 use Rattle.ras_recover.specs.Steps.Reading.{front_at}
-use Rattle.ras_recover.proofs.LooksLemmas.{looks_given_up, looks_weaker, read_refused}
+use Rattle.ras_recover.proofs.LooksLemmas.{read_refused}
 use Rattle.ras_recover.proofs.HoldingLemmas.{seen_before, next_told, damaged_told}
 use Rattle.ras_recover.proofs.walking.next_in.Goals as goal
 

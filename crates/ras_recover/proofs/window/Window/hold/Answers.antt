@@ -1,6 +1,5 @@
-use Rattle.std.proofs.Common.{arith}
 use Rattle.ras_recover.specs.Steps.Windows.{read_end}
-use Rattle.ras_recover.proofs.LooksLemmas.{looks_nothing, looks_weaker, part_held, part_nothing}
+use Rattle.ras_recover.proofs.LooksLemmas.{looks_weaker, part_held}
 use Rattle.ras_recover.proofs.window.Window.hold.Goals as goal
 
 pub returns-clause-looks : goal.returns-clause-looks
