@@ -19,9 +19,9 @@ ghost use Rattle.ras_recover.specs.OpeningActs.{DoesOpening};
 use crate::formatting::{format_file, next_bytes};
 use crate::recovering::recover_files;
 use crate::{OpenRefused, Recovered};
-use board_core::{Board, Failed, FileNo};
+use board_core::{Board, FileNo};
 use entry_format::Version;
-use journal_format::{CHECKPOINT_PLACE, checkpoint_len};
+use journal_format::CHECKPOINT_PLACE;
 use ras_account::Account;
 use ras_journal::{Journal, Standing};
 use std::alloc::Global;
@@ -46,13 +46,8 @@ fn format_first<B: Board>(
     }) }
     ensures refuses { IfErr result (λ refused. (held : Result State Refusal) → RefusesHeld refused held) }
 {
-    let count = checkpoint_len(account);
-    let Ok(bytes) = next_bytes(alloc, 1, count, account) else {
-        return Err(OpenRefused::NoMemory);
-    };
-    if let Err(Failed) = format_file(FileNo::Zero, shut.0, &bytes, board) {
-        return Err(OpenRefused::Disk);
-    }
+    let (bytes, count) = next_bytes(alloc, 1, account)?;
+    format_file(FileNo::Zero, shut.0, &bytes, board)?;
     Ok(Journal::at(Standing {
         file: FileNo::Zero,
         version: Version::Two,
@@ -85,12 +80,14 @@ pub fn open_journal<B: Board>(
     // valid. After `Ok` a crash leaves exactly what the board's model says, and the journal's
     // position is that of the files.
     ensures stops { (t : Told) → (B.seen board.old).told ≡ Some t
-        → Adds (Opening (B.seen board.old).clock t.here) (B.seen board.old).clock (B.seen board.new).clock }
+        → Adds (Opening (B.seen board.old).clock t.here) (B.seen board.old).clock
+        (B.seen board.new).clock }
     ensures opened { IfOk result (λ r. (t : Told) → (B.seen board.old).told ≡ Some t
         → IsOpened r.1.standing r.0.state (B.seen board.new).told (B.seen board.new).clock) }
     // If the files are refused, a crash afterwards leaves exactly what the board's model said of
     // the files, the store and the text.
-    ensures refused { IfErr result (λ why. OnRefusal why ((t : Told) → (B.seen board.old).told ≡ Some t
+    ensures refused { IfErr result (λ why. OnRefusal why
+        ((t : Told) → (B.seen board.old).told ≡ Some t
         → RestsHere t.here (B.seen board.new).told (B.seen board.new).clock)) }
 
     // What the opening does, as acts and as disk calls, whatever it returns.
@@ -100,15 +97,11 @@ pub fn open_journal<B: Board>(
     ensures cause { FailsAs disk_call (B.seen board.old).faults (B.seen board.new).faults
         (open_failure result) }
 {
-    let (Recovered { account, standing }, shut) = match recover_files(alloc, board) {
-        Ok(recovered) => recovered,
-        Err(refused) => return Err(refused),
-    };
+    let recovered = recover_files(alloc, board)?;
+    let (Recovered { account, standing }, shut) = recovered;
     if let Some(standing) = standing {
         return Ok((account, Journal::at(standing)));
     }
-    match format_first(alloc, &account, shut, board) {
-        Ok(journal) => Ok((account, journal)),
-        Err(refused) => Err(refused),
-    }
+    let journal = format_first(alloc, &account, shut, board)?;
+    Ok((account, journal))
 }

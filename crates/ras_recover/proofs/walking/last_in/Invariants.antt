@@ -1,7 +1,8 @@
-use Rattle.std.proofs.Common.{◌≡◌, Ok}
-use Rattle.ras_recover.specs.Steps.Looking.{ReadsPart}
+use Rattle.std.proofs.Common.{◌≡◌}
+use Rattle.board_core.specs.Doing.{went_well}
+use Rattle.ras_recover.specs.Steps.Looking.{Looks, ReadsPart}
 use Rattle.ras_recover.specs.Steps.Reading.{front_at}
-use Rattle.ras_recover.specs.Steps.Windows.{Covers, end_of, Looks, read_failure}
+use Rattle.ras_recover.specs.Steps.Windows.{Covers, end_of}
 use Rattle.ras_recover.proofs.HoldingLemmas.{GoesOn}
 use Rattle.ras_recover.proofs.walking.last_in.Given as goal
 
@@ -11,6 +12,6 @@ invariant-loop g l = record {
   links : l.place.links ≡ l.counter;
   covers : Covers l.file l.place.gate (g.B.Board.seen l.board).told l.window;
   goes_on : GoesOn l.file (g.B.Board.seen l.fn.board).told l.counter (front_at l.fn.first l.fn.account.state) (front_at l.place l.account.state);
-  looks : Looks read_failure (Ok (tt {0})) (ReadsPart l.file.no (end_of l.fn.window) (end_of l.window))
-      (g.B.Board.seen l.fn.board).told (g.B.Board.seen l.fn.board).clock (g.B.Board.seen l.fn.board).faults (g.B.Board.seen l.board).told (g.B.Board.seen l.board).clock (g.B.Board.seen l.board).faults;
+  looks : Looks went_well (λ t. ReadsPart l.file.no (end_of l.fn.window) (end_of l.window))
+      (g.B.Board.seen l.fn.board) (g.B.Board.seen l.board);
 }
