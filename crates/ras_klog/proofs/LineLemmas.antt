@@ -1,14 +1,15 @@
 -- Words by the places of spaces, and what follows a marker.
 use Rattle.std.proofs.Common.{◌≡◌, ℕ, zero, suc, ◌+◌, ◌-◌, ◌<◌, ◌≤◌, ◌==◌, ◌&&◌, Bool, true, false, cond, if◌then◌else◌, nat_eq, nat_lt, List, [], ◌∷◌, length, take, drop, get_or, refl, sym, ap, subst, ◌∙◌, arith, inl, inr, Some, None, length-drop, length-take}
 use Rattle.std.proofs.Math.Seq.{take-length}
-use Rattle.std.proofs.lemmas.Bool.{cases_lt}
+use Rattle.std.proofs.lemmas.Bool.{cases_lt, eq-eqb, false≢true}
 use Rattle.std.proofs.lemmas.Bool.Decides.{nat_tests}
 use Rattle.std.proofs.lemmas.List.{get_or-drop}
+use Rattle.std.proofs.lemmas.List.Quantifiers.{position-Some}
 use Rattle.std.proofs.lemmas.List.Splits.{slice_split_first, slice_split_none}
 use Rattle.std.proofs.lemmas.List.Sums.{fails_before_first}
 use Rattle.std.specs.List.{All, list_all, onto_first, position, position_or_len, slice_split, starts_with}
 use Rattle.std.proofs.lemmas.Slice.Eq.{bytes_eq-Decides}
-use Rattle.memchr.specs.Find.{OccursAt, NoneBefore, Nowhere, Passes, is_byte}
+use Rattle.memchr.specs.Find.{OccursAt, NoneBefore, Nowhere}
 use Rattle.memchr.proofs.lemmas.MatchLemmas.{OccursAt-part, OccursAt-from_part}
 use Rattle.ras_klog.specs.Reading.{after_marker, is_empty, marker, parts_of}
 
@@ -120,15 +121,15 @@ NoneBelow line end = (k : ℕ) → k + 1 < end → ¬ OccursAt line marker k
 
 -- a search for the second byte passes no marker
 pub none-passed : (line : List ℕ) (from passed : ℕ) → from + passed ≤ length line → NoneBelow line from
-    → Nowhere (Passes (is_byte 72) (take (length line - from) (drop from line))) 0 passed → NoneBelow line (from + passed)
-none-passed line from passed inside before nowhere k below occurs = elim (cases_lt (k + 1) from) [
+    → ((k : ℕ) → k < passed → (get_or (take (length line - from) (drop from line)) k 0 == 72) ≡ false) → NoneBelow line (from + passed)
+none-passed line from passed inside before other k below occurs = elim (cases_lt (k + 1) from) [
   | inl early ↦ before k early occurs
   | inr late ↦
       let there : from + (k + 1 - from) ≡ k + 1 = omega arith in
       let second : get_or line (k + 1) 0 ≡ 72 = occurs.reads 1 (omega arith) in
       let byte : get_or (take (length line - from) (drop from line)) (k + 1 - from) 0 ≡ 72 =
       ap (λ text. get_or text (k + 1 - from) 0) (rest_is from line) ∙ get_or-drop from line (k + 1 - from) 0 ∙ ap (λ i. get_or line i 0) there ∙ second in
-      nowhere (k + 1 - from) (omega arith) (omega arith) (ap (λ b. b == 72) byte)
+      false≢true (sym (other (k + 1 - from) (omega arith)) ∙ eq-eqb _ _ byte)
 ]
 
 -- nor does a step past a second byte that no marker stands round
@@ -137,6 +138,15 @@ none-round line second before not k below occurs = elim (cases_lt (k + 1) second
   | inl early ↦ before k early occurs
   | inr last ↦ let same : k ≡ second - 1 = omega arith in not (omega arith, subst (OccursAt line marker) same occurs)
 ]
+
+-- what a search for a byte passes
+pub passed_at : (byte : ℕ) (text : List ℕ) (place : ℕ) → Some place ≡ position (λ b. b == byte) text → (place < length text) × ((k : ℕ) → k < place → (get_or text k 0 == byte) ≡ false)
+passed_at byte text place h =
+    let is = position-Some (λ b. b == byte) text place 0 (sym h) in
+    (is.0, is.2)
+
+pub passed_all : (byte : ℕ) (text : List ℕ) → None ≡ position (λ b. b == byte) text → (k : ℕ) → k < length text → (get_or text k 0 == byte) ≡ false
+passed_all byte text h k low = fails_before_first (λ b. b == byte) text k 0 (omega (arith, no_place _ _ h))
 
 pub none-at-all : (line : List ℕ) → NoneBelow line (length line) → Nowhere (OccursAt line marker) 0 (length line + 1)
 none-at-all line none k low high occurs = none k (omega (arith, occurs.fits)) occurs

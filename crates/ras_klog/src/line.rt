@@ -3,11 +3,10 @@
 ghost use Rattle.std.specs.Prelude.{◌≡◌, ◌-◌, ◌≤◌, ◌↔◌, length, IfSome, IsTrue};
 ghost use Rattle.std.specs.Option.{option_map};
 ghost use Rattle.memchr.specs.Find.{FindsNeedle, OccursAt};
-ghost use Rattle.ras_klog.specs.Reading.{after_marker, bank_of, check_of, colon_number, is_vendor_and_model, klog_line_of, marker, named, parts_of, processor_line_of, start_line_of, told_by_words, tsc_of};
+ghost use Rattle.ras_klog.specs.Reading.{after_marker, bank_of, check_of, colon_number, is_vendor_and_model, klog_line_after, klog_line_of, marker, named, parts_of, processor_line_of, start_line_of, told_by_words, tsc_of};
 ghost use Rattle.ras_klog.specs.Steps.Words.{words_in};
 
 use crate::words::Words;
-use memchr::memchr;
 use ras_script::{decimal, hexadecimal, position_of};
 
 /// What a line of a kernel log says.
@@ -59,9 +58,17 @@ pub fn klog_line(bytes: &[u8]) -> KlogLine
     ensures { result ≡ klog_line_of bytes.now }
 {
     match after_marker(bytes) {
-        Some(text) => told_by(text).unwrap_or(KlogLine::Other),
+        Some(text) => klog_line_after(text),
         None => KlogLine::Other,
     }
+}
+
+/// Returns what a line of a kernel log says, by what follows its first `[Hardware Error]: `.
+/// Allocates nothing.
+pub fn klog_line_after(text: &[u8]) -> KlogLine
+    ensures { result ≡ klog_line_after text.now }
+{
+    told_by(text).unwrap_or(KlogLine::Other)
 }
 
 // What follows the first prefix of a line, if it has one.
@@ -81,7 +88,7 @@ fn marker_in(line: &[u8]) -> Option<usize>
     ensures { FindsNeedle line.now marker 0 result }
 {
     let mut from = 0;
-    while let Some(passed) = memchr(b'H', &line[from..]) {
+    while let Some(passed) = position_of(b'H', &line[from..]) {
         let second = from + passed;
         if has_marker_round(line, second) {
             return Some(second - 1);
