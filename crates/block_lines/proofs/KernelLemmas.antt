@@ -20,7 +20,6 @@ use Rattle.block_lines.specs.Lines.{after_named, location_of, number_named, repo
 use Rattle.block_lines.specs.LogLines.{error_mark, marked_line_of, own_after, own_by, own_line_of}
 use Rattle.block_lines.specs.Reading.{ErrorsRead, errors_read, line_read, texts_read}
 use Rattle.block_lines.specs.Reports.{blank_error, section_errors}
-use Rattle.block_lines.specs.declared.log_line.Marking.{Marking}
 use Rattle.block_lines.specs.declared.log_line.Marking.TheVariants.{Foreign, Own}
 use Rattle.block_lines.specs.declared.log_line.OwnLine.{OwnLine}
 use Rattle.block_lines.specs.declared.memory.ErrorLocation.{ErrorLocation}
