@@ -1,5 +1,5 @@
 -- A line that has no place in the report in work changes nothing.
-use Rattle.std.proofs.Common.{◌≡◌, ℕ, Bool, false, refl}
+use Rattle.std.proofs.Common.{◌≡◌, ℕ, false, refl}
 use Rattle.ras_klog.specs.Stages.{has_place, out_at, stage_after}
 use Rattle.ras_klog.specs.declared.line.KlogLine.{KlogLine}
 use Rattle.ras_klog.specs.declared.line.KlogLine.TheVariants.{Start, Tsc, Processor, Other}

@@ -2,7 +2,6 @@
 use Rattle.std.proofs.Common.{◌≡◌, ℕ, suc, ◌+◌, ◌^◌, ◌<◌, ◌&&◌, ◌==◌, ◌||◌, Bool, true, false, List, [], ◌∷◌, ◌++◌, decimal, drop, length, refl, sym, ap, ◌∙◌, arith, length-drop, Option, Some, None}
 use Rattle.std.specs.Prelude.{is_some, if◌then◌else◌}
 use Rattle.std.specs.List.{position_or_len}
-use Rattle.std.proofs.lemmas.Bool.Decides.{nat_tests}
 use Rattle.bank_lines.specs.LogHeads.{after, is_own, up_to}
 use Rattle.block_lines.specs.Kernel.{printed_line}
 use Rattle.block_lines.specs.LogLines.{error_mark, has_mark, marked_line_of, own_by, own_line_of}
