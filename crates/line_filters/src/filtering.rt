@@ -174,6 +174,7 @@ fn take_line<F: LineFilter>(
 {
     text.clear();
     match filter.take(alloc, lines.line(), text) {
+        Ok(()) if text.is_empty() => Ok(()),
         Ok(()) => match waiting.extend_from_slice(text) {
             Ok(()) => Ok(()),
             Err(_) => Err(Exit::NoMemory),
