@@ -20,7 +20,7 @@ use Rattle.ras_events.specs.DoneLines.{done_count}
 use Rattle.ras_events.proofs.DoneLemmas.{none_done}
 use Rattle.ras_daemon.specs.Commands.{MayEnd}
 use Rattle.ras_daemon.specs.declared.word.Task.{Task}
-use Rattle.ras_daemon.specs.declared.word.Task.TheVariants.{Run, Report, Load, Pcie, Klog, TraceLines, KlogLines, GhesLines, Help, Version}
+use Rattle.ras_daemon.specs.declared.word.Task.TheVariants.{Run, Report, Load, Pcie, Klog, TraceLines, KlogLines, GhesLines, MceLine, Help, Version}
 use Rattle.ras_daemon.specs.Headline.{laid_with}
 use Rattle.ras_daemon.specs.Promises.{Caused, IsQuiet, IsQuietBoard, Ran, RunStops}
 use Rattle.ras_daemon.specs.RunActs.{DidAll, DidRun}
@@ -102,6 +102,7 @@ may_code task exit code may is = by task (subst (MayEnd task) is may)
     by (Some (TraceLines boot)) never = absurd never
     by (Some (KlogLines boot mask)) never = absurd never
     by (Some (GhesLines boot began)) never = absurd never
+    by (Some (MceLine boot)) never = absurd never
     by (Some Help) (inl is) = absurd cc
     by (Some Help) (inr is) = absurd cc
     by (Some Version) (inl is) = absurd cc

@@ -9,7 +9,7 @@ ghost use Rattle.ras_journal.specs.Recovered.{HasFewLinks};
 ghost use Rattle.ras_recover.specs.DiskCalls.{IsBeginning, Makes};
 ghost use Rattle.ras_run.specs.Places.{Start};
 ghost use Rattle.ras_events.specs.DoneLines.{done_count};
-ghost use Rattle.ras_daemon.specs.Ahead.{TakesBy};
+ghost use Rattle.ras_daemon.specs.Ahead.{TakesBy, TakesRecordBy};
 ghost use Rattle.ras_daemon.specs.Commands.{ByTask, MayEnd};
 ghost use Rattle.ras_daemon.specs.Headline.{OverRun, laid_with};
 ghost use Rattle.ras_daemon.specs.Promises.{Caused, IsQuiet, IsQuietBoard, OverRefused, Ran, Refuses};
@@ -32,6 +32,7 @@ use block_lines::BlockFilter;
 use board_core::{Board, Source};
 use cper_pcie::PcieFilter;
 use line_filters::filter_lines;
+use mce_records::print_record;
 use ras_exit::{Exit, usage_line};
 use ras_klog::KlogFilter;
 use std::alloc::Global;
@@ -70,9 +71,12 @@ pub fn rasd<S: Source, B: Board>(
         (B.seen board.new).clock }
 
     // A command that reads the source takes at most 67,108,865 bytes of it, and all of them if it
-    // ends as done. Every other command leaves the source alone.
+    // ends as done. The command that reads a saved record takes at most 129 bytes, and all of them
+    // or 129 if it ends as done. Every other command leaves the source alone.
     ensures reads { ReadsBy (task_of words.now)
-        (TakesBy result (S.left source.old) (S.left source.new)) (source.new ≡ source.old) }
+        (TakesBy result (S.left source.old) (S.left source.new))
+        (TakesRecordBy result (S.left source.old) (S.left source.new))
+        (source.new ≡ source.old) }
 
     // A command ends with a fault if and only if a call failed, and then no other call failed.
     ensures causes { Caused result (S.faults source.old) (S.faults source.new)
@@ -106,6 +110,7 @@ pub fn rasd<S: Source, B: Board>(
             let mut filter = BlockFilter::new(alloc, boot, began);
             filter_lines(alloc, &mut filter, source, board)
         }
+        Some(Task::MceLine { boot }) => print_record(alloc, boot, source, board),
         Some(Task::Help) => last_line(help_text(), Exit::Done, board),
         Some(Task::Version) => last_line(version_line(), Exit::Done, board),
         None => last_line(usage_line(), Exit::Usage, board),
