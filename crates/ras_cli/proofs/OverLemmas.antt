@@ -23,7 +23,7 @@ use Rattle.ras_daemon.specs.RunOutput.{run_output}
 use Rattle.ras_daemon.specs.RunStatus.{start_of}
 use Rattle.ras_daemon.specs.StoreDuring.{store_at_end}
 use Rattle.ras_daemon.specs.declared.word.Task.{Task}
-use Rattle.ras_daemon.specs.declared.word.Task.TheVariants.{Run, Report, Load, Pcie, Klog, TraceLines, KlogLines, GhesLines, Help, Version}
+use Rattle.ras_daemon.specs.declared.word.Task.TheVariants.{Run, Report, Load, Pcie, Klog, TraceLines, KlogLines, GhesLines, MceLine, Help, Version}
 use Rattle.ras_exit.specs.Endings.{CallEnding, OnAnswer, UnlessFaulted, answered, starved, faulted, source_failed, ending_of}
 use Rattle.ras_exit.specs.StopLine.{stop_line}
 use Rattle.ras_exit.specs.Telling.{OnlyText, PrintsPart}
@@ -52,6 +52,7 @@ over_folder P (Some (Klog boot cap)) left past gives = tt
 over_folder P (Some (TraceLines boot)) left past gives = tt
 over_folder P (Some (KlogLines boot cap)) left past gives = tt
 over_folder P (Some (GhesLines boot began)) left past gives = tt
+over_folder P (Some (MceLine boot)) left past gives = tt
 over_folder P (Some Help) left past gives = tt
 over_folder P (Some Version) left past gives = tt
 over_folder P None left past gives = tt
@@ -68,6 +69,7 @@ over_damaged P (Some (Klog boot cap)) past gives = tt
 over_damaged P (Some (TraceLines boot)) past gives = tt
 over_damaged P (Some (KlogLines boot cap)) past gives = tt
 over_damaged P (Some (GhesLines boot began)) past gives = tt
+over_damaged P (Some (MceLine boot)) past gives = tt
 over_damaged P (Some Help) past gives = tt
 over_damaged P (Some Version) past gives = tt
 over_damaged P None past gives = tt
@@ -282,6 +284,7 @@ over_report P (Some (Klog boot cap)) past gives = tt
 over_report P (Some (TraceLines boot)) past gives = tt
 over_report P (Some (KlogLines boot cap)) past gives = tt
 over_report P (Some (GhesLines boot began)) past gives = tt
+over_report P (Some (MceLine boot)) past gives = tt
 over_report P (Some Help) past gives = tt
 over_report P (Some Version) past gives = tt
 over_report P None past gives = tt
@@ -341,6 +344,7 @@ over_other P (Some (Klog boot cap)) past gives = if_told P past (λ p is. gives 
 over_other P (Some (TraceLines boot)) past gives = if_told P past (λ p is. gives p tt is)
 over_other P (Some (KlogLines boot cap)) past gives = if_told P past (λ p is. gives p tt is)
 over_other P (Some (GhesLines boot began)) past gives = if_told P past (λ p is. gives p tt is)
+over_other P (Some (MceLine boot)) past gives = if_told P past (λ p is. gives p tt is)
 over_other P (Some Help) past gives = if_told P past (λ p is. gives p tt is)
 over_other P (Some Version) past gives = if_told P past (λ p is. gives p tt is)
 
@@ -390,11 +394,13 @@ module _ (exit : Exit) (rest : Option (List ℕ)) (p q : FolderPast) (clock : Cl
       as_begun (Some (KlogLines boot cap)) (Some script) t here (only_filtered _ exit script rest (begun_over p) t did.tells) did
   by_other (Some (GhesLines boot began)) (Some script) t other here did =
       as_begun (Some (GhesLines boot began)) (Some script) t here (only_filtered _ exit script rest (begun_over p) t did.tells) did
+  by_other (Some (MceLine boot)) (Some input) t other here did = as_begun (Some (MceLine boot)) (Some input) t here did.tells.only did
   by_other (Some Pcie) None t other here did = record { tells = tt; stops = tt; device = device_as t here did.device }
   by_other (Some (Klog boot cap)) None t other here did = record { tells = tt; stops = tt; device = device_as t here did.device }
   by_other (Some (TraceLines boot)) None t other here did = record { tells = tt; stops = tt; device = device_as t here did.device }
   by_other (Some (KlogLines boot cap)) None t other here did = record { tells = tt; stops = tt; device = device_as t here did.device }
   by_other (Some (GhesLines boot began)) None t other here did = record { tells = tt; stops = tt; device = device_as t here did.device }
+  by_other (Some (MceLine boot)) None t other here did = record { tells = tt; stops = tt; device = device_as t here did.device }
 
 -- such a command goes on telling
 still_told : (exit : Exit) (task : Option Task) (left rest : Option (List ℕ)) (before : Told) (now : Option Told) (old new : Clock)
@@ -408,6 +414,7 @@ still_told exit (Some (Klog boot cap)) left rest before now old new other did = 
 still_told exit (Some (TraceLines boot)) left rest before now old new other did = did.device.0
 still_told exit (Some (KlogLines boot cap)) left rest before now old new other did = did.device.0
 still_told exit (Some (GhesLines boot began)) left rest before now old new other did = did.device.0
+still_told exit (Some (MceLine boot)) left rest before now old new other did = did.device.0
 still_told exit (Some Help) left rest before now old new other did = did.device.0
 still_told exit (Some Version) left rest before now old new other did = did.device.0
 
