@@ -12,7 +12,7 @@ use Rattle.host_system.specs.Folder.{FolderFile, NameEntry, Folder, FileUse, ope
 use Rattle.host_system.specs.FolderPast.{FolderPast, Did, IfTold, changed_by, folder_of, MayDo, IsMissing, bytes_or}
 use Rattle.host_system.specs.Steps.FolderLemmas.{AfterFolder, none_before, names_before, used_before, sync_before, made_before, after_syncing}
 use Rattle.host_system.specs.Steps.FolderPastLemmas.{consistent_of, folder_of-more, passes_change, passes_then, stands}
-use Rattle.host_system.specs.View.{IsWhole, seen_as, seen_now, clock_over}
+use Rattle.host_system.specs.View.{IsDurable, seen_as, seen_now, clock_over}
 
 -- ---- what was done, and what may have been, where a system tells
 
@@ -49,7 +49,7 @@ keeps_file file x y entry = record {
 pub keeps_others : (file : FileNo) (x y : Folder) → y.store ≡ x.store → entry_named (Journal (other_than file)) y ≡ entry_named (Journal (other_than file)) x → KeepsOthersIn file x y
 keeps_others file x y store entry = record {
   settled = λ is. subst IsSettled (sym store) is;
-  whole = λ is. subst (λ (e : NameEntry). IsWhole e.now) (sym store) is;
+  whole = λ is. subst (λ (e : NameEntry). IsDurable e.now) (sym store) is;
   other = keeps_file (other_than file) x y entry;
 }
 

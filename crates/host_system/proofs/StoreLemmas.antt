@@ -12,7 +12,7 @@ use Rattle.host_system.specs.Folder.{FolderFile, NameEntry, Folder, entry_named,
 use Rattle.host_system.specs.FolderPast.{FolderPast, Did, bytes_or, folder_of}
 use Rattle.host_system.specs.Steps.Quiet.{SeesNothing, Quiet, HasNew, HasMoved, IsReplaced, MayHaveMoved}
 use Rattle.host_system.specs.StoreFile.{SeesStore, HasReplaced, KeepsWhole, Replaces}
-use Rattle.host_system.specs.View.{seen_as, store_in, IsWhole}
+use Rattle.host_system.specs.View.{seen_as, store_in, IsDurable}
 use Rattle.host_system.proofs.FileLemmas.{keeps_file, weaker}
 use Rattle.host_system.proofs.QuietLemmas.{EndsBadly, EndsWell, badly_moved, well_named}
 
@@ -27,7 +27,7 @@ parts folder old store zero one stored out =
 -- nothing is seen of it
 
 nothing_whole : (x y : FolderPast) → SeesNothing x y → KeepsWhole x y
-nothing_whole x y is = λ was. subst (λ (e : NameEntry). IsWhole e.now) (sym is.store) was
+nothing_whole x y is = λ was. subst (λ (e : NameEntry). IsDurable e.now) (sym is.store) was
 
 nothing_file : (file : FileNo) (x y : FolderPast) → SeesNothing x y → KeepsFile file x y
 nothing_file Zero x y is = keeps_file Zero (folder_of x) (folder_of y) is.zero
@@ -38,8 +38,8 @@ nothing_seen x y is = parts (folder_of y) (folder_of x) (store_in (bytes_now (fo
 
 -- the store's file is the new one
 
-now_whole : (bytes : List ℕ) (now : Option FolderFile) → now ≡ Some (settled_file_of bytes) → IsWhole now
-now_whole bytes now is = subst IsWhole (sym is) refl
+now_whole : (bytes : List ℕ) (now : Option FolderFile) → now ≡ Some (settled_file_of bytes) → IsDurable now
+now_whole bytes now is = subst IsDurable (sym is) refl
 
 moved_file : (file : FileNo) (bytes : List ℕ) (x y : FolderPast) → HasMoved bytes x y → KeepsFile file x y
 moved_file Zero bytes x y is = keeps_file Zero (folder_of x) (folder_of y) is.zero

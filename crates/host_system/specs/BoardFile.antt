@@ -7,7 +7,7 @@ use Rattle.board_core.specs.declared.board.FileNo.TheVariants.{Zero, One}
 use Rattle.host_system.specs.declared.system.FileName.TheVariants.{Journal}
 use Rattle.host_system.specs.Folder.{Folder, NameEntry, locked, lost, entry_named, bytes_now}
 use Rattle.host_system.specs.FolderPast.{FolderPast, folder_of}
-use Rattle.host_system.specs.View.{HasWholeStore, IsWhole, seen_now}
+use Rattle.host_system.specs.View.{HasWholeStore, IsDurable, seen_now}
 
 -- A file exists, its name is durable, and it is locked.
 pub record IsUsableAs (entry : NameEntry) : Type 0 where
@@ -55,7 +55,7 @@ IsReadable file past = IsReadableIn file (folder_of past)
 
 -- A name and all bytes of its file are durable.
 abbrev pub IsSettled : NameEntry → Type 0
-IsSettled entry = (entry.others ≡ []) × IsWhole entry.now
+IsSettled entry = (entry.others ≡ []) × IsDurable entry.now
 
 -- The store's file is durable, and so is its name.
 abbrev pub HasSettledStore : FolderPast → Type 0
@@ -108,7 +108,7 @@ other_than One = Zero
 -- A call of one file leaves the other file as usable as it was, and the store's file as durable.
 pub record KeepsOthersIn (file : FileNo) (old new : Folder) : Type 0 where
   pub settled : IsSettled old.store → IsSettled new.store
-  pub whole : IsWhole old.store.now → IsWhole new.store.now
+  pub whole : IsDurable old.store.now → IsDurable new.store.now
   pub other : KeepsFileIn (other_than file) old new
 
 abbrev pub KeepsOthers : FileNo → FolderPast → FolderPast → Type 0

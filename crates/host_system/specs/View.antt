@@ -49,13 +49,13 @@ told_over past = option_map seen_now past
 -- ---- the record store's file
 
 -- All bytes of a file that may be missing are durable.
-abbrev pub IsWhole : Option FolderFile → Type 0
-IsWhole None = Unit {0}
-IsWhole (Some file) = file.disk.written ≡ []
+abbrev pub IsDurable : Option FolderFile → Type 0
+IsDurable None = Unit {0}
+IsDurable (Some file) = file.disk.written ≡ []
 
 -- All bytes of the store's file are durable. Its name may not be.
 abbrev pub HasWholeStore : FolderPast → Type 0
-HasWholeStore past = IsWhole (folder_of past).store.now
+HasWholeStore past = IsDurable (folder_of past).store.now
 
 -- A read returns what was written, unless a sync of the file failed. The record store's file is never written
 -- in place, so all its bytes have to be durable.

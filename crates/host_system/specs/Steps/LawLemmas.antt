@@ -9,7 +9,7 @@ use Rattle.board_core.specs.DiskModel.{Range, DiskFile, MayLeaveFile}
 use Rattle.board_core.specs.Stop.{Left}
 use Rattle.host_system.specs.Folder.{FolderFile, NameEntry, shut, lost, on_disk, entry_from, Stopped, MayLeaveOne, MayLeaveAny, MayLeaveName, MayLeaveFolder, bytes_now, here_in, settled_folder}
 use Rattle.host_system.specs.Steps.FolderLemmas.{IsConsistent}
-use Rattle.host_system.specs.View.{IsWhole, told_over}
+use Rattle.host_system.specs.View.{IsDurable, told_over}
 use Rattle.host_system.specs.BoardFile.{HasSettledStore, IsSettled}
 use Rattle.host_system.specs.FolderPast.{FolderPast, folder_of, bytes_or}
 use Rattle.host_system.specs.Steps.FolderPastLemmas.{consistent_of, here_left, now_only, now_counts, since_earlier}
@@ -42,7 +42,7 @@ text_left (Some past) t left is now =
 no_ranges : (synced : List ℕ) (written : List Range) (left : List ℕ) → written ≡ [] → MayLeaveFile (record { synced = synced; written = written }) left → left ≡ synced
 no_ranges synced written left is may = settled_only synced left (subst (λ (ranges : List Range). MayLeaveFile (record { synced = synced; written = ranges }) left) is may)
 
-only_now : (now : Option FolderFile) (left : Option (List ℕ)) → IsWhole now → MayLeaveOne (on_disk now) (option_map (λ (f : FolderFile). f.bytes) now) → MayLeaveOne (on_disk now) left → left ≡ option_map (λ (f : FolderFile). f.bytes) now
+only_now : (now : Option FolderFile) (left : Option (List ℕ)) → IsDurable now → MayLeaveOne (on_disk now) (option_map (λ (f : FolderFile). f.bytes) now) → MayLeaveOne (on_disk now) left → left ≡ option_map (λ (f : FolderFile). f.bytes) now
 only_now None None is here_in may = refl
 only_now None (Some bytes) is here_in may = absurd may
 only_now (Some file) None is here_in may = absurd may
@@ -64,7 +64,7 @@ earlier_left (Some past) s t left within may = record { stopped = may.stopped; m
 shut_lost : shut ≡ lost → ⊥
 shut_lost e = cc
 
-begins_whole : (bytes : Option (List ℕ)) → IsWhole (entry_from bytes).now
+begins_whole : (bytes : Option (List ℕ)) → IsDurable (entry_from bytes).now
 begins_whole None = tt
 begins_whole (Some bytes) = refl
 
