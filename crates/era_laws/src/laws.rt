@@ -55,8 +55,8 @@ use board_core::{Board, Source};
 /// - `records` and `cut` say that each readable record that was last put or saved is in the store,
 ///   or the account knows its name.
 /// - `replayed`, `same` and `together` say that a script without polls that is run again after each
-///   crash gives what it gives in one run. `polled` and `polled_whole` say what holds of a script
-///   that polls.
+///   crash, and may grow meanwhile, gives what it gives in one run. `polled` and `polled_whole` say
+///   what holds of a script that polls.
 pub fn era_laws()
     // Of each era the files count the events that are done by what it printed, or one more. They
     // give the first account with what these events report, in order.
@@ -143,9 +143,10 @@ pub fn era_laws()
         → let laid = store_upto era.run (done_in era) in
         Becomes (store_changed laid (puts r)) laid era.left.store }
 
-    // If a script without polls is run again from its first line after each crash, the account in
-    // the end is that of one uninterrupted run, except for the number of entries, because limits
-    // are set again. If the script reports only facts, that number is the same too.
+    // If a script without polls, which may grow at its end, is run again from its first line after
+    // each crash, the account in the end is that of one uninterrupted run of all of it, except for
+    // the number of entries, because limits are set again. If the script reports only facts, that
+    // number is the same too.
     ensures replayed { (history : History) (undisturbed : Start) (script : List ℕ) (here : Left)
         (eras : List Era) (last : Era) (now : State)
         → IsReplayed history undisturbed script here eras last → Recovers now last.left
