@@ -19,7 +19,8 @@ pub data Print : Type 0 where
   replace : Bytes → Print
   other : List ℕ → Print
 
--- its text: the `log` lines of a report, or one line
+-- Its text: the `log` lines of a report, or one line. That labels have no line feed isn't said here: they are as
+-- dimm_topology/specs/Labels.antt says.
 abbrev pub print_text : Print → List ℕ
 print_text (log fact details) = report_lines fact details
 print_text (replace label) = module_line label
