@@ -1,7 +1,7 @@
 """Checks of the filters in service/ and of monitor/write-metrics; tests/program/examples runs them.
 
 service/json gets every line that tests/program/rows.txt and the cases say is printed, `lines ghes` the reports of many
-sources, service/put-lines whole and truncated records. A parser of Prometheus' text format (version 0.0.4), which rejects
+sources, service/put-lines whole and truncated records, and the kernel's own. A parser of Prometheus' text format (version 0.0.4), which rejects
 everything that the format doesn't allow, reads what monitor/write-metrics writes.
 """
 import datetime
@@ -9,9 +9,11 @@ import json
 import os
 import pathlib
 import re
+import struct
 import subprocess
 import tempfile
 import time
+import uuid
 
 from rattle import TOP
 from table import rows
@@ -335,6 +337,53 @@ def put_of(data):
     return b"put %016x %s\n" % (int.from_bytes(data[96:104], "little"), data.hex().encode())
 
 
+def saved_record(identifier, kind, section, sections=1, place=200):
+    """A record that the kernel saves: a section of this type, said to be at this place."""
+    record = bytearray(record_of(identifier, 200 + len(section)))
+    record[10:12] = sections.to_bytes(2, "little")
+    record[128:136] = struct.pack("<2I", place, len(section))
+    record[144:160] = uuid.UUID(kind).bytes_le
+    record[200:] = section
+    return bytes(record)
+
+
+def machine_check(vendor=0, later=bytes(40)):
+    """What Linux 6.1.192 saved in a guest as it died: its struct mce. The kernel's version decides which members come later."""
+    registers = 0xBE00000000800400, 0, 0, 5, 0xFFFFFFFF99907CAC, 119418565726, 1796005628
+    return struct.pack("<7Q4BI4B3IQ", *registers, vendor, 0, 7, 0, 0x50654, 16, 4, 0, 0, 0, 0, 0, 0x100010A) + later
+
+
+def checks_of_saved_records(program):
+    """The kernel's machine check is a line `bank`; a piece of its log isn't put, and that is said."""
+    check, log = "fe08ffbe-95e4-4be7-bc73-4096044a38fc", "4f118707-04dd-4055-b5dd-956d34ddfac6"
+    saved, piece = saved_record(1, check, machine_check()), saved_record(2, log, bytes(range(256)) * 20)
+    long_piece, other = saved_record(2**64 - 1, log, bytes(20_000)), record_of(3, 353)
+    bank = b"bank 7 1796005628 0 4 119418565726 100010a 5 be00000000800400 0 0\n"
+    comment = b"# kernel log record=0000000000000002\n"
+    one, two = (b"put-lines: left out pieces of the kernel's own log: %d\n" % it for it in (1, 2))
+    out = b"put-lines: left out the machine check of record 0000000000000001: "
+    tried = [(saved, "7", bank, b"", 0), (saved_record(1, check, machine_check(later=b"")), "7", bank, b"", 0)]
+    tried += [(piece + other + saved + piece, "7", comment + put_of(other) + bank + comment, two, 0)]
+    tried += [(long_piece + saved, "7", b"# kernel log record=ffffffffffffffff\n" + bank, one, 0)]
+    tried += [(piece + long_piece[:-1], "7", comment + b"# kernel log record=ffffffffffffffff\n", b"put-lines: the last record is cut\n" + two, 1)]
+    tried += [(piece[:399], "7", comment, b"put-lines: the last record is cut\n" + one, 1)]
+    tried += [(saved[:-1], "7", b"", b"put-lines: no record at byte 0\n", 1)]
+    tried += [(saved + other, "", put_of(other), out + b"the boot's number is missing\n", 1)]
+    tried += [(saved_record(1, check, machine_check(vendor=2)), "7", b"", out + b"# vendor=2 cpu=0 bank=4\n", 1)]
+    tried += [(saved_record(1, check, bytes(5000)), "7", b"", out + b"# unread mce bytes=129\n", 1)]
+    tried += [(saved, str(2**64), b"", out + b"stop 1 usage\n", 1)]
+    # Other records that have these types stay.
+    for record in (saved_record(1, check, machine_check(), sections=2), saved_record(1, log, bytes(99), place=201)):
+        tried += [(record, "7", put_of(record), b"", 0)]
+    for records, boot, wanted, told, status in tried:
+        words, settings = [SERVICE / "put-lines", *boot.split()], {**os.environ, "RASD": str(program)}
+        ran = subprocess.run(words, input=records, capture_output=True, env=settings)
+        is_right = (ran.stdout, ran.stderr, ran.returncode) == (wanted, told, status)
+        yield holds(f"put-lines: saved records: {ran.stdout[:99]} {ran.stderr}, wanted {told}", is_right)
+    output, status = output_of("put-lines", saved, "x")
+    yield holds("put-lines: a wrong number", output == b"put-lines: usage: put-lines [BOOT] < RECORDS\n" and status == 1)
+
+
 def checks_of_put_lines():
     """Each record is put whole under its identifier; what comes before a cut one too, and nothing of that."""
     data, first = (DEMO / "firmware.records").read_bytes(), 353
@@ -365,3 +414,4 @@ def checks(program):
     yield all([*checks_of_metrics(program)])
     yield all([*checks_of_many_sources(program)])
     yield all([*checks_of_put_lines()])
+    yield all([*checks_of_saved_records(program)])

@@ -256,7 +256,7 @@ def any_damage(chance):
 
 def any_words(chance):
     """Words that are a command, or none."""
-    forms = "report", "report names", "load 20", "klog 1 c14", "lines klog 1 c14", "lines trace 1", "lines ghes 1 60", "pcie", "run", "--help"
+    forms = "report", "report names", "load 20", "klog 1 c14", "lines klog 1 c14", "lines trace 1", "lines ghes 1 60", "lines mce 1", "pcie", "run", "--help"
     words = chance.choice(forms).split()
     place = chance.randrange(len(words))
     words[place : place + chance.randrange(2)] = [chance.choice((*NUMBERS, "names", "report", ""))]

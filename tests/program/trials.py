@@ -12,6 +12,10 @@ def banks(first, last):
     return "".join(f"bank 1 100 0 7 {it} 1000c14 0 8c00004000010090 {it:x}040 86\n" for it in range(first, last + 1))
 
 
+# The bytes of a struct mce whose status has VAL: in UTF-8 its bytes 6 and 7 are c2 and 80.
+SAVED = "\0" * 6 + "\x80" + "\0" * 80
+
+
 class Trial:
     """A run that is tried: its words, its input, and what the folder has before it, made by runs over earlier lines."""
 

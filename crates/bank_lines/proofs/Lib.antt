@@ -15,6 +15,8 @@ pub mod KernelLemmas
 mod KernelLawLemmas
 mod KernelMarkLemmas
 mod LogLineLemmas
+mod StepLemmas
+mod ConsoleLemmas
 mod LinesLawLemmas
 mod EventLemmas
 mod EdacMarkLemmas

@@ -1,11 +1,15 @@
 -- What a line tells, by its pieces as the code cuts them.
-use Rattle.std.proofs.Common.{◌≡◌, ℕ, ◌-◌, Bool, true, false, List, length, take, drop, sym, ap, ◌∙◌, Option, None, Some, if◌then◌else◌}
-use Rattle.std.specs.Option.{option_map_or}
-use Rattle.ras_klog.specs.Reading.{klog_line_of}
+use Rattle.std.proofs.Common.{◌≡◌, ℕ, suc, ◌+◌, ◌-◌, nat_eq, Bool, true, false, List, [], ◌∷◌, ◌++◌, length, take, drop, refl, sym, ap, ◌∙◌, arith, Option, None, Some, if◌then◌else◌}
+use Rattle.std.specs.Prelude.{unwrap_or}
+use Rattle.std.specs.List.{starts_with}
+use Rattle.std.specs.Option.{option_map, option_map_or}
+use Rattle.std.proofs.lemmas.List.{drop-drop, take-append-drop}
+use Rattle.std.proofs.lemmas.Slice.Eq.{bytes_eq-Decides}
+use Rattle.ras_klog.specs.Reading.{klog_line_after, provided}
 use Rattle.ras_klog.specs.declared.line.KlogLine.{KlogLine}
-use Rattle.bank_lines.specs.EdacLines.{driver_text}
-use Rattle.bank_lines.specs.LogHeads.{is_own}
-use Rattle.bank_lines.specs.LogLines.{driver_told, edac_line_after, left_unread, line_told_by, log_line_after, log_line_by, log_line_of, log_stamp_of, mark_of, printed_plain}
+use Rattle.bank_lines.specs.EdacLines.{driver_text, edac_mark}
+use Rattle.bank_lines.specs.LogHeads.{is_own, mark_place}
+use Rattle.bank_lines.specs.LogLines.{driver_told, edac_line_after, left_unread, line_told_by, log_line_after, log_line_by, log_line_of, log_mark, log_stamp_of, mark_by, mark_of, printed_plain}
 use Rattle.bank_lines.specs.declared.log_line.LogLine.{LogLine}
 use Rattle.bank_lines.specs.declared.log_line.LogLine.TheVariants.{Nothing}
 use Rattle.bank_lines.specs.declared.log_line.MarkedLine.{MarkedLine}
@@ -14,31 +18,81 @@ use Rattle.bank_lines.specs.declared.mark.LogMark.{LogMark}
 use Rattle.bank_lines.specs.declared.mark.LogMark.TheVariants.{AtPlain, AtEdac}
 use Rattle.bank_lines.proofs.LogHeadLemmas.{rest_is}
 
-pub after_is : (head marked : List ℕ) (stamp : Option ℕ) (line : KlogLine) (told : LogLine) (own : Bool)
-    → own ≡ is_own head → own ≡ true → stamp ≡ log_stamp_of head → line ≡ klog_line_of marked
-    → told ≡ line_told_by (printed_plain stamp) (take (length marked - 23) (drop 23 marked)) line
-    → told ≡ log_line_after head marked
-after_is head marked stamp line told own own_is is_true stamp_is line_is told_is =
-    told_is
-    ∙ ap (λ (text : List ℕ). line_told_by (printed_plain stamp) text line) (rest_is 23 marked)
-    ∙ ap (λ (s : Option ℕ). line_told_by (printed_plain s) (drop 23 marked) line) stamp_is
-    ∙ ap (λ (l : KlogLine). line_told_by (printed_plain (log_stamp_of head)) (drop 23 marked) l) line_is
-    ∙ sym (ap (λ (o : Bool). if o then line_told_by (printed_plain (log_stamp_of head)) (drop 23 marked) (klog_line_of marked) else left_unread (drop 23 marked)) (sym own_is ∙ is_true))
+some_is : (k n : ℕ) → Some k ≡ Some n → k ≡ n
+some_is k n is = ap (λ (o : Option ℕ). unwrap_or o 0) is
 
-pub other_is : (head marked : List ℕ) (told : LogLine) (own : Bool) → own ≡ is_own head → own ≡ false
-    → told ≡ left_unread (take (length marked - 23) (drop 23 marked))
-    → told ≡ log_line_after head marked
-other_is head marked told own own_is is_false told_is =
-    told_is
-    ∙ ap left_unread (rest_is 23 marked)
-    ∙ sym (ap (λ (o : Bool). if o then line_told_by (printed_plain (log_stamp_of head)) (drop 23 marked) (klog_line_of marked) else left_unread (drop 23 marked)) (sym own_is ∙ is_false))
+plain_in : Option LogMark → Option ℕ
+plain_in (Some (AtPlain place)) = Some place
+plain_in (Some (AtEdac place)) = None
+plain_in None = None
+
+pub after_is : (head text : List ℕ) (stamp : Option ℕ) (line : KlogLine) (told : LogLine)
+    → Some stamp ≡ provided (is_own head) (Some (log_stamp_of head)) → line ≡ klog_line_after text
+    → told ≡ line_told_by (printed_plain stamp) text line
+    → told ≡ log_line_after head (log_mark ++ text)
+after_is head text stamp line told own line_is told_is = by (is_own head) own
+  where
+    by : (holds : Bool) → Some stamp ≡ provided holds (Some (log_stamp_of head))
+        → told ≡ (if holds then line_told_by (printed_plain (log_stamp_of head)) text (klog_line_after text) else left_unread text)
+    by true is =
+        told_is
+        ∙ ap (λ (l : KlogLine). line_told_by (printed_plain stamp) text l) line_is
+        ∙ ap (λ (o : Option (Option ℕ)). line_told_by (printed_plain (unwrap_or o None)) text (klog_line_after text)) is
+    by false is = absurd cc
+
+pub other_is : (head text : List ℕ) (told : LogLine)
+    → None ≡ provided (is_own head) (Some (log_stamp_of head)) → told ≡ left_unread text
+    → told ≡ log_line_after head (log_mark ++ text)
+other_is head text told own told_is = by (is_own head) own
+  where
+    by : (holds : Bool) → None ≡ provided holds (Some (log_stamp_of head))
+        → told ≡ (if holds then line_told_by (printed_plain (log_stamp_of head)) text (klog_line_after text) else left_unread text)
+    by true is = absurd cc
+    by false is = told_is
+
+-- a mark stands at its place
+at_mark : (line : List ℕ) (place : ℕ) → mark_place log_mark line ≡ Some place → starts_with nat_eq (drop place line) log_mark ≡ true
+at_mark [] place found = absurd cc
+at_mark (b ∷ line) place found = by (starts_with nat_eq (b ∷ line) log_mark) refl (mark_place log_mark line) refl (at_mark line) found
+  where
+    by : (starts : Bool) → starts_with nat_eq (b ∷ line) log_mark ≡ starts → (o : Option ℕ) → mark_place log_mark line ≡ o
+        → ((k : ℕ) → mark_place log_mark line ≡ Some k → starts_with nat_eq (drop k line) log_mark ≡ true)
+        → (if starts then Some 0 else option_map (λ (k : ℕ). k + 1) o) ≡ Some place
+        → starts_with nat_eq (drop place (b ∷ line)) log_mark ≡ true
+    by true is o o_is ih e =
+        let first : 0 ≡ place = some_is 0 place e in
+        ap (λ (k : ℕ). starts_with nat_eq (drop k (b ∷ line)) log_mark) (sym first) ∙ is
+    by false is None o_is ih e = absurd cc
+    by false is (Some k) o_is ih e =
+        let next : k + 1 ≡ place = some_is (k + 1) place e in
+        let further : place ≡ suc k = omega (arith, next) in
+        ap (λ (n : ℕ). starts_with nat_eq (drop n (b ∷ line)) log_mark) further ∙ ih k o_is
+
+plain_place : (line : List ℕ) (place : ℕ) → Some (AtPlain place) ≡ mark_of line → mark_place log_mark line ≡ Some place
+unfolding plain_in
+plain_place line place found = by (mark_place log_mark line) (mark_place edac_mark line) found
+  where
+    by : (plain edac : Option ℕ) → Some (AtPlain place) ≡ mark_by plain edac → plain ≡ Some place
+    by (Some k) edac is = ap plain_in (sym is)
+    by None (Some k) is = absurd cc
+    by None None is = absurd cc
+
+-- a line from its mark on
+marked_is : (line : List ℕ) (place : ℕ) → Some (AtPlain place) ≡ mark_of line
+    → drop place line ≡ log_mark ++ take (length line - (place + 23)) (drop (place + 23) line)
+marked_is line place found =
+    let starts : starts_with nat_eq (drop place line) log_mark ≡ true = at_mark line place (plain_place line place found) in
+    let front : log_mark ≡ take (length log_mark) (drop place line) = (bytes_eq-Decides log_mark (take (length log_mark) (drop place line))).0 starts in
+    let back : drop (length log_mark) (drop place line) ≡ take (length line - (place + 23)) (drop (place + 23) line) =
+    drop-drop 23 place line ∙ sym (rest_is (place + 23) line) in
+    sym (take-append-drop (length log_mark) (drop place line)) ∙ (λ i. sym front i ++ back i)
 
 pub line_is : (line : List ℕ) (place : ℕ) (told : LogLine) → Some (AtPlain place) ≡ mark_of line
-    → told ≡ log_line_after (take place line) (take (length line - place) (drop place line))
+    → told ≡ log_line_after (take place line) (log_mark ++ take (length line - (place + 23)) (drop (place + 23) line))
     → Plain told ≡ log_line_of line
 line_is line place told found told_is =
     ap (λ (t : LogLine). Plain t) told_is
-    ∙ ap (λ (marked : List ℕ). Plain (log_line_after (take place line) marked)) (rest_is place line)
+    ∙ ap (λ (marked : List ℕ). Plain (log_line_after (take place line) marked)) (sym (marked_is line place found))
     ∙ ap (λ (o : Option LogMark). log_line_by line o) found
 
 pub edac_is : (line : List ℕ) (place : ℕ) (told : MarkedLine) → Some (AtEdac place) ≡ mark_of line

@@ -1,3 +1,4 @@
 -- What only proofs use: no public clause comes to it.
 pub mod PartsLeft
 pub mod Marks
+pub mod Times

@@ -1,7 +1,7 @@
 //! Which lines of a kernel log are the kernel's own, by what stands before their mark.
 
-ghost use Rattle.std.specs.Prelude.{◌≡◌, ◌+◌, ◌-◌, ◌<◌, ◌≤◌, ◌==◌, ◌↔◌, drop, length, not, IfSome, IsTrue};
-ghost use Rattle.std.specs.List.{position};
+ghost use Rattle.std.specs.Prelude.{◌≡◌, ◌+◌, ◌-◌, ◌<◌, ◌≤◌, ◌==◌, ◌↔◌, codes, drop, length, not, IfSome, IsTrue};
+ghost use Rattle.std.specs.List.{list_any, position};
 ghost use Rattle.memchr.specs.Find.{FindsNeedle, OccursAt};
 ghost use Rattle.bank_lines.specs.LogHeads.{after, are_digits, are_signs, has_digit, is_after_brackets, is_bracketed, is_caller, is_dated, is_iso_time, is_joined, is_logger, is_own, is_stamp, is_time, mark_place, up_to, without_spaces, are_clock_signs, are_flag_signs, are_flags, are_name_signs, are_names, is_clock, is_facility, is_host, is_kernel, is_leveled, is_name, is_name_sign, is_number, is_record, is_timed, record_time};
 
@@ -119,7 +119,7 @@ pub(crate) fn is_number(text: &[u8]) -> bool
 fn is_name_sign(byte: u8) -> bool
     ensures { result ≡ is_name_sign byte }
 {
-    b"abcdefghijklmnopqrstuvwxyzABCDEFGHIJKLMNOPQRSTUVWXYZ0123456789.-_".contains(&byte)
+    matches!(byte, b'a'..=b'z' | b'A'..=b'Z' | b'0'..=b'9' | b'.' | b'-' | b'_')
 }
 
 // Whether a word is a host's name.
@@ -150,11 +150,21 @@ fn is_host(text: &[u8]) -> bool
     text.is_empty() || text.starts_with(b" ") && is_name(without_first(text))
 }
 
+// Whether a byte is a sign of a time.
+fn is_sign(byte: u8) -> bool
+    ensures { result ≡ list_any (λ sign. sign == byte) (codes "0123456789:.,+-TZ") }
+{
+    matches!(
+        byte,
+        b'0'..=b'9' | b':' | b'.' | b',' | b'+' | b'-' | b'T' | b'Z'
+    )
+}
+
 // Whether a text is of the signs of times alone.
 fn are_signs(text: &[u8]) -> bool
     ensures { result ≡ are_signs text.now }
 {
-    text.iter().all(|b| b"0123456789:.,+-TZ".contains(b))
+    text.iter().all(|b| is_sign(*b))
 }
 
 // Whether a text has no space.
@@ -287,12 +297,18 @@ fn is_clock(text: &[u8]) -> bool
     has_digit(text) && are_clock_signs(text)
 }
 
+// Whether a byte is a sign of a time in brackets, and of no name.
+fn is_clock_mark(byte: u8) -> bool
+    ensures { result ≡ list_any (λ sign. sign == byte) (codes " :+<>") }
+{
+    matches!(byte, b' ' | b':' | b'+' | b'<' | b'>')
+}
+
 // Whether a text is of the signs of a time in brackets alone.
 fn are_clock_signs(text: &[u8]) -> bool
     ensures { result ≡ are_clock_signs text.now }
 {
-    text.iter()
-        .all(|b| is_name_sign(*b) || b" :+<>".contains(b))
+    text.iter().all(|b| is_name_sign(*b) || is_clock_mark(*b))
 }
 
 // The time in the head of a record, and what stands behind it.

@@ -1,6 +1,9 @@
 //! What the lines of a kernel log tell of machine checks.
 
-ghost use Rattle.std.specs.Prelude.{◌≡◌, ◌≤◌, length, IfSome};
+ghost use Rattle.std.specs.Prelude.{◌≡◌, ◌≤◌, ◌∷◌, ◌++◌, [], length, true, IfSome, Some};
+ghost use Rattle.ras_klog.specs.Reading.{provided};
+ghost use Rattle.bank_lines.specs.LogHeads.{is_own};
+ghost use Rattle.bank_lines.specs.Steps.Times.{IsTime};
 ghost use Rattle.bank_lines.specs.LogLines.{bracket_stamp, is_cut, is_of_report, log_line_after};
 ghost use Rattle.bank_lines.specs.LogLines.{log_line_of, log_mark, log_stamp_of, micros_of};
 ghost use Rattle.bank_lines.specs.EdacLines.{edac_mark};
@@ -9,7 +12,7 @@ ghost use Rattle.bank_lines.specs.LogLines.{driver_told, edac_line_after, left_u
 use crate::edac_line::{EdacLine, driver_text, edac_line, is_of_edac};
 use crate::log_heads::{cut, is_joined, is_own, record_time, without_spaces};
 use crate::mark::{EDAC_MARK, LogMark, PLAIN_MARK, mark_of};
-use ras_klog::{KlogLine, klog_line};
+use ras_klog::{KlogLine, klog_line_after};
 use ras_script::decimal;
 
 /// The last second that a stamp may have, and the greatest time that an error without a stamp has
@@ -60,28 +63,73 @@ pub(crate) fn log_line(line: &[u8]) -> MarkedLine
 {
     match mark_of(line) {
         Some(LogMark::AtPlain(place)) => {
-            MarkedLine::Plain(log_line_after(&line[..place], &line[place..]))
+            let text = &line[place + PLAIN_MARK.len()..];
+            MarkedLine::Plain(log_line_after(&line[..place], text))
         }
         Some(LogMark::AtEdac(place)) => edac_line_after(&line[..place], &line[place..]),
         None => MarkedLine::Plain(LogLine::Nothing),
     }
 }
 
-// What a line with this head tells from its mark on.
-fn log_line_after(head: &[u8], marked: &[u8]) -> LogLine
-    requires { length log_mark ≤ length marked.now }
-    ensures { result ≡ log_line_after head.now marked.now }
+// What a line with this head tells that has this text after its mark.
+#[tactic(auto, using(crate::proofs::LogLineLemmas::other_is))]
+fn log_line_after(head: &[u8], text: &[u8]) -> LogLine
+    ensures { result ≡ log_line_after head.now (log_mark ++ text.now) }
 {
-    let text = &marked[PLAIN_MARK.len()..];
-    if is_own(head) {
-        let print = Print {
-            stamp: log_stamp_of(head),
-            by_edac: false,
-        };
-        line_told_by(print, text, klog_line(marked))
-    } else {
-        left_unread(text)
+    let Some(stamp) = own_stamp(head) else {
+        return left_unread(text);
+    };
+    let print = Print {
+        stamp,
+        by_edac: false,
+    };
+    line_told_by(print, text, klog_line_after(text))
+}
+
+// When a line was printed, if its head tells that, provided that the head shows it as the kernel's own.
+fn own_stamp(head: &[u8]) -> Option<Option<u64>>
+    ensures { result ≡ provided (is_own head.now) (Some (log_stamp_of head.now)) }
+{
+    if let Some(stamp) = console_stamp(head) {
+        return Some(Some(stamp));
     }
+    if is_own(head) {
+        Some(log_stamp_of(head))
+    } else {
+        None
+    }
+}
+
+// The microseconds in a head as the console and dmesg print it, brackets and a space. Nothing in it is
+// looked for, and such a head shows its line as the kernel's own.
+fn console_stamp(head: &[u8]) -> Option<u64>
+    ensures { IfSome result
+        (λ stamp. (is_own head.now ≡ true) × (log_stamp_of head.now ≡ Some stamp)) }
+{
+    time_stamp(in_brackets(head)?)
+}
+
+// What stands in brackets, if a head is of brackets and a space.
+fn in_brackets(head: &[u8]) -> Option<&[u8]>
+    ensures { IfSome result (λ time. head.now ≡ 91 ∷ (time.now ++ 93 ∷ 32 ∷ [])) }
+{
+    match head {
+        [b'[', time @ .., b']', b' '] => Some(time),
+        _ => None,
+    }
+}
+
+// The microseconds of a time in seconds, with 6 digits after its point.
+fn time_stamp(time: &[u8]) -> Option<u64>
+    ensures { IfSome result (λ stamp. IsTime time.now stamp) }
+{
+    let point = time.len().checked_sub(7)?;
+    let [b'.', micros @ ..] = &time[point..] else {
+        return None;
+    };
+    let micros = micros_of(micros)?;
+    let seconds = decimal(without_spaces(&time[..point]), LAST_SECOND)?;
+    Some(seconds * MICROSECONDS + micros)
 }
 
 // What a text after a mark is that tells nothing.

@@ -48,6 +48,7 @@ impl LogState {
 
     // Takes a line, of a log of this boot and of processors with this IA32_MCG_CAP, and tells what
     // is found there.
+    #[tactic(auto, using(crate::proofs::StepLemmas::no_place))]
     pub(crate) fn step(&mut self, line: LogLine, boot: u64, cap: u64) -> Finding
         requires { self.old.polled.count < MICROSECONDS }
         ensures found { result ≡ log_found_at boot cap self.old line }
@@ -62,14 +63,32 @@ impl LogState {
                 print,
                 vendor,
             } => {
-                let has_place = self.work.has_place(line);
+                if !self.work.has_place(line) {
+                    return Finding::Unread;
+                }
                 let out = self.work.step(line, boot, cap);
-                let found = found_told(&self.polled, self.print, vendor, &out);
-                self.polled = polled_after(&self.polled, self.print, &out);
+                let found = self.take_told(vendor, &out);
                 self.print = print_after(self.print, line, print);
-                if has_place { found } else { Finding::Unread }
+                found
             }
         }
+    }
+
+    // Takes what `klog` tells, and returns what is found of it.
+    fn take_told(&mut self, vendor: u64, out: &KlogOut) -> Finding
+        requires { self.old.polled.count < MICROSECONDS }
+        ensures found { result ≡ found_told self.old.polled self.old.print vendor out.now }
+        ensures polled { self.new ≡ record self.old {
+          polled = polled_after self.old.polled self.old.print out.now;
+        } }
+        ensures count { self.new.polled.count < MICROSECONDS }
+    {
+        if let KlogOut::Nothing = *out {
+            return Finding::Nothing;
+        }
+        let found = found_told(&self.polled, self.print, vendor, out);
+        self.polled = polled_after(&self.polled, self.print, out);
+        found
     }
 
     // What is found at the log's end.

@@ -6,7 +6,7 @@ use Rattle.std.specs.Option.{option_map, option_map_or}
 use Rattle.std.proofs.Math.Seq.{drop-append-add, take-append_seam}
 use Rattle.std.proofs.lemmas.Bool.Decides.{nat_tests}
 use Rattle.std.proofs.lemmas.Fmt.{decimal_nonempty}
-use Rattle.ras_klog.specs.Reading.{provided, read_then}
+use Rattle.ras_klog.specs.Reading.{read_then}
 use Rattle.ras_script.proofs.WrittenNumberLemmas.{decimal_read}
 use Rattle.ras_script.specs.Number.{decimal_of}
 use Rattle.ras_script.specs.SplittingLaws.{Lacks}
@@ -17,9 +17,10 @@ use Rattle.bank_lines.proofs.KernelLemmas.{register_read}
 use Rattle.bank_lines.proofs.NumeralLemmas.{decimal_lacks}
 use Rattle.block_lines.specs.Kernel.{IsPrinted, PrintedError, error_of, error_text, error_texts, errors_texts, event_text, field_texts, kind_text, location_text, optional, printed_line, severity_word, start_text, time_name, unless_empty, with_number}
 use Rattle.block_lines.specs.Lines.{after_named, location_of, number_named, report_line_of, section_said, severity_of}
-use Rattle.block_lines.specs.LogLines.{error_mark, own_after, own_line_of}
+use Rattle.block_lines.specs.LogLines.{error_mark, marked_line_of, own_after, own_by, own_line_of}
 use Rattle.block_lines.specs.Reading.{ErrorsRead, errors_read, line_read, texts_read}
 use Rattle.block_lines.specs.Reports.{blank_error, section_errors}
+use Rattle.block_lines.specs.declared.log_line.Marking.TheVariants.{Foreign, Own}
 use Rattle.block_lines.specs.declared.log_line.OwnLine.{OwnLine}
 use Rattle.block_lines.specs.declared.memory.ErrorLocation.{ErrorLocation}
 use Rattle.block_lines.specs.declared.memory.MemoryError.{MemoryError}
@@ -56,23 +57,28 @@ no_spaces (d ∷ word) rest some lacks =
 
 -- ---- lines
 
--- what a text tells behind a head and a report's number
-abbrev own_told : List ℕ → ℕ → List ℕ → Option OwnLine
-own_told head number text = provided (is_own head) (Some (record { report = number; line = report_line_of text }))
+-- what a text says after a report's number
+abbrev own_said : ℕ → List ℕ → OwnLine
+own_said number text = record { report = number; line = report_line_of text }
 
-pub line_is_own : (head : List ℕ) (number : ℕ) (text : List ℕ) → is_own head ≡ true → Lacks 123 head → number < 2 ^ 64
-    → own_line_of (printed_line head number text) ≡ Some (record { report = number; line = report_line_of text })
-line_is_own head number text own lacks small =
+pub mark_read : (number : ℕ) (text : List ℕ) → number < 2 ^ 64 → marked_line_of (decimal number ++ 125 ∷ (error_mark ++ text)) ≡ Some (own_said number text)
+mark_read number text small =
     let marked : List ℕ = error_mark ++ text in
     let word : List ℕ = decimal number in
     let behind : List ℕ = word ++ 125 ∷ marked in
     let digits : Lacks 125 word = decimal_lacks 125 number (omega arith) small in
+    ap (λ (front : List ℕ). read_then (decimal_of (2 ^ 64 - 1) front) (λ n. option_map (own_said n) (value_after error_mark (after 125 behind)))) (front_is 125 word marked digits)
+    ∙ ap (λ (o : Option ℕ). read_then o (λ n. option_map (own_said n) (value_after error_mark (after 125 behind)))) (decimal_read (2 ^ 64 - 1) number (omega arith) (lit< tt))
+    ∙ ap (λ (t : List ℕ). option_map (own_said number) (value_after error_mark t)) (rest_is 125 word marked digits)
+
+pub line_is_own : (head : List ℕ) (number : ℕ) (text : List ℕ) → is_own head ≡ true → Lacks 123 head → number < 2 ^ 64
+    → own_line_of (printed_line head number text) ≡ Own (record { report = number; line = report_line_of text })
+line_is_own head number text own lacks small =
+    let behind : List ℕ = decimal number ++ 125 ∷ (error_mark ++ text) in
     ap (λ (front : List ℕ). own_after front (after 123 (head ++ 123 ∷ behind))) (front_is 123 head behind lacks)
     ∙ ap (λ (t : List ℕ). own_after head t) (rest_is 123 head behind lacks)
-    ∙ ap (λ (front : List ℕ). read_then (decimal_of (2 ^ 64 - 1) front) (λ n. read_then (value_after error_mark (after 125 behind)) (λ words. own_told head n words))) (front_is 125 word marked digits)
-    ∙ ap (λ (o : Option ℕ). read_then o (λ n. read_then (value_after error_mark (after 125 behind)) (λ words. own_told head n words))) (decimal_read (2 ^ 64 - 1) number (omega arith) (lit< tt))
-    ∙ ap (λ (t : List ℕ). read_then (value_after error_mark t) (λ words. own_told head number words)) (rest_is 125 word marked digits)
-    ∙ ap (λ (holds : Bool). provided {A = OwnLine} holds (Some (record { report = number; line = report_line_of text }))) own
+    ∙ ap (λ (o : Option OwnLine). own_by head behind o) (mark_read number text small)
+    ∙ ap (λ (holds : Bool). if holds then Own (own_said number text) else Foreign) own
 
 severity_back : (n : ℕ) → n < 4 → severity_of (severity_word n) ≡ n
 severity_back zero small = refl

@@ -1,5 +1,7 @@
 mod KernelLemmas
 mod LineLemmas
+pub mod MarkLemmas
 mod PrintedLemmas
 mod ReadBackLemmas
 mod TextLemmas
+mod ToldLemmas

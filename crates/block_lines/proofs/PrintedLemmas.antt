@@ -14,6 +14,7 @@ use Rattle.block_lines.specs.LogLines.{own_line_of, report_log_line, without_ret
 use Rattle.block_lines.specs.Printed.{AreHeaded, HasReport, IsHead, printed_lines, severity_texts}
 use Rattle.block_lines.specs.Reading.{ErrorsRead, line_read, texts_read}
 use Rattle.block_lines.specs.Reports.{Reporting, ended_at, is_end, is_start, own_taken, reporting_after, severity_after}
+use Rattle.block_lines.specs.declared.log_line.Marking.TheVariants.{Own}
 use Rattle.block_lines.specs.declared.log_line.ReportLogLine.{ReportLogLine}
 use Rattle.block_lines.specs.declared.memory.MemoryField.TheVariants.{Physical, Mask, At, Kind}
 use Rattle.block_lines.specs.declared.report.OpenSection.TheVariants.{Absent}
@@ -27,13 +28,13 @@ unchanged : (line : List ℕ) → ends_with nat_eq line (13 ∷ []) ≡ false �
 unchanged line whole = rw whole refl
 
 log_line_is : (head : List ℕ) (number : ℕ) (text : List ℕ) → IsHead head number text → number < 2 ^ 64
-    → report_log_line (printed_line head number text) ≡ record { stamp = log_stamp_of head; own = Some (record { report = number; line = report_line_of text }) }
+    → report_log_line (printed_line head number text) ≡ record { stamp = log_stamp_of head; marking = Own (record { report = number; line = report_line_of text }) }
 log_line_is head number text h small =
     let line : List ℕ = printed_line head number text in
     let stamp : log_stamp_of (up_to 123 line) ≡ log_stamp_of head = ap log_stamp_of (front_is 123 head _ h.lacks) in
-    let own : own_line_of (without_return line) ≡ Some (record { report = number; line = report_line_of text }) =
+    let own : own_line_of (without_return line) ≡ Own (record { report = number; line = report_line_of text }) =
     ap own_line_of (unchanged line h.whole) ∙ line_is_own head number text h.own h.lacks small in
-    λ i. record { stamp = stamp i; own = own i }
+    λ i. record { stamp = stamp i; marking = own i }
 
 -- ---- a report in work
 
@@ -56,7 +57,7 @@ going p last severity read = record {
 }
 
 abbrev stamped : Option ℕ → ℕ → ReportLine → ReportLogLine
-stamped stamp number line = record { stamp = stamp; own = Some (record { report = number; line = line }) }
+stamped stamp number line = record { stamp = stamp; marking = Own (record { report = number; line = line }) }
 
 goes_on : (p : Report) (last severity : ℕ) (read : ErrorsRead) (stamp : Option ℕ) (line : ReportLine) → is_start line ≡ false
     → own_taken (going p last severity read) p.number stamp line ≡ going p (unwrap_or stamp last) (severity_after severity line) (line_read read line)

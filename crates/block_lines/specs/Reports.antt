@@ -4,7 +4,8 @@ use Rattle.std.specs.Option.{option_map_or}
 use Rattle.bank_lines.specs.declared.log_line.TheConstants.{LAST_SECOND}
 use Rattle.block_lines.specs.Sources.{sources_with}
 use Rattle.block_lines.specs.declared.log_line.ReportLogLine.{ReportLogLine}
-use Rattle.block_lines.specs.declared.log_line.OwnLine.{OwnLine}
+use Rattle.block_lines.specs.declared.log_line.Marking.{Marking}
+use Rattle.block_lines.specs.declared.log_line.Marking.TheVariants.{Unmarked, Foreign, Own}
 use Rattle.block_lines.specs.declared.memory.MemoryError.{MemoryError}
 use Rattle.block_lines.specs.declared.memory.MemoryField.{MemoryField}
 use Rattle.block_lines.specs.declared.memory.MemoryField.TheVariants.{Physical, Mask, At, Kind}
@@ -107,9 +108,9 @@ is_start (lines.Start source) = true
 is_start line = false
 
 -- a line ends the report before it; among lines with the report's number only one that begins a report does
-abbrev pub is_ended_by : OpenReport → Option ℕ → Option OwnLine → Bool
-is_ended_by report stamp None = is_late report stamp
-is_ended_by report stamp (Some own) = not (own.report == report.number) || is_start own.line
+abbrev pub is_ended_by : OpenReport → Option ℕ → Marking → Bool
+is_ended_by report stamp (Own own) = not (own.report == report.number) || is_start own.line
+is_ended_by report stamp marking = is_late report stamp
 
 -- ---- what is printed about a line
 
@@ -172,9 +173,13 @@ abbrev pub own_taken : Reporting → ℕ → Option ℕ → ReportLine → Repor
 own_taken r number stamp (lines.Start source) = begun_at r number source stamp
 own_taken r number stamp line = gone_on r r.work stamp line
 
+-- after any line
+abbrev pub marking_taken : Reporting → Option ℕ → Marking → Reporting
+marking_taken r stamp (Own own) = own_taken r own.report stamp own.line
+marking_taken r stamp marking = r
+
 abbrev pub line_taken : Reporting → ReportLogLine → Reporting
-line_taken r line =
-    option_map_or (λ (own : OwnLine). own_taken r own.report line.stamp own.line) line.own r
+line_taken r line = marking_taken r line.stamp line.marking
 
 -- about a line that begins a report: without a time stamp it can't
 abbrev pub start_remark : Option ℕ → Remark
@@ -191,9 +196,14 @@ abbrev pub own_remark : Reporting → Option ℕ → ReportLine → Remark
 own_remark r stamp (lines.Start source) = start_remark stamp
 own_remark r stamp line = going_remark (length r.errors) r.work line
 
+-- about any line
+abbrev pub marking_remark : Reporting → Option ℕ → Marking → Remark
+marking_remark r stamp (Own own) = own_remark r stamp own.line
+marking_remark r stamp Foreign = remarks.Unread
+marking_remark r stamp Unmarked = remarks.Nothing
+
 abbrev pub line_remark : Reporting → ReportLogLine → Remark
-line_remark r line =
-    option_map_or (λ (own : OwnLine). own_remark r line.stamp own.line) line.own remarks.Nothing
+line_remark r line = marking_remark r line.stamp line.marking
 
 -- ---- the end of a report
 
@@ -212,7 +222,7 @@ after_report r (Some report) =
 
 -- whether a line ends the open report, if there is one
 abbrev pub is_end : Reporting → ReportLogLine → Bool
-is_end r line = option_map_or (λ report. is_ended_by report line.stamp line.own) r.work false
+is_end r line = option_map_or (λ report. is_ended_by report line.stamp line.marking) r.work false
 
 abbrev pub ended_at : Reporting → ReportLogLine → Reporting
 ended_at r line = if is_end r line then after_report r r.work else r

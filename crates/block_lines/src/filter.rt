@@ -19,8 +19,9 @@ use std::marker::Model;
 /// the kernel printed more than a tenth of a second later. If no line ends a report, the log may
 /// lack some of its lines, so the report becomes a comment after all lines instead of a block.
 /// Comments are also printed for sections about anything but memory, for every error of a report
-/// after its twelfth, for a report that is cut, and for each line that begins like a report's and
-/// is in no report. Only lines that the kernel itself printed count. No line is refused.
+/// after its twelfth, for a report that is cut, and for each line with a report's number and prefix
+/// that is in no report, or that the kernel itself didn't print. Only its own lines count. No line is
+/// refused.
 #[derive(Drop)]
 pub struct BlockFilter {
     reports: Reports,

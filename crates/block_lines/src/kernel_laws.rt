@@ -13,6 +13,7 @@ ghost use Rattle.block_lines.specs.Reports.{Reporting};
 ghost use Rattle.block_lines.specs.Lines.{report_line_of};
 ghost use Rattle.block_lines.specs.LogLines.{own_line_of};
 ghost use Rattle.block_lines.specs.Reading.{errors_read, texts_read};
+ghost use Rattle.block_lines.specs.declared.log_line.Marking.TheVariants.{Own};
 ghost use Rattle.block_lines.specs.declared.report.OpenSection.TheVariants.{Absent};
 ghost use Rattle.block_lines.specs.declared.report.TheConstants.{MOST_ERRORS};
 ghost use Rattle.block_lines.specs.declared.report_line.ReportLine.TheVariants.{Start, Event};
@@ -25,7 +26,7 @@ pub fn printed_texts_are_read()
     ensures line { (head : List ℕ) (number : ℕ) (text : List ℕ) → is_own head ≡ true
         → Lacks 123 head → number < 2 ^ 64
         → own_line_of (printed_line head number text)
-        ≡ Some (record { report = number; line = report_line_of text }) }
+        ≡ Own (record { report = number; line = report_line_of text }) }
     ensures start { (source : ℕ) → source < 2 ^ 16
         → report_line_of (start_text source) ≡ Start source }
     ensures event { (severity : ℕ) → severity < 4

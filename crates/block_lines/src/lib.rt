@@ -16,7 +16,9 @@ mod report_line;
 mod reports;
 mod sources;
 mod text;
+mod told_laws;
 
 pub use filter::BlockFilter;
 pub use kernel_laws::{printed_reports_are_read, printed_texts_are_read};
 pub use laws::{made_blocks_are_read_back, made_lines_are_read_back};
+pub use told_laws::{cut_reports_are_told, foreign_lines_are_told};

@@ -3,8 +3,8 @@
 ghost use Rattle.std.specs.Prelude.{◌≡◌};
 ghost use Rattle.std.specs.Option.{option_map};
 ghost use Rattle.bank_lines.specs.Parts.{value_after};
-ghost use Rattle.block_lines.specs.LogLines.{error_mark, report_log_line, own_after, own_line_of};
-ghost use Rattle.block_lines.specs.LogLines.{without_return};
+ghost use Rattle.block_lines.specs.LogLines.{error_mark, has_mark, marked_line_of, own_after};
+ghost use Rattle.block_lines.specs.LogLines.{own_line_of, report_log_line, without_return};
 
 use crate::report_line::{ReportLine, report_line};
 use bank_lines::{cut, is_own, log_stamp_of};
@@ -15,8 +15,19 @@ use ras_script::decimal;
 pub(crate) struct ReportLogLine {
     // When the line was printed, in microseconds since the boot, if the line says so.
     pub(crate) stamp: Option<u64>,
-    // The report's line, if the kernel itself printed it and it belongs to a firmware's report.
-    pub(crate) own: Option<OwnLine>,
+    // Whether it is a line of a firmware's report.
+    pub(crate) marking: Marking,
+}
+
+/// Whether a line is one of a firmware's report.
+#[derive(Clone, Copy, Debug, PartialEq, Eq)]
+pub(crate) enum Marking {
+    // It has no report's number before the prefix.
+    Unmarked,
+    // It has one, and the kernel itself didn't print it, as far as its head shows.
+    Foreign,
+    // The kernel itself printed it.
+    Own(OwnLine),
 }
 
 /// A line of a firmware's report: the report's number, and what the line says.
@@ -33,7 +44,7 @@ pub(crate) fn log_line(line: &[u8]) -> ReportLogLine
     let (head, _) = cut(b'{', line);
     ReportLogLine {
         stamp: log_stamp_of(head),
-        own: own_line(without_return(line)),
+        marking: own_line(without_return(line)),
     }
 }
 
@@ -47,24 +58,48 @@ fn without_return(line: &[u8]) -> &[u8]
     }
 }
 
-// Returns a report's line, which is split at its first brace.
-fn own_line(line: &[u8]) -> Option<OwnLine>
+// Returns what a line is, which is split at its first brace.
+fn own_line(line: &[u8]) -> Marking
     ensures { result ≡ own_line_of line.now }
 {
     let (head, rest) = cut(b'{', line);
     own_after(head, rest)
 }
 
-// Returns a report's line from its head and what follows the brace after the head.
-fn own_after(head: &[u8], text: &[u8]) -> Option<OwnLine>
+// Returns what a line is, from its head and what follows the brace after the head.
+fn own_after(head: &[u8], text: &[u8]) -> Marking
     ensures { result ≡ own_after head.now text.now }
+{
+    match marked_line(text) {
+        Some(line) if is_own(head) => Marking::Own(line),
+        Some(_) => Marking::Foreign,
+        None if has_mark(text) => Marking::Foreign,
+        None => Marking::Unmarked,
+    }
+}
+
+// Returns whether a report's number and the prefix follow one of a text's braces.
+#[tactic(auto, using(crate::proofs::MarkLemmas::mark_after, crate::proofs::MarkLemmas::after_shorter))]
+fn has_mark(text: &[u8]) -> bool
+    ensures { result ≡ has_mark text.now }
+{
+    let mut rest = text;
+    while !rest.is_empty() {
+        rest = cut(b'{', rest).1;
+        if marked_line(rest).is_some() {
+            return true;
+        }
+    }
+    false
+}
+
+// Returns what a line says, from what follows the brace before its number.
+fn marked_line(text: &[u8]) -> Option<OwnLine>
+    ensures { result ≡ marked_line_of text.now }
 {
     let (number, marked) = cut(b'}', text);
     let report = decimal(number, u64::MAX)?;
     let words = after_mark(marked)?;
-    if !is_own(head) {
-        return None;
-    }
     Some(OwnLine {
         report,
         line: report_line(words),

@@ -6,7 +6,7 @@ ghost use Rattle.block_lines.specs.Reports.{is_late, is_start, remark_in, report
 ghost use Rattle.block_lines.specs.Reports.{section_after, section_with, severity_after};
 ghost use Rattle.block_lines.specs.Reports.{type_remark, typed_section};
 
-use crate::log_line::{OwnLine, ReportLogLine};
+use crate::log_line::Marking;
 use crate::memory::{MemoryError, MemoryField};
 use crate::report_line::ReportLine;
 
@@ -84,12 +84,12 @@ impl OpenReport {
     }
 
     // Returns whether a line with this time stamp, of a report or not, ends the report.
-    pub(crate) fn is_ended_by(&self, stamp: Option<u64>, own: Option<OwnLine>) -> bool
-        ensures { result ≡ is_ended_by self.now stamp own }
+    pub(crate) fn is_ended_by(&self, stamp: Option<u64>, marking: Marking) -> bool
+        ensures { result ≡ is_ended_by self.now stamp marking }
     {
-        match own {
-            None => self.is_late(stamp),
-            Some(own) => own.report != self.number || is_start(own.line),
+        match marking {
+            Marking::Own(own) => own.report != self.number || is_start(own.line),
+            Marking::Unmarked | Marking::Foreign => self.is_late(stamp),
         }
     }
 

@@ -10,7 +10,7 @@ ghost use Rattle.block_lines.specs.Texts.{blocks_text_at, cut_report_line, end_t
 ghost use Rattle.block_lines.specs.Texts.{report_text, rest_text, table_text};
 
 use crate::blocks::push_block;
-use crate::log_line::ReportLogLine;
+use crate::log_line::{Marking, ReportLogLine};
 use crate::memory::MemoryError;
 use crate::report::{OpenReport, OpenSection, Remark};
 use crate::report_line::ReportLine;
@@ -96,7 +96,7 @@ impl Reports {
         ensures { result ≡ is_end self.now line.now }
     {
         match self.work {
-            Some(report) => report.is_ended_by(line.stamp, line.own),
+            Some(report) => report.is_ended_by(line.stamp, line.marking),
             None => false,
         }
     }
@@ -105,9 +105,10 @@ impl Reports {
     fn remark(&self, line: &ReportLogLine) -> Remark
         ensures { result ≡ line_remark self.now line.now }
     {
-        match line.own {
-            Some(own) => self.own_remark(line.stamp, own.line),
-            None => Remark::Nothing,
+        match line.marking {
+            Marking::Own(own) => self.own_remark(line.stamp, own.line),
+            Marking::Foreign => Remark::Unread,
+            Marking::Unmarked => Remark::Nothing,
         }
     }
 
@@ -135,9 +136,9 @@ impl Reports {
     fn take(&mut self, line: &ReportLogLine) -> Result<(), NoMemory>
         ensures { OnOk result (self.new ≡ line_taken self.old line.now) }
     {
-        match line.own {
-            Some(own) => self.take_own(own.report, line.stamp, own.line),
-            None => Ok(()),
+        match line.marking {
+            Marking::Own(own) => self.take_own(own.report, line.stamp, own.line),
+            Marking::Unmarked | Marking::Foreign => Ok(()),
         }
     }
 

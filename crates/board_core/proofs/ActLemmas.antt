@@ -1,5 +1,5 @@
 -- What acts list, and what they leave alone.
-use Rattle.std.proofs.Common.{◌≡◌, ◌∙◌, ◌⊎◌, ℕ, List, [], ◌∷◌, ◌++◌, length, refl, sym, ap, inl, inr, append_assoc, append-nil}
+use Rattle.std.proofs.Common.{◌≡◌, ◌∙◌, ◌⊎◌, ℕ, List, [], ◌∷◌, ◌++◌, length, Some, refl, sym, ap, inl, inr, append_assoc, append-nil}
 use Rattle.ras_base.specs.Prefix.{IsPrefixOf}
 use Rattle.board_core.specs.declared.board.Access.{Access}
 use Rattle.board_core.specs.declared.board.DiskCall.{DiskCall}
@@ -10,12 +10,13 @@ use Rattle.board_core.specs.Cause.{Kind}
 use Rattle.board_core.specs.Device.{KeepsDevice}
 use Rattle.board_core.specs.Stop.{Left}
 use Rattle.board_core.specs.Told.{Told, MayList, after_write, after_write_through, device_of, with_call, with_file}
-use Rattle.board_core.specs.Doing.{Act, AreOffDevice, AreOnDisk, DeviceCall, FailsAct, FailsActs, FailsDevice, IsOffDevice, IsOnDisk, Moment, TornAct, accesses_by, accesses_of, after_act, after_acts, after_device, calls, calls_of, device, disk_calls_by, prints, put, range_read, range_write, reg_read, reg_write, through}
+use Rattle.board_core.specs.Doing.{Act, AreOffDevice, AreOnDisk, DeviceCall, FailsAct, FailsActs, FailsDevice, IsOffDevice, IsOnDisk, Moment, Tears, accesses_by, accesses_of, after_act, after_acts, after_device, calls, calls_of, device, disk_calls_by, prints, put, range_read, range_write, reg_read, reg_write, through, writes}
 
 -- ---- the disk calls that are listed
 
 calls_by_act : (act : Act) (t : Told) → (after_act act t).disk_calls ≡ t.disk_calls ++ disk_calls_by act
 calls_by_act (through file place bytes) t = append_assoc t.disk_calls (WriteAt file place (length bytes) ∷ []) (Sync file ∷ [])
+calls_by_act (writes file place bytes) t = refl
 calls_by_act (prints bytes) t = sym (append-nil t.disk_calls)
 calls_by_act (calls call) t = refl
 calls_by_act (device (reg_read reg)) t = sym (append-nil t.disk_calls)
@@ -48,6 +49,8 @@ calls_by_failed (through file place bytes) old new (inr (inr is)) = record {
   listed = ap (λ (t : Told). t.disk_calls) is ∙ append_assoc old.disk_calls (WriteAt file place (length bytes) ∷ []) (Sync file ∷ []);
   begins = ([], refl);
 }
+calls_by_failed (writes file place bytes) old new (torn, is_torn, inl is) = none_listed _ old new (ap (λ (t : Told). t.disk_calls) is)
+calls_by_failed (writes file place bytes) old new (torn, is_torn, inr is) = record { made = WriteAt file place (length bytes) ∷ []; listed = ap (λ (t : Told). t.disk_calls) is; begins = ([], refl) }
 calls_by_failed (prints bytes) old new fails = none_listed _ old new (ap (λ (t : Told). t.disk_calls) fails.3)
 calls_by_failed (calls call) old new (inl is) = none_listed _ old new (ap (λ (t : Told). t.disk_calls) is)
 calls_by_failed (calls call) old new (inr is) = record { made = call ∷ []; listed = ap (λ (t : Told). t.disk_calls) is; begins = ([], refl) }
@@ -83,6 +86,8 @@ pub accesses_by_acts : (acts : List Act) (t : Told) → (after_acts acts t).acce
 accesses_by_acts [] t = sym (append-nil t.accesses)
 accesses_by_acts (through Zero place bytes ∷ acts) t = accesses_by_acts acts (after_write_through Zero place bytes t)
 accesses_by_acts (through One place bytes ∷ acts) t = accesses_by_acts acts (after_write_through One place bytes t)
+accesses_by_acts (writes Zero place bytes ∷ acts) t = accesses_by_acts acts (after_write Zero place bytes t)
+accesses_by_acts (writes One place bytes ∷ acts) t = accesses_by_acts acts (after_write One place bytes t)
 accesses_by_acts (prints bytes ∷ acts) t = accesses_by_acts acts (after_act (prints bytes) t)
 accesses_by_acts (calls call ∷ acts) t = accesses_by_acts acts (with_call call t)
 accesses_by_acts (device call ∷ acts) t =
@@ -119,6 +124,7 @@ write_device One place bytes t = record { store = refl; volatile = refl; accesse
 act_device : (act : Act) → IsOffDevice act → (t : Told) → KeepsDevice t (after_act act t)
 act_device (through Zero place bytes) off t = record { store = refl; volatile = refl; accesses = refl }
 act_device (through One place bytes) off t = record { store = refl; volatile = refl; accesses = refl }
+act_device (writes file place bytes) off t = write_device file place bytes t
 act_device (prints bytes) off t = record { store = refl; volatile = refl; accesses = refl }
 act_device (calls call) off t = record { store = refl; volatile = refl; accesses = refl }
 act_device (device call) off t = absurd off
@@ -130,6 +136,7 @@ acts_device (act ∷ acts) off t = device_then t (after_act act t) (after_acts a
 failed_device : (act : Act) → IsOffDevice act → (u v : Told) → FailsAct act u v → KeepsDevice u v
 failed_device (through file place bytes) off u v (inl fails) = device_then u (with_file file fails.0 u) v (file_device file fails.0 u) (listed_device (WriteAt file place (length bytes)) (with_file file fails.0 u) v fails.2)
 failed_device (through file place bytes) off u v (inr listed) = device_then u (after_write file place bytes u) v (write_device file place bytes u) (listed_device (Sync file) (after_write file place bytes u) v listed)
+failed_device (writes file place bytes) off u v fails = device_then u (with_file file fails.0 u) v (file_device file fails.0 u) (listed_device (WriteAt file place (length bytes)) (with_file file fails.0 u) v fails.2)
 failed_device (prints bytes) off u v fails = rw fails.3 (record { store = refl; volatile = refl; accesses = refl })
 failed_device (calls call) off u v listed = listed_device call u v listed
 failed_device (device call) off u v fails = absurd off
@@ -139,9 +146,11 @@ fails_device kind [] off u v never = absurd never
 fails_device kind (act ∷ acts) off u v (inl now) = failed_device act off.0 u v now.1
 fails_device kind (act ∷ acts) off u v (inr later) = device_then u (after_act act u) v (act_device act off.0 u) (fails_device kind acts off.1 (after_act act u) v later)
 
-torn_device : (act : Act) → IsOffDevice act → (t : Told) (left : Left) → TornAct act t left → left.store ≡ t.here.store
+torn_device : (act : Act) → IsOffDevice act → (t : Told) (left : Left) → Tears act (Some t) t.here left → left.store ≡ t.here.store
 torn_device (through Zero place bytes) off t left torn = ap (λ (l : Left). l.store) torn.rest
 torn_device (through One place bytes) off t left torn = ap (λ (l : Left). l.store) torn.rest
+torn_device (writes Zero place bytes) off t left torn = ap (λ (l : Left). l.store) torn.rest
+torn_device (writes One place bytes) off t left torn = ap (λ (l : Left). l.store) torn.rest
 torn_device (prints bytes) off t left torn = ap (λ (l : Left). l.store) torn.rest
 torn_device (calls call) off t left is = ap (λ (l : Left). l.store) is
 torn_device (device call) off t left torn = absurd off
@@ -156,6 +165,7 @@ moment_store (act ∷ acts) off t left (inr later) = moment_store acts off.1 (af
 
 disk_off : (act : Act) → IsOnDisk act → IsOffDevice act
 disk_off (through file place bytes) on = tt
+disk_off (writes file place bytes) on = tt
 disk_off (prints bytes) on = absurd on
 disk_off (calls call) on = tt
 disk_off (device call) on = absurd on
@@ -164,9 +174,11 @@ pub on_disk_off : (acts : List Act) → AreOnDisk acts → AreOffDevice acts
 on_disk_off [] on = tt
 on_disk_off (act ∷ acts) on = (disk_off act on.0, on_disk_off acts on.1)
 
-torn_out : (act : Act) → IsOnDisk act → (t : Told) (left : Left) → TornAct act t left → left.out ≡ t.here.out
+torn_out : (act : Act) → IsOnDisk act → (t : Told) (left : Left) → Tears act (Some t) t.here left → left.out ≡ t.here.out
 torn_out (through Zero place bytes) on t left torn = ap (λ (l : Left). l.out) torn.rest
 torn_out (through One place bytes) on t left torn = ap (λ (l : Left). l.out) torn.rest
+torn_out (writes Zero place bytes) on t left torn = ap (λ (l : Left). l.out) torn.rest
+torn_out (writes One place bytes) on t left torn = ap (λ (l : Left). l.out) torn.rest
 torn_out (prints bytes) on t left torn = absurd on
 torn_out (calls call) on t left is = ap (λ (l : Left). l.out) is
 torn_out (device call) on t left torn = absurd on
@@ -174,6 +186,8 @@ torn_out (device call) on t left torn = absurd on
 act_out : (act : Act) → IsOnDisk act → (t : Told) → (after_act act t).here.out ≡ t.here.out
 act_out (through Zero place bytes) on t = refl
 act_out (through One place bytes) on t = refl
+act_out (writes Zero place bytes) on t = refl
+act_out (writes One place bytes) on t = refl
 act_out (prints bytes) on t = absurd on
 act_out (calls call) on t = refl
 act_out (device call) on t = absurd on

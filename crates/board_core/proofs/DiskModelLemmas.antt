@@ -3,12 +3,13 @@ use Rattle.std.proofs.Common.{◌≡◌, ℕ, ◌+◌, ◌≤◌, ◌⊎◌, max
 use Rattle.erst_store.specs.Store.{Stored}
 use Rattle.board_core.specs.declared.board.FileNo.{FileNo}
 use Rattle.board_core.specs.declared.board.FileNo.TheVariants.{Zero, One}
+use Rattle.board_core.specs.Doing.{Act, DeviceCall, Seen, after_device, device, prints as prints_act}
 use Rattle.board_core.specs.CallsMade.{IsMade, AreMade, KeepsDisk, range_in, ranges_in}
 use Rattle.board_core.specs.Clock.{Clock, LeftNow, After, Passes, IsSynced}
 use Rattle.board_core.specs.Steps.DiskLemmas.{torn_more, settled_left, begins_none, nothing_begins, outside_front, greatest_length-more}
 use Rattle.board_core.specs.DiskModel.{Range, greatest_length, DiskFile, Disk, MayLeave, MayLeaveFile, MayLeaveSince, Call, writes, syncs, stores, prints, rests, after, after_all}
-use Rattle.board_core.specs.MemBoard.{Past, Change, acted, printed, with_change, DeviceChange, device_step, device_in, call_of, calls_of, settled_disk, clock_of, disk_of, held_of}
-use Rattle.board_core.specs.Steps.ChangeLemmas.{here_left, calls_of-more}
+use Rattle.board_core.specs.MemBoard.{Past, with_act, steps_of, steps_of_all, settled_disk, clock_of, disk_of, now_of}
+use Rattle.board_core.specs.Steps.ChangeLemmas.{here_left, steps_of_all-more}
 use Rattle.board_core.specs.Steps.MomentLemmas.{becomes_same, call_more, last_counts}
 use Rattle.board_core.specs.Stop.{Left, Same, Becomes, Begins, Appends, InFile, InStore, InOut, file_in}
 use Rattle.board_core.specs.Told.{Torn}
@@ -99,30 +100,30 @@ first_counts : (disk : Disk) (calls : List Call) (left : Left) → MayLeave disk
 first_counts disk [] left may = may
 first_counts disk (call ∷ calls) left may = inl (call_more disk call left may)
 
-module _ {B : Type 0} (clock : B → Clock) where
-  pub after_calls : (calls : List Call) (disk : Disk) (first last : B) → KeepsDisk disk (clock first) → AreMade clock calls first last → KeepsDisk (after_all calls disk) (clock last)
-  after_calls [] disk first last keeps made = subst (λ (b : B). KeepsDisk disk (clock b)) (sym made) keeps
+module _ {B : Type 0} (see : B → Seen) where
+  pub after_calls : (calls : List Call) (disk : Disk) (first last : B) → KeepsDisk disk (see first).clock → AreMade see calls first last → KeepsDisk (after_all calls disk) (see last).clock
+  after_calls [] disk first last keeps made = subst (λ (b : B). KeepsDisk disk (see b).clock) (sym made) keeps
   after_calls (call ∷ calls) disk first last keeps made =
-      after_calls calls (after call disk) made.0 last (after_call call disk (clock first) (clock made.0) keeps made.1) made.2
+      after_calls calls (after call disk) made.0 last (after_call call disk (see first).clock (see made.0).clock keeps made.1) made.2
 
-  during_calls : (calls : List Call) (disk : Disk) (first last : B) (t : ℕ) (left : Left) → KeepsDisk disk (clock first) → AreMade clock calls first last → t ≤ (clock first).now → (clock last).may_leave_since t left
-      → (clock first).may_leave_since t left ⊎ MayLeaveSince disk calls 0 left
-  during_calls [] disk first last t left keeps made within since = inl (subst (λ (b : B). (clock b).may_leave_since t left) made since)
+  during_calls : (calls : List Call) (disk : Disk) (first last : B) (t : ℕ) (left : Left) → KeepsDisk disk (see first).clock → AreMade see calls first last → t ≤ (see first).clock.now → (see last).clock.may_leave_since t left
+      → (see first).clock.may_leave_since t left ⊎ MayLeaveSince disk calls 0 left
+  during_calls [] disk first last t left keeps made within since = inl (subst (λ (b : B). (see b).clock.may_leave_since t left) made since)
   during_calls (call ∷ calls) disk first last t left keeps made within since =
-      let later : (clock first).now ≤ (clock made.0).now = call_later call (clock first) (clock made.0) made.1 in
-      let rest : (clock made.0).may_leave_since t left ⊎ MayLeaveSince (after call disk) calls 0 left =
-      during_calls calls (after call disk) made.0 last t left (after_call call disk (clock first) (clock made.0) keeps made.1) made.2 (omega arith) since in
+      let later : (see first).clock.now ≤ (see made.0).clock.now = call_later call (see first).clock (see made.0).clock made.1 in
+      let rest : (see made.0).clock.may_leave_since t left ⊎ MayLeaveSince (after call disk) calls 0 left =
+      during_calls calls (after call disk) made.0 last t left (after_call call disk (see first).clock (see made.0).clock keeps made.1) made.2 (omega arith) since in
       elim rest [
-        | inl before ↦ elim (during_call call disk (clock first) (clock made.0) t left keeps made.1 within before) [
+        | inl before ↦ elim (during_call call disk (see first).clock (see made.0).clock t left keeps made.1 within before) [
           | inl at_first ↦ inl at_first
           | inr last_call ↦ inr (elim last_call [ inl during ↦ inl during | inr behind ↦ inr (first_counts (after call disk) calls left behind) ])
         ]
         | inr later_calls ↦ inr (inr later_calls)
       ]
 
-  pub since_calls : (calls : List Call) (disk : Disk) (first last : B) (left : Left) → KeepsDisk disk (clock first) → AreMade clock calls first last → (clock last).may_leave_since (clock first).now left → MayLeaveSince disk calls 0 left
+  pub since_calls : (calls : List Call) (disk : Disk) (first last : B) (left : Left) → KeepsDisk disk (see first).clock → AreMade see calls first last → (see last).clock.may_leave_since (see first).clock.now left → MayLeaveSince disk calls 0 left
   since_calls calls disk first last left keeps made since =
-      elim (during_calls calls disk first last (clock first).now left keeps made (omega arith) since) [
+      elim (during_calls calls disk first last (see first).clock.now left keeps made (omega arith) since) [
         | inl before ↦ first_counts disk calls left (keeps left before)
         | inr during ↦ during
       ]
@@ -177,28 +178,28 @@ after_file : (file : FileNo) (call : Call) (synced : List ℕ) (ranges : List Ra
     → (left : Left) → After old (step_of call) left → MayLeaveFile (file_with synced (ranges ++ range_in file call)) (file_in file left)
 after_file file call synced ranges old keeps left after = file_step file call synced ranges after.from left after.by (keeps after.from after.was)
 
-module _ {B : Type 0} (clock : B → Clock) (file : FileNo) where
-  file_during : (calls : List Call) (synced : List ℕ) (ranges : List Range) (first last : B) (t : ℕ) (left : Left) → ((old : Left) → LeftNow (clock first) old → MayLeaveFile (file_with synced ranges) (file_in file old))
-      → AreMade clock calls first last → t ≤ (clock first).now → (clock last).may_leave_since t left
-      → (clock first).may_leave_since t left ⊎ MayLeaveFile (file_with synced (ranges ++ ranges_in file calls)) (file_in file left)
-  file_during [] synced ranges first last t left keeps made within since = inl (subst (λ (b : B). (clock b).may_leave_since t left) made since)
+module _ {B : Type 0} (see : B → Seen) (file : FileNo) where
+  file_during : (calls : List Call) (synced : List ℕ) (ranges : List Range) (first last : B) (t : ℕ) (left : Left) → ((old : Left) → LeftNow (see first).clock old → MayLeaveFile (file_with synced ranges) (file_in file old))
+      → AreMade see calls first last → t ≤ (see first).clock.now → (see last).clock.may_leave_since t left
+      → (see first).clock.may_leave_since t left ⊎ MayLeaveFile (file_with synced (ranges ++ ranges_in file calls)) (file_in file left)
+  file_during [] synced ranges first last t left keeps made within since = inl (subst (λ (b : B). (see b).clock.may_leave_since t left) made since)
   file_during (call ∷ calls) synced ranges first last t left keeps made within since =
-      let passes : Passes (step_of call) (clock first) (clock made.0) = passes_made call (clock first) (clock made.0) made.1 in
-      let later : (clock first).now ≤ (clock made.0).now = passes.later in
-      let rest : (clock made.0).may_leave_since t left ⊎ MayLeaveFile (file_with synced (ranges ++ range_in file call ++ ranges_in file calls)) (file_in file left) =
-      file_during calls synced (ranges ++ range_in file call) made.0 last t left (λ old now. after_file file call synced ranges (clock first) keeps old (passes.ends old now)) made.2 (omega arith) since in
+      let passes : Passes (step_of call) (see first).clock (see made.0).clock = passes_made call (see first).clock (see made.0).clock made.1 in
+      let later : (see first).clock.now ≤ (see made.0).clock.now = passes.later in
+      let rest : (see made.0).clock.may_leave_since t left ⊎ MayLeaveFile (file_with synced (ranges ++ range_in file call ++ ranges_in file calls)) (file_in file left) =
+      file_during calls synced (ranges ++ range_in file call) made.0 last t left (λ old now. after_file file call synced ranges (see first).clock keeps old (passes.ends old now)) made.2 (omega arith) since in
       elim rest [
         | inl before ↦ elim (passes.each t left within before) [
           | inl at_first ↦ inl at_first
-          | inr during ↦ inr (rw append_assoc at (ranges_more (ranges_in file calls) synced (ranges ++ range_in file call) (file_in file left) (after_file file call synced ranges (clock first) keeps left during)))
+          | inr during ↦ inr (rw append_assoc at (ranges_more (ranges_in file calls) synced (ranges ++ range_in file call) (file_in file left) (after_file file call synced ranges (see first).clock keeps left during)))
         ]
         | inr behind ↦ inr (rw append_assoc at behind)
       ]
 
-  pub file_calls : (bytes : List ℕ) (calls : List Call) (first last : B) → IsSynced file bytes (clock first) → AreMade clock calls first last
-      → (left : Left) → (clock last).may_leave_since (clock first).now left → MayLeaveFile (file_with bytes (ranges_in file calls)) (file_in file left)
+  pub file_calls : (bytes : List ℕ) (calls : List Call) (first last : B) → IsSynced file bytes (see first).clock → AreMade see calls first last
+      → (left : Left) → (see last).clock.may_leave_since (see first).clock.now left → MayLeaveFile (file_with bytes (ranges_in file calls)) (file_in file left)
   file_calls bytes calls first last synced made left since =
-      elim (file_during calls bytes [] first last (clock first).now left (λ old now. rw (synced old now) (settled_left bytes)) made (omega arith) since) [
+      elim (file_during calls bytes [] first last (see first).clock.now left (λ old now. rw (synced old now) (settled_left bytes)) made (omega arith) since) [
         | inl before ↦ ranges_more (ranges_in file calls) bytes [] (file_in file left) (rw (synced left before) (settled_left bytes))
         | inr during ↦ during
       ]
@@ -206,29 +207,29 @@ module _ {B : Type 0} (clock : B → Clock) (file : FileNo) where
 -- a board in memory that prints, and one whose device acts
 
 module _ (past : Past) where
-  last_call : (change : Change) (left : Left) → MayLeave (disk_of past) (call_of change (held_of past)) left → (clock_of (with_change change past)).may_leave_since (clock_of past).now left
-  last_call change left may =
-      rw (calls_of-more past.changes change past.first)
-      (last_counts (settled_disk past.first.here) (calls_of past.changes past.first) (call_of change (held_of past)) left may)
+  last_call : (act : Act) (call : Call) (left : Left) → steps_of act (now_of past) ≡ call ∷ [] → MayLeave (disk_of past) call left → (clock_of (with_act act past)).may_leave_since (clock_of past).now left
+  last_call act call left is may =
+      rw (steps_of_all-more past.acts act past.first, is)
+      (last_counts (settled_disk past.first.here) (steps_of_all past.acts past.first) call left may)
 
-  pub while_printing : (part missing : List ℕ) → (clock_of (with_change (printed (part ++ missing)) past)).may_leave_since (clock_of past).now (record (held_of past).here { out = (held_of past).here.out ++ part })
+  pub while_printing : (part missing : List ℕ) → (clock_of (with_act (prints_act (part ++ missing)) past)).may_leave_since (clock_of past).now (record (now_of past).here { out = (now_of past).here.out ++ part })
   while_printing part missing =
-      let may : MayLeave (disk_of past) rests (held_of past).here = here_left past in
-      last_call (printed (part ++ missing)) (record (held_of past).here { out = (held_of past).here.out ++ part }) (record {
+      let may : MayLeave (disk_of past) rests (now_of past).here = here_left past in
+      last_call (prints_act (part ++ missing)) (prints (part ++ missing) (part ++ missing)) (record (now_of past).here { out = (now_of past).here.out ++ part }) refl (record {
         zero = may.zero;
         one = may.one;
         store = may.store;
-        out = record { part = part; missing = missing; splits = refl; is = ap (λ xs. xs ++ part) (begins_none (disk_of past).out (held_of past).here.out may.out) };
+        out = record { part = part; missing = missing; splits = refl; is = ap (λ xs. xs ++ part) (begins_none (disk_of past).out (now_of past).here.out may.out) };
       })
 
-  pub while_acting : (change : DeviceChange) (store : List Stored) → Becomes (device_step change (device_in (held_of past))).store (held_of past).here.store store
-      → (clock_of (with_change (acted change) past)).may_leave_since (clock_of past).now (record (held_of past).here { store = store })
-  while_acting change store becomes =
-      let may : MayLeave (disk_of past) rests (held_of past).here = here_left past in
-      let kept : (held_of past).here.store ≡ (disk_of past).store = becomes_same (disk_of past).store (held_of past).here.store may.store in
-      last_call (acted change) (record (held_of past).here { store = store }) (record {
+  pub while_acting : (call : DeviceCall) (store : List Stored) → Becomes (after_device call (now_of past)).here.store (now_of past).here.store store
+      → (clock_of (with_act (device call) past)).may_leave_since (clock_of past).now (record (now_of past).here { store = store })
+  while_acting call store becomes =
+      let may : MayLeave (disk_of past) rests (now_of past).here = here_left past in
+      let kept : (now_of past).here.store ≡ (disk_of past).store = becomes_same (disk_of past).store (now_of past).here.store may.store in
+      last_call (device call) (stores (after_device call (now_of past)).here.store (after_device call (now_of past)).here.store) (record (now_of past).here { store = store }) refl (record {
         zero = may.zero;
         one = may.one;
-        store = subst (λ (records : List Stored). Becomes (device_step change (device_in (held_of past))).store records store) kept becomes;
+        store = subst (λ (records : List Stored). Becomes (after_device call (now_of past)).here.store records store) kept becomes;
         out = may.out;
       })

@@ -1,17 +1,16 @@
 -- Acts one after another, and what calls that do them come to.
-use Rattle.std.proofs.Common.{ℕ, ◌≤◌, ◌≡◌, ◌∙◌, List, [], ◌∷◌, ◌++◌, Option, None, Some, Result, Ok, Err, OnOk, OnErr, refl, sym, ap, subst, inl, inr, ◌⊎◌}
+use Rattle.std.proofs.Common.{ℕ, ◌≤◌, ◌≡◌, ◌∙◌, List, [], ◌∷◌, ◌++◌, Option, None, Some, Result, Ok, Err, refl, sym, ap, subst, inl, inr, ◌⊎◌}
 use Rattle.std.specs.Option.{option_map}
 use Rattle.erst_store.specs.Device.{Device}
 use Rattle.erst_store.specs.Store.{Stored}
 use Rattle.board_core.specs.declared.board.BoardPut.{BoardPut}
 use Rattle.board_core.specs.declared.board.BoardPut.TheVariants.{Refused, Failed}
-use Rattle.board_core.specs.declared.board.DiskCall.{DiskCall}
 use Rattle.board_core.specs.Cause.{Faults, FailsAs, Kind, disk_call, device_call, print_call, count_of, put_failure, with_count}
-use Rattle.board_core.specs.Clock.{After, Clock, Adds, LeftNow, Passes, PassesAtRefusal, Rests, StoreIsLeft}
-use Rattle.board_core.specs.Steps.ClockLemmas.{adds_at_rest, adds_both, adds_none, adds_weaker, rests_listed, rests_on, rests_store, rests_stored}
+use Rattle.board_core.specs.Clock.{After, Clock, Adds, LeftNow, Passes, Rests, StoreIsLeft}
+use Rattle.board_core.specs.Steps.ClockLemmas.{adds_at_rest, adds_both, adds_none, adds_weaker, rests_listed, rests_on, rests_printed, rests_store, rests_stored}
 use Rattle.board_core.specs.Stop.{Becomes, InStore, Left, Same}
-use Rattle.board_core.specs.Told.{Told, KeepsAtRefusal, MayAct, MayList, Relates, Steps, StoreBy, after_put, device_of, on_device, with_call}
-use Rattle.board_core.specs.Doing.{Act, DeviceCall, Does, Ended, FailsAct, FailsActs, FailsDevice, GoesWell, IsBad, IsMade, Moment, Raises, Seen, TornAct, TornDevice, after_act, after_acts, after_device, broke, calls, device, gave_up, kind_of, one_end, put, put_acts, went_well}
+use Rattle.board_core.specs.Told.{Told, Relates, Steps, StoreBy, after_put, after_reg_write, device_of}
+use Rattle.board_core.specs.Doing.{Act, DeviceCall, Does, Ended, FailsAct, FailsActs, GoesWell, IsBad, IsMade, ActMade, Moment, PutMade, Raises, Seen, ActSettles, Tears, after_act, after_acts, after_device, broke, calls, device, gave_up, kind_of, one_end, prints, put, put_acts, range_read, range_write, reg_read, reg_write, through, went_well, writes}
 
 -- ---- lists of acts
 
@@ -127,7 +126,13 @@ does_stops see acts gave_up a b does t rests = subst (λ x. Adds (Moment acts t)
 
 -- ---- one act
 
-same_count : (kind : Kind) (faults : Faults) → with_count kind (count_of kind faults) faults ≡ faults
+-- One call, after which a crash leaves what the model says if a crash before did: any but a write without its sync.
+abbrev pub IsSafe : Act → Type 0
+IsSafe (through file place bytes) = ⊥
+IsSafe (writes file place bytes) = ⊥
+IsSafe act = Unit {0}
+
+pub same_count : (kind : Kind) (faults : Faults) → with_count kind (count_of kind faults) faults ≡ faults
 same_count disk_call faults = refl
 same_count device_call faults = refl
 same_count print_call faults = refl
@@ -143,93 +148,73 @@ one_fails act None b f = f
 one_fails act (Some t) None f = f
 one_fails act (Some t) (Some u) f = inl (refl, f)
 
-stops_one : {X : Type 0} (see : X → Seen) (act : Act) (a b : X) → ((t : Told) → Rests t (see a).told (see a).clock → Adds (TornAct act t) (see a).clock (see b).clock)
+stops_one : {X : Type 0} (see : X → Seen) (act : Act) (a b : X) → Passes (Tears act (see a).told) (see a).clock (see b).clock
     → (t : Told) → Rests t (see a).told (see a).clock → Adds (Moment (act ∷ []) t) (see a).clock (see b).clock
-stops_one see act a b stops t at_rest = adds_weaker (TornAct act t) (Moment (act ∷ []) t) (see a).clock (see b).clock (stops t at_rest) (λ left torn. inl torn)
+stops_one see act a b passes t rests = adds_at_rest (Tears act (see a).told) (Moment (act ∷ []) t) t (see a).told (see a).clock (see b).clock rests passes
+    (λ left torn. inl (subst (λ (o : Option Told). Tears act o t.here left) rests.is torn))
 
-pub does_act : {X T E : Type 0} (see : X → Seen) (act : Act) (result : Result T E) (a b : X) → OnOk result (Steps (after_act act) (see a).told (see b).told) → OnErr result (Relates (FailsAct act) (see a).told (see b).told)
-    → ((t : Told) → Rests t (see a).told (see a).clock → Adds (TornAct act t) (see a).clock (see b).clock)
-    → OnOk result ((t : Told) → Rests t (see a).told (see a).clock → Rests (after_act act t) (see b).told (see b).clock) → FailsAs (kind_of act) (see a).faults (see b).faults result
-    → Does see (act ∷ []) (one_end (kind_of act) result) a b
-does_act see act (Ok x) a b told failed stops rests cause = record {
-  told = told;
-  stops = stops_one see act a b stops;
-  rests = rests;
-  faults = well_faults (kind_of act) (see a).faults (see b).faults cause;
-}
-does_act see act (Err e) a b told failed stops rests cause = record {
-  told = one_fails act (see a).told (see b).told failed;
-  stops = stops_one see act a b stops;
-  faults = broke_faults (kind_of act) (see a).faults (see b).faults cause;
-}
+-- a call of the device that left the store as it was
+rests_still : (call : DeviceCall) (t : Told) (a b : Seen) → (after_device call t).here ≡ t.here → Steps (after_device call) a.told b.told → Passes Same a.clock b.clock
+    → Rests t a.told a.clock → Rests (after_device call t) b.told b.clock
+rests_still call t a b still steps passes rests =
+    rests_on (after_device call) Same t a.told b.told a.clock b.clock rests steps passes.ends (λ left is. is ∙ sym still)
 
-on_ok : {T E : Type 0} {P Q : Type 0} (result : Result T E) → OnOk result P → (P → Q) → OnOk result Q
-on_ok (Ok x) holds f = f holds
-on_ok (Err e) holds f = tt
-
-on_both : {T E : Type 0} {P Q R : Type 0} (result : Result T E) → OnOk result P → OnOk result Q → (P → Q → R) → OnOk result R
-on_both (Ok x) one other f = f one other
-on_both (Err e) one other f = tt
-
--- a disk call that writes nothing
-pub does_call : {X T E : Type 0} (see : X → Seen) (call : DiskCall) (result : Result T E) (a b : X) → OnOk result (Steps (with_call call) (see a).told (see b).told)
-    → OnErr result (Relates (MayList call) (see a).told (see b).told) → Passes Same (see a).clock (see b).clock → FailsAs disk_call (see a).faults (see b).faults result
-    → Does see (calls call ∷ []) (one_end disk_call result) a b
-does_call see call result a b told failed passes cause =
-    does_act see (calls call) result a b told failed
-    (λ t rests. adds_at_rest Same (Same t.here) t (see a).told (see a).clock (see b).clock rests passes (λ left is. is))
-    (on_ok result told (λ steps t rests. rests_listed call t (see a).told (see b).told (see a).clock (see b).clock rests steps passes)) cause
-
--- ---- a call of the device
-
--- one that leaves the store as it is: an access that only reads, and one that writes to the range
-pub does_access : {X T E : Type 0} (see : X → Seen) (call : DeviceCall) (result : Result T E) (a b : X) → ((t : Told) → (after_device call t).here ≡ t.here) → ((t : Told) (left : Left) → Same t.here left → TornDevice call t left)
-    → OnOk result (Steps (after_device call) (see a).told (see b).told) → OnErr result (Relates (FailsDevice call) (see a).told (see b).told) → Passes Same (see a).clock (see b).clock
-    → FailsAs device_call (see a).faults (see b).faults result → Does see (device call ∷ []) (one_end device_call result) a b
-does_access see call result a b still same told failed passes cause =
-    does_act see (device call) result a b told failed
-    (λ t rests. adds_at_rest Same (TornDevice call t) t (see a).told (see a).clock (see b).clock rests passes (same t))
-    (on_ok result told (λ steps t rests. rests_on (after_device call) Same t (see a).told (see b).told (see a).clock (see b).clock rests steps passes.ends (λ left is. is ∙ sym (still t)))) cause
-
--- one that may change the store, of which a stop leaves what is told, if one before did
-pub does_store : {X T E : Type 0} (see : X → Seen) (call : DeviceCall) (step : Device → Device) (result : Result T E) (a b : X)
-    → ((t : Told) → (after_device call t).here ≡ record t.here { store = (step (device_of t)).store }) → ((t : Told) (left : Left) → InStore (Becomes (step (device_of t)).store) t.here left → TornDevice call t left)
-    → OnOk result (Steps (after_device call) (see a).told (see b).told) → OnErr result (Relates (FailsDevice call) (see a).told (see b).told) → Passes (InStore (StoreBy step (see a).told)) (see a).clock (see b).clock
-    → FailsAs device_call (see a).faults (see b).faults result → OnOk result (StoreIsLeft (see a).told (see a).clock → StoreIsLeft (see b).told (see b).clock)
-    → Does see (device call ∷ []) (one_end device_call result) a b
-does_store see call step result a b frame torn told failed passes cause stored =
-    does_act see (device call) result a b told failed
-    (λ t rests. adds_at_rest (InStore (Becomes (step (device_of t)).store)) (TornDevice call t) t (see a).told (see a).clock (see b).clock rests (told_passes t rests) (torn t))
-    (on_both result told stored (λ steps goes t rests.
-    (let there : (see b).told ≡ Some (after_device call t) = steps ∙ ap (option_map (after_device call)) rests.is in
-    rests_stored (Becomes (step (device_of t)).store) t (after_device call t) (see a).told (see b).told (see a).clock (see b).clock rests there (told_passes t rests)
-    (goes (rests_store t (see a).told (see a).clock rests) (after_device call t) there)
-    (frame t ∙ ap (λ (records : List Stored). record t.here { store = records }) (ap (λ (l : Left). l.store) (sym (frame t))))))) cause
+-- one that may have changed it, if a crash then leaves what the model has
+rests_changed : (call : DeviceCall) (step : Device → Device) (t : Told) (a b : Seen) → (after_device call t).here ≡ record t.here { store = (step (device_of t)).store }
+    → Steps (after_device call) a.told b.told → Passes (InStore (StoreBy step a.told)) a.clock b.clock → (StoreIsLeft a.told a.clock → StoreIsLeft b.told b.clock)
+    → Rests t a.told a.clock → Rests (after_device call t) b.told b.clock
+rests_changed call step t a b frame steps passes stored rests =
+    rests_stored (Becomes (step (device_of t)).store) t (after_device call t) a.told b.told a.clock b.clock rests there
+    (subst (λ (o : Option Told). Passes (InStore (StoreBy step o)) a.clock b.clock) rests.is passes)
+    (stored (rests_store t a.told a.clock rests) (after_device call t) there)
+    (frame ∙ ap (λ (records : List Stored). record t.here { store = records }) (ap (λ (l : Left). l.store) (sym frame)))
   where
-    told_passes : (t : Told) → Rests t (see a).told (see a).clock → Passes (InStore (Becomes (step (device_of t)).store)) (see a).clock (see b).clock
-    told_passes t rests = subst (λ (o : Option Told). Passes (InStore (StoreBy step o)) (see a).clock (see b).clock) rests.is passes
+    there : b.told ≡ Some (after_device call t)
+    there = steps ∙ ap (option_map (after_device call)) rests.is
+
+-- If a crash before would have left what the model says, so does one after an act that is done.
+rests_one : (act : Act) → IsSafe act → (t : Told) (a b : Seen) → Steps (after_act act) a.told b.told → Passes (Tears act a.told) a.clock b.clock → ActSettles act a b
+    → Rests t a.told a.clock → Rests (after_act act t) b.told b.clock
+rests_one (through file place bytes) safe t a b steps passes settles rests = absurd safe
+rests_one (writes file place bytes) safe t a b steps passes settles rests = absurd safe
+rests_one (prints bytes) safe t a b steps passes settles rests = rests_printed bytes t a.told b.told a.clock b.clock rests steps settles
+rests_one (calls call) safe t a b steps passes settles rests = rests_listed call t a.told b.told a.clock b.clock rests steps passes
+rests_one (device (reg_read reg)) safe t a b steps passes settles rests = rests_still (reg_read reg) t a b refl steps passes rests
+rests_one (device (reg_write reg value)) safe t a b steps passes settles rests = rests_changed (reg_write reg value) (after_reg_write reg value) t a b refl steps passes settles rests
+rests_one (device (range_read place count)) safe t a b steps passes settles rests = rests_still (range_read place count) t a b refl steps passes rests
+rests_one (device (range_write place bytes)) safe t a b steps passes settles rests = rests_still (range_write place bytes) t a b refl steps passes rests
+rests_one (device (put id bytes)) safe t a b steps passes settles rests = rests_changed (put id bytes) (after_put id bytes) t a b refl steps passes settles rests
+
+-- a call of a board, as an act
+pub does_made : {X T E : Type 0} (see : X → Seen) (act : Act) (result : Result T E) (a b : X) → IsSafe act → ActMade act result (see a) (see b) → Does see (act ∷ []) (one_end (kind_of act) result) a b
+does_made see act (Ok x) a b safe made = record {
+  told = made.told;
+  stops = stops_one see act a b made.stops;
+  rests = λ t rests. rests_one act safe t (see a) (see b) made.told made.stops made.settles rests;
+  faults = well_faults (kind_of act) (see a).faults (see b).faults made.cause;
+}
+does_made see act (Err e) a b safe made = record {
+  told = one_fails act (see a).told (see b).told made.failed;
+  stops = stops_one see act a b made.stops;
+  faults = broke_faults (kind_of act) (see a).faults (see b).faults made.cause;
+}
 
 -- a put, which is refused, or fails, or puts the record
-pub does_put : {X : Type 0} (see : X → Seen) (id : ℕ) (bytes : List ℕ) (result : Result (Unit {0}) BoardPut) (a b : X) → OnOk result (Steps (on_device (after_put id bytes)) (see a).told (see b).told)
-    → KeepsAtRefusal result (see a).told (see b).told → OnErr result (Relates (MayAct (after_put id bytes)) (see a).told (see b).told) → Passes (InStore (StoreBy (after_put id bytes) (see a).told)) (see a).clock (see b).clock
-    → PassesAtRefusal result (see a).clock (see b).clock → FailsAs device_call (see a).faults (see b).faults (put_failure result)
-    → OnOk result (StoreIsLeft (see a).told (see a).clock → StoreIsLeft (see b).told (see b).clock)
+pub does_put : {X : Type 0} (see : X → Seen) (id : ℕ) (bytes : List ℕ) (result : Result (Unit {0}) BoardPut) (a b : X) → PutMade id bytes result (see a) (see b)
     → ((s t : ℕ) (left : Left) → s ≤ t → (see a).clock.may_leave_since t left → (see a).clock.may_leave_since s left)
     → Does see (put_acts id bytes result) (one_end device_call (put_failure result)) a b
-does_put see id bytes (Ok done) a b told refused failed stops still cause stored earlier =
-    let done : Result (Unit {0}) BoardPut = Ok tt in
-    does_store see (put id bytes) (after_put id bytes) done a b (λ t. refl) (λ t left torn. torn) told tt stops cause stored
-does_put see id bytes (Err Failed) a b told refused failed stops still cause stored earlier =
-    let broken : Result (Unit {0}) BoardPut = Err Failed in
-    does_store see (put id bytes) (after_put id bytes) broken a b (λ t. refl) (λ t left torn. torn) tt failed stops cause stored
-does_put see id bytes (Err (Refused why)) a b told refused failed stops still cause stored earlier = record {
+does_put see id bytes (Ok done) a b made earlier =
+    let done : Result (Unit {0}) BoardPut = Ok tt in does_made see (device (put id bytes)) done a b tt made
+does_put see id bytes (Err Failed) a b made earlier =
+    let broken : Result (Unit {0}) BoardPut = Err Failed in does_made see (device (put id bytes)) broken a b tt made
+does_put see id bytes (Err (Refused why)) a b made earlier = record {
   told = steps;
   stops = λ t rests. record {
-    later = still.later;
-    each = λ s left within may. elim (still.each s left within may) [ inl before ↦ inl before | inr after ↦ inl (was s left within after) ];
+    later = made.stops.later;
+    each = λ s left within may. elim (made.stops.each s left within may) [ inl before ↦ inl before | inr after ↦ inl (was s left within after) ];
   };
-  rests = λ t rests. rests_on (λ u. u) Same t (see a).told (see b).told (see a).clock (see b).clock rests steps still.ends (λ left is. is);
-  faults = well_faults device_call (see a).faults (see b).faults cause;
+  rests = λ t rests. rests_on (λ u. u) Same t (see a).told (see b).told (see a).clock (see b).clock rests steps made.stops.ends (λ left is. is);
+  faults = made.faults;
 }
   where
     same : (o : Option Told) → Steps (λ u. u) o o
@@ -237,7 +222,7 @@ does_put see id bytes (Err (Refused why)) a b told refused failed stops still ca
     same (Some t) = refl
 
     steps : Steps (λ u. u) (see a).told (see b).told
-    steps = subst (λ (o : Option Told). Steps (λ u. u) (see a).told o) (sym refused) (same (see a).told)
+    steps = subst (λ (o : Option Told). Steps (λ u. u) (see a).told o) (sym made.told) (same (see a).told)
 
     was : (s : ℕ) (left : Left) → s ≤ (see a).clock.now → After (see a).clock Same left → (see a).clock.may_leave_since s left
     was s left within after = earlier s (see a).clock.now left within (subst (λ (l : Left). LeftNow (see a).clock l) (sym after.by) after.was)

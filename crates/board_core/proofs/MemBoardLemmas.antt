@@ -1,35 +1,27 @@
 -- What a board in memory tells and may leave after one call.
-use Rattle.std.proofs.Common.{◌≡◌, ℕ, ◌++◌, [], ◌∷◌, List, length, Some, Result, Ok, Err, OnOk, OnErr, refl, ap, sym, ◌∙◌, subst, inl, inr, arith}
-use Rattle.std.specs.Prelude.{◌⊎◌, IfOk}
+use Rattle.std.proofs.Common.{◌≡◌, ℕ, List, [], ◌∷◌, append-nil, Some, Result, Ok, Err, refl, ap, sym, ◌∙◌, subst, inl, inr, arith}
+use Rattle.std.specs.Prelude.{IfOk}
 use Rattle.erst_store.specs.Store.{Stored}
-use Rattle.board_core.specs.declared.board.Access.{Access}
 use Rattle.board_core.specs.declared.board.BoardPut.{BoardPut}
-use Rattle.board_core.specs.declared.board.DiskCall.{DiskCall}
+use Rattle.board_core.specs.declared.board.BoardPut.TheVariants.{Refused, Failed}
 use Rattle.board_core.specs.declared.board.DiskCall.TheVariants.{WriteAt}
 use Rattle.board_core.specs.declared.board.FileNo.{FileNo}
 use Rattle.board_core.specs.declared.board.FileNo.TheVariants.{Zero, One}
-use Rattle.board_core.specs.declared.mem_board.BoardCall.{BoardCall}
-use Rattle.board_core.specs.declared.mem_board.BoardCall.TheVariants.{Put}
-use Rattle.board_core.specs.Cause.{put_failure}
-use Rattle.board_core.specs.Clock.{Clock, LeftNow, Passes}
-use Rattle.board_core.specs.MemBoard.{Held, Change, wrote, Past, with_change, past_after, after_change, held_of, clock_of, State, told_of, new_board, with_disk_call, with_device_call, listed, Performs}
-use Rattle.board_core.specs.Steps.ChangeLemmas.{after_changes-more}
+use Rattle.board_core.specs.Cause.{Faults, Kind, FailsAs, count_of, device_call, disk_call, print_call, put_failure, with_count}
+use Rattle.board_core.specs.Clock.{LeftNow, Passes}
+use Rattle.board_core.specs.Doing.{Act, FailsAct, ActMade, PutMade, Seen, ActSettles, Tears, after_act, device, kind_of, put}
+use Rattle.board_core.specs.MemBoard.{Past, with_act, past_after, now_of, clock_of, State, told_of, new_board, counted, with_refusal, Faulted, Performs}
+use Rattle.board_core.specs.MemSource.{next_count}
+use Rattle.board_core.specs.Steps.ChangeLemmas.{passes_acted, store_left}
 use Rattle.board_core.specs.Steps.DiskLemmas.{nothing_begins}
-use Rattle.board_core.specs.Stop.{Left, InStore, InOut, Becomes, Begins as BeginsText}
-use Rattle.board_core.specs.Told.{Told, after_write}
+use Rattle.board_core.specs.Stop.{Left, Same, InStore, InOut, Becomes, Begins}
+use Rattle.board_core.specs.Steps.MomentLemmas.{torn_same}
+use Rattle.board_core.specs.Told.{Told, MayList, FailsPrint, FailsWrite, after_put, device_of, file_of, with_file}
+use Rattle.board_core.proofs.DoingLemmas.{after-append, same_count}
 
--- ---- what is known of a call
-
-pub always : {T E : Type 0} {P : Type 0} (result : Result T E) → P → OnOk result P
-always (Ok x) holds = holds
-always (Err e) holds = tt
-
-pub always_then : {T E : Type 0} (P : Type 0) {Q : Type 0} (result : Result T E) → Q → OnOk result (P → Q)
-always_then P (Ok x) holds = λ before. holds
-always_then P (Err e) holds = tt
-
-abbrev told_with : Held → List DiskCall → List Access → Told
-told_with held calls accesses = record { here = held.here; volatile = held.volatile; disk_calls = calls; accesses = accesses }
+-- what contracts see of a board in memory
+abbrev pub seen_of : State → Seen
+seen_of s = record { told = Some (told_of s); clock = clock_of s.past; faults = s.faults }
 
 -- where nothing changed, a stop leaves what each step leaves that may do nothing
 pub stood : (Step : Left → Left → Type 0) (old new : Past) → ((left : Left) → Step left left) → new ≡ old → Passes Step (clock_of old) (clock_of new)
@@ -40,81 +32,117 @@ stood Step old new same is = subst (λ (p : Past). Passes Step (clock_of old) (c
   ends = λ left now. record { from = left; was = now; by = same left };
 })
 
--- What a failed call did: it changed no more than its counts and lists.
-pub record Fails (call : BoardCall) (old new : State) : Type 0 where
-  pub past : new.past ≡ old.past
-  pub told : (told_of new ≡ told_of old) ⊎ (told_of new ≡ told_of (listed call old))
-
-pub fails : (T : Type 0) {E : Type 0} (call : BoardCall) (past : Past) (old new : State) (e : E) → Performs {T = T} call past old new (Err e) → Fails call old new
-fails T call past old new e performs = elim performs [
-  | inl chosen ↦ record { past = ap (λ (s : State). s.past) chosen.1.is; told = inr (ap told_of chosen.1.is) }
-  | inr (inl refused) ↦ record { past = ap (λ (s : State). s.past) refused.is; told = inl (ap told_of refused.is) }
-  | inr (inr refused) ↦ record { past = ap (λ (s : State). s.past) refused.is; told = inr (ap told_of refused.is) }
-]
-
-module _ {T E : Type 0} (call : BoardCall) (change : Change) (old new : State) (r : Result T E) (performs : Performs call (with_change change old.past) old new r) where
-  pub told_after : (told : Told) → told_with (after_change change (held_of old.past)) (with_disk_call call old.disk_calls) (with_device_call call old.accesses) ≡ told → OnOk r (Some (told_of new) ≡ Some told)
-  told_after told is = by r performs
-    where
-      by : (r : Result T E) → Performs call (with_change change old.past) old new r → OnOk r (Some (told_of new) ≡ Some told)
-      by (Ok v) done =
-          ap (λ (s : State). Some (told_of s)) done.1
-          ∙ ap (λ (held : Held). Some (told_with held (with_disk_call call old.disk_calls) (with_device_call call old.accesses))) (after_changes-more old.past.changes change old.past.first)
-          ∙ ap Some is
-      by (Err e) failed = tt
-
-  -- what holds of the clock once the change was made
-  pub holds_after : (P : Clock → Type 0) → P (clock_of (with_change change old.past)) → OnOk r (P (clock_of new.past))
-  holds_after P known = by r performs
-    where
-      by : (r : Result T E) → Performs call (with_change change old.past) old new r → OnOk r (P (clock_of new.past))
-      by (Ok v) done = subst (λ (p : Past). P (clock_of p)) (sym (ap (λ (s : State). s.past) done.1)) known
-      by (Err e) failed = tt
-
-module _ {T E : Type 0} (call : BoardCall) (past : Past) (old new : State) (r : Result T E) (performs : Performs call past old new r) where
-  pub stops_after : (Step : Left → Left → Type 0) → ((left : Left) → Step left left) → Passes Step (clock_of old.past) (clock_of past) → Passes Step (clock_of old.past) (clock_of new.past)
-  stops_after Step same passes = by r performs
-    where
-      by : (r : Result T E) → Performs call past old new r → Passes Step (clock_of old.past) (clock_of new.past)
-      by (Ok v) done = subst (λ (p : Past). Passes Step (clock_of old.past) (clock_of p)) (sym (ap (λ (s : State). s.past) done.1)) passes
-      by (Err e) failed = stood Step old.past new.past same (fails T call past old new e failed).past
-
-  pub failed_after : (P : Type 0) → ((told_of new ≡ told_of old) ⊎ (told_of new ≡ told_of (listed call old)) → P) → OnErr r P
-  failed_after P may = by r performs
-    where
-      by : (r : Result T E) → Performs call past old new r → OnErr r P
-      by (Ok v) done = tt
-      by (Err e) failed = may (fails T call past old new e failed).told
-
--- ---- of single calls
-
-pub wrote_told : (file : FileNo) (place : ℕ) (bytes : List ℕ) (held : Held) (calls : List DiskCall) (accesses : List Access)
-    → told_with (after_change (wrote file place bytes) held) (calls ++ WriteAt file place (length bytes) ∷ []) accesses ≡ after_write file place bytes (told_with held calls accesses)
-wrote_told Zero place bytes held calls accesses = refl
-wrote_told One place bytes held calls accesses = refl
-
 pub store_nothing : (store : List Stored) (left : Left) → InStore (Becomes store) left left
 store_nothing store left = record { store = left.store; step = inl refl; rest = refl }
 
-pub begins_nothing : (piece : List ℕ) (left : Left) → InOut (BeginsText piece) left left
+pub begins_nothing : (piece : List ℕ) (left : Left) → InOut (Begins piece) left left
 begins_nothing piece left = record { text = left.out; step = nothing_begins piece left.out; rest = refl }
 
-pub passes_put : (r : Result (Unit {0}) BoardPut) (past : Past) (change : Change) (Step : Left → Left → Type 0) → ((left : Left) → Step left left)
-    → Passes Step (clock_of past) (clock_of (with_change change past)) → Passes Step (clock_of past) (clock_of (past_after r change past))
-passes_put (Ok done) past change Step same passes = passes
-passes_put (Err e) past change Step same passes = stood Step past past same refl
+-- ---- the counts of faults
 
-pub told_put : (r : Result (Unit {0}) BoardPut) (change : Change) (old new : State) → Performs Put (past_after r change old.past) old new (put_failure r)
-    → (told : Told) → told_with (after_change change (held_of old.past)) old.disk_calls old.accesses ≡ told → OnOk r (Some (told_of new) ≡ Some told)
-told_put (Ok done) change old new performs told is = told_after {T = Unit {0}} {E = BoardPut} Put change old new (Ok done) performs told is
-told_put (Err e) change old new performs told is = tt
+count_in : (kind : Kind) (n : ℕ) (faults : Faults) → count_of kind (with_count kind n faults) ≡ n
+count_in disk_call n faults = refl
+count_in device_call n faults = refl
+count_in print_call n faults = refl
+
+quiet : {T E : Type 0} (kind : Kind) (x : T) (faults : Faults) → FailsAs {T = T} {E = E} kind faults faults (Ok x)
+quiet kind x faults = record { own = record { later = omega arith; failed = tt; same = refl }; others = sym (same_count kind faults) }
+
+faulted : {T E : Type 0} (kind : Kind) (e : E) (before new : State) → Faulted kind before new → FailsAs {T = T} {E = E} kind before.faults new.faults (Err e)
+faulted kind e before new fault =
+    let is : new.faults ≡ with_count kind (next_count (count_of kind before.faults)) before.faults = ap (λ (s : State). s.faults) fault.is in
+    let count : count_of kind new.faults ≡ next_count (count_of kind before.faults) = ap (count_of kind) is ∙ count_in kind (next_count (count_of kind before.faults)) before.faults in
+    record {
+      own = record { later = fault.later; failed = count; same = tt };
+      others = is ∙ ap (λ n. with_count kind n before.faults) (sym count);
+    }
+
+-- ---- a call
+
+-- What the board that has listed a call has to be for the call to do this act, which its past keeps if it succeeds.
+pub record Acts (act : Act) (listed old : State) : Type 0 where
+  pub lists : listed ≡ record old { disk_calls = listed.disk_calls; accesses = listed.accesses }
+  pub told : record (after_act act (now_of old.past)) { disk_calls = listed.disk_calls; accesses = listed.accesses } ≡ after_act act (told_of old)
+  pub fails : FailsAct act (told_of old) (told_of old)
+  pub fails_listed : FailsAct act (told_of old) (told_of listed)
+  pub stops : Passes (Tears act (Some (told_of old))) (clock_of old.past) (clock_of (with_act act old.past))
+  pub stands : (left : Left) → Tears act (Some (told_of old)) left left
+  pub settles : ActSettles act (seen_of old) (seen_of (record listed { past = with_act act old.past }))
+
+module _ (act : Act) (listed old new : State) (acts : Acts act listed old) where
+  failed : {T E : Type 0} (e : E) (before : State) → before.past ≡ old.past → before.faults ≡ old.faults → FailsAct act (told_of old) (told_of before) → Faulted (kind_of act) before new
+      → ActMade {T = T} {E = E} act (Err e) (seen_of old) (seen_of new)
+  failed {T} {E} e before past_same faults_same told fault = record {
+    told = tt;
+    failed = subst (λ (s : State). FailsAct act (told_of old) (told_of s)) (sym fault.is) told;
+    stops = stood (Tears act (Some (told_of old))) old.past new.past acts.stands (ap (λ (s : State). s.past) fault.is ∙ past_same);
+    settles = tt;
+    cause = subst (λ (f : Faults). FailsAs {T = T} {E = E} (kind_of act) f new.faults (Err e)) faults_same (faulted {T = T} {E = E} (kind_of act) e before new fault);
+  }
+
+  pub made_by : {T E : Type 0} (r : Result T E) → Performs (kind_of act) listed (with_act act old.past) old new r → ActMade act r (seen_of old) (seen_of new)
+  made_by {T} {E} (Ok value) performs =
+      let told : told_of (record listed { past = with_act act old.past }) ≡ after_act act (told_of old) =
+      ap (λ (t : Told). record t { disk_calls = listed.disk_calls; accesses = listed.accesses }) (after-append old.past.acts (act ∷ []) old.past.first) ∙ acts.told in
+      let quietly : FailsAs {T = T} {E = E} (kind_of act) old.faults listed.faults (Ok value) =
+      subst (λ (f : Faults). FailsAs {T = T} {E = E} (kind_of act) old.faults f (Ok value)) (sym (ap (λ (s : State). s.faults) acts.lists)) (quiet {T = T} {E = E} (kind_of act) value old.faults) in
+      subst (λ (s : State). ActMade {T = T} {E = E} act (Ok value) (seen_of old) (seen_of s)) (sym performs.1) (record {
+        told = ap Some told;
+        failed = tt;
+        stops = acts.stops;
+        settles = acts.settles;
+        cause = quietly;
+      })
+  made_by {T} {E} (Err e) performs =
+      let past_same : listed.past ≡ old.past = ap (λ (s : State). s.past) acts.lists in
+      let faults_same : listed.faults ≡ old.faults = ap (λ (s : State). s.faults) acts.lists in
+      elim performs [
+        | inl chosen ↦ failed {T = T} e (counted listed) past_same faults_same acts.fails_listed chosen.1
+        | inr (inl refused) ↦ failed {T = T} e (with_refusal (counted old)) refl refl acts.fails refused
+        | inr (inr refused) ↦ failed {T = T} e (with_refusal (counted listed)) past_same faults_same acts.fails_listed refused
+      ]
+
+file_same : (file : FileNo) (t : Told) → with_file file (file_of file t) t ≡ t
+file_same Zero t = refl
+file_same One t = refl
+
+-- a write that failed before a byte was written, and a print
+pub fails_write : (file : FileNo) (place count : ℕ) (t new : Told) → MayList (WriteAt file place count) t new → FailsWrite file place count t new
+fails_write file place count t new may =
+    (file_of file t, torn_same place count (file_of file t), subst (λ (u : Told). MayList (WriteAt file place count) u new) (sym (file_same file t)) may)
+
+pub fails_print : (bytes : List ℕ) (t : Told) → FailsPrint bytes t t
+fails_print bytes t = ([], bytes, refl, ap (λ (text : List ℕ). record t { here = record t.here { out = text } }) (sym (append-nil t.here.out)))
+
+put_acts : (id : ℕ) (bytes : List ℕ) (old : State) → Acts (device (put id bytes)) old old
+put_acts id bytes old = record {
+  lists = refl;
+  told = refl;
+  fails = inl refl;
+  fails_listed = inl refl;
+  stops = passes_acted old.past (put id bytes);
+  stands = store_nothing (after_put id bytes (device_of (told_of old))).store;
+  settles = λ before. store_left (record old { past = with_act (device (put id bytes)) old.past });
+}
+
+-- A put of a board in memory: done, refused or failed.
+pub put_made : (id : ℕ) (bytes : List ℕ) (r : Result (Unit {0}) BoardPut) (old new : State) → Performs device_call old (past_after r (device (put id bytes)) old.past) old new (put_failure r) → PutMade id bytes r (seen_of old) (seen_of new)
+put_made id bytes (Ok done) old new performs =
+    let result : Result (Unit {0}) BoardPut = Ok tt in made_by (device (put id bytes)) old old new (put_acts id bytes old) result performs
+put_made id bytes (Err (Refused why)) old new performs = record {
+  told = ap (λ (s : State). Some (told_of s)) performs.1;
+  stops = stood Same old.past new.past (λ left. refl) (ap (λ (s : State). s.past) performs.1);
+  faults = ap (λ (s : State). s.faults) performs.1;
+}
+put_made id bytes (Err Failed) old new performs =
+    let result : Result (Unit {0}) BoardPut = Err Failed in made_by (device (put id bytes)) old old new (put_acts id bytes old) result performs
 
 -- ---- what is left
 
 pub left_board : {E : Type 0} (r : Result State E) (past : Past) (file0 file1 : List ℕ) (store : List Stored) (slow : ℕ) → IfOk r (λ board. board ≡ new_board file0 file1 store slow)
-    → store ≡ (held_of past).here.store → LeftNow (clock_of past) (record (held_of past).here { file0 = file0; file1 = file1 })
-    → IfOk r (λ board. LeftNow (clock_of past) (record (told_of board).here { out = (held_of past).here.out }))
+    → store ≡ (now_of past).here.store → LeftNow (clock_of past) (record (now_of past).here { file0 = file0; file1 = file1 })
+    → IfOk r (λ board. LeftNow (clock_of past) (record (told_of board).here { out = (now_of past).here.out }))
 left_board (Ok board) past file0 file1 store slow is same left =
-    subst (λ (s : State). LeftNow (clock_of past) (record (told_of s).here { out = (held_of past).here.out })) (sym is)
-    (subst (λ (records : List Stored). LeftNow (clock_of past) (record { file0 = file0; file1 = file1; store = records; out = (held_of past).here.out })) (sym same) left)
+    subst (λ (s : State). LeftNow (clock_of past) (record (told_of s).here { out = (now_of past).here.out })) (sym is)
+    (subst (λ (records : List Stored). LeftNow (clock_of past) (record { file0 = file0; file1 = file1; store = records; out = (now_of past).here.out })) (sym same) left)
 left_board (Err e) past file0 file1 store slow is same left = tt

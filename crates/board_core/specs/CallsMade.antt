@@ -4,6 +4,7 @@ use Rattle.std.specs.List.{flat_map}
 use Rattle.board_core.specs.declared.board.FileNo.{FileNo}
 use Rattle.board_core.specs.declared.board.FileNo.TheVariants.{Zero, One}
 use Rattle.board_core.specs.Clock.{Clock, LeftNow, Passes, Leads, IsSynced, IsStored}
+use Rattle.board_core.specs.Doing.{Seen}
 use Rattle.board_core.specs.DiskModel.{Range, Disk, MayLeave, Call, writes, syncs, stores, prints, rests}
 use Rattle.board_core.specs.Stop.{Left, Same, InFile, InStore, InOut, Becomes, Begins, Appends}
 use Rattle.board_core.specs.Told.{Torn}
@@ -17,9 +18,9 @@ IsMade (prints piece part) old new = Passes (InOut (Begins piece)) old new × Le
 IsMade rests old new = Passes Same old new
 
 -- These calls of a board were made, one after another.
-abbrev pub AreMade : {B : Type 0} → (B → Clock) → List Call → B → B → Type 0
-AreMade clock [] first last = last ≡ first
-AreMade {B} clock (call ∷ calls) first last = (next : B) × IsMade call (clock first) (clock next) × AreMade clock calls next last
+abbrev pub AreMade : {B : Type 0} → (B → Seen) → List Call → B → B → Type 0
+AreMade see [] first last = last ≡ first
+AreMade {B} see (call ∷ calls) first last = (next : B) × IsMade call (see first).clock (see next).clock × AreMade see calls next last
 
 -- A crash now leaves only what the disk model says of this disk.
 abbrev pub KeepsDisk : Disk → Clock → Type 0

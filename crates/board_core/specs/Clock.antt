@@ -1,10 +1,8 @@
 -- What a crash at each point may leave, and how a call changes it.
-use Rattle.std.specs.Prelude.{◌≡◌, ℕ, ◌≤◌, ◌⊎◌, List, Option, Some, Result, Err}
-use Rattle.board_core.specs.declared.board.BoardPut.{BoardPut}
-use Rattle.board_core.specs.declared.board.BoardPut.TheVariants.{Refused}
+use Rattle.std.specs.Prelude.{◌≡◌, ℕ, ◌≤◌, ◌⊎◌, List, Option, Some}
 use Rattle.board_core.specs.declared.board.FileNo.{FileNo}
 use Rattle.erst_store.specs.Store.{Stored}
-use Rattle.board_core.specs.Stop.{Left, Same, file_in}
+use Rattle.board_core.specs.Stop.{Left, file_in}
 use Rattle.board_core.specs.Told.{Told}
 
 -- A clock, which never goes back: the number of the present moment, and what a crash at or after the moment t may
@@ -27,22 +25,17 @@ pub record After (old : Clock) (Step : Left → Left → Type 0) (left : Left) :
   pub was : LeftNow old from
   pub by : Step from left
 
+-- A crash now leaves what a crash before the call might have left, changed by this step.
+abbrev pub Leads : (Left → Left → Type 0) → Clock → Clock → Type 0
+Leads Step old new = (left : Left) → LeftNow new left → After old Step left
+
 -- One call was made. A crash during it leaves what a crash before it might have left, changed by this step, and so does
 -- a crash now. What a crash at an earlier point may have left stays exactly the same.
 pub record Passes (Step : Left → Left → Type 0) (old new : Clock) : Type 0 where
   pub later : old.now ≤ new.now
   pub kept : (t : ℕ) (left : Left) → t ≤ old.now → old.may_leave_since t left → new.may_leave_since t left
   pub each : (t : ℕ) (left : Left) → t ≤ old.now → new.may_leave_since t left → old.may_leave_since t left ⊎ After old Step left
-  pub ends : (left : Left) → LeftNow new left → After old Step left
-
--- a crash during a put that is refused leaves what a crash before it might have left
-abbrev pub PassesAtRefusal : Result (Unit {0}) BoardPut → Clock → Clock → Type 0
-PassesAtRefusal (Err (Refused cause)) old new = Passes Same old new
-PassesAtRefusal result old new = Unit {0}
-
--- A crash now leaves what a crash before the call might have left, changed by this step.
-abbrev pub Leads : (Left → Left → Type 0) → Clock → Clock → Type 0
-Leads Step old new = (left : Left) → LeftNow new left → After old Step left
+  pub ends : Leads Step old new
 
 -- Whatever a crash now leaves, this file has these bytes.
 abbrev pub IsSynced : FileNo → List ℕ → Clock → Type 0

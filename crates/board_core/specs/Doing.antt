@@ -1,5 +1,5 @@
 -- What a function over a board does: its acts one after another, how far they came, and what a crash leaves meanwhile.
-use Rattle.std.specs.Prelude.{◌≡◌, ℕ, ◌≤◌, ◌⊎◌, List, [], ◌∷◌, ◌++◌, length, Option, Result, Ok, Err}
+use Rattle.std.specs.Prelude.{◌≡◌, ℕ, ◌≤◌, ◌⊎◌, List, [], ◌∷◌, ◌++◌, length, Option, Some, IfSome, Result, Ok, Err, OnOk, OnErr}
 use Rattle.erst_store.specs.Device.{Device}
 use Rattle.board_core.specs.declared.board.FileNo.{FileNo}
 use Rattle.board_core.specs.declared.board.DiskCall.{DiskCall}
@@ -9,22 +9,18 @@ use Rattle.board_core.specs.declared.board.Access.{Access}
 use Rattle.board_core.specs.declared.board.Access.TheVariants.{Read, Write, RangeRead, RangeWrite}
 use Rattle.board_core.specs.declared.board.BoardPut.{BoardPut}
 use Rattle.board_core.specs.declared.board.BoardPut.TheVariants.{Refused}
-use Rattle.board_core.specs.Cause.{Faults, Kind, Rose, count_of, device_call, disk_call, print_call, with_count}
-use Rattle.board_core.specs.Clock.{Clock, Adds, Rests}
-use Rattle.board_core.specs.Stop.{Left, Same, InFile, InStore, InOut, Becomes, Begins}
-use Rattle.board_core.specs.Told.{Told, Torn, Steps, Relates, device_of, on_device, register_in, with_call, with_access}
-use Rattle.board_core.specs.Told.{after_write_through, after_print, after_reg_write, after_range_write, after_put}
-use Rattle.board_core.specs.Told.{MayList, MayListAccess, MayAct, FailsAccess, FailsThrough, FailsPrint}
+use Rattle.board_core.specs.Cause.{Faults, Kind, Rose, FailsAs, count_of, device_call, disk_call, print_call, with_count, put_failure}
+use Rattle.board_core.specs.Clock.{Clock, Adds, Rests, Passes, Leads, IsSynced, StoreIsLeft}
+use Rattle.board_core.specs.Stop.{Left, Same, InFile, InStore, InOut, Begins, Appends}
+use Rattle.board_core.specs.Told.{Told, Torn, Steps, Relates, file_of, device_of, on_device, register_in, with_call, with_access}
+use Rattle.board_core.specs.Told.{after_write, after_write_through, after_print, after_reg_write, after_range_write, after_put}
+use Rattle.board_core.specs.Told.{MayList, MayListAccess, MayAct, FailsAccess, FailsWrite, FailsThrough, FailsPrint, StoreBy}
 
 -- what contracts see of a board: its model, what a crash leaves of it, and its counts of faults
 pub record Seen : Type 1 where
   pub told : Option Told
   pub clock : Clock
   pub faults : Faults
-
--- what contracts see of a board, by its three ghosts
-abbrev pub looks : {X : Type 0} → (X → Option Told) → (X → Clock) → (X → Faults) → X → Seen
-looks told clock faults x = record { told = told x; clock = clock x; faults = faults x }
 
 -- ---- acts
 
@@ -37,10 +33,11 @@ pub data DeviceCall : Type 0 where
   range_write : ℕ → List ℕ → DeviceCall
   put : ℕ → List ℕ → DeviceCall
 
--- a write of bytes at a place of a file with its sync; a print; a disk call that writes nothing; a
--- call of the device
+-- a write of bytes at a place of a file with its sync, and one without; a print; a disk call that
+-- writes nothing; a call of the device. All but the first are one call of a board.
 pub data Act : Type 0 where
   through : FileNo → ℕ → List ℕ → Act
+  writes : FileNo → ℕ → List ℕ → Act
   prints : List ℕ → Act
   calls : DiskCall → Act
   device : DeviceCall → Act
@@ -48,11 +45,12 @@ pub data Act : Type 0 where
 -- the kind of fault that a failed call of this act raises
 abbrev pub kind_of : Act → Kind
 kind_of (through file place bytes) = disk_call
+kind_of (writes file place bytes) = disk_call
 kind_of (prints bytes) = print_call
 kind_of (calls call) = disk_call
 kind_of (device call) = device_call
 
--- ---- a call of the device: done, failed, torn by a crash
+-- ---- a call of the device: done, failed
 
 -- the model after a device call that succeeded
 abbrev pub after_device : DeviceCall → Told → Told
@@ -72,14 +70,6 @@ FailsDevice (range_write place bytes) old new =
     FailsAccess (RangeWrite place (length bytes)) (after_range_write place bytes) old new
 FailsDevice (put id bytes) old new = MayAct (after_put id bytes) old new
 
--- After a crash during a device call the store is as before the call or as after it.
-abbrev pub TornDevice : DeviceCall → Told → Left → Type 0
-TornDevice (reg_read reg) t left = Same t.here left
-TornDevice (reg_write reg value) t left = InStore (Becomes (after_reg_write reg value (device_of t)).store) t.here left
-TornDevice (range_read place count) t left = Same t.here left
-TornDevice (range_write place bytes) t left = Same t.here left
-TornDevice (put id bytes) t left = InStore (Becomes (after_put id bytes (device_of t)).store) t.here left
-
 -- the accesses that are listed of a device call
 abbrev pub accesses_by : DeviceCall → Device → List Access
 accesses_by (reg_read reg) d = Read reg (register_in reg d) ∷ []
@@ -93,6 +83,7 @@ accesses_by (put id bytes) d = []
 -- the model after an act that is done
 abbrev pub after_act : Act → Told → Told
 after_act (through file place bytes) t = after_write_through file place bytes t
+after_act (writes file place bytes) t = after_write file place bytes t
 after_act (prints bytes) t = after_print bytes t
 after_act (calls call) t = with_call call t
 after_act (device call) t = after_device call t
@@ -100,22 +91,59 @@ after_act (device call) t = after_device call t
 -- how the model may change if a call of this act fails
 abbrev pub FailsAct : Act → Told → Told → Type 0
 FailsAct (through file place bytes) old new = FailsThrough file place bytes old new
+FailsAct (writes file place bytes) old new = FailsWrite file place (length bytes) old new
 FailsAct (prints bytes) old new = FailsPrint bytes old new
 FailsAct (calls call) old new = MayList call old new
 FailsAct (device call) old new = FailsDevice call old new
 
--- what a crash during this act may leave
-abbrev pub TornAct : Act → Told → Left → Type 0
-TornAct (through file place bytes) t left = InFile file (Torn place (length bytes)) t.here left
-TornAct (prints bytes) t left = InOut (Begins bytes) t.here left
-TornAct (calls call) t left = Same t.here left
-TornAct (device call) t left = TornDevice call t left
+-- how what a crash leaves may differ if it comes during this act
+abbrev pub Tears : Act → Option Told → Left → Left → Type 0
+Tears (through file place bytes) told = InFile file (Torn place (length bytes))
+Tears (writes file place bytes) told = InFile file (Torn place (length bytes))
+Tears (prints bytes) told = InOut (Begins bytes)
+Tears (device (reg_write reg value)) told = InStore (StoreBy (after_reg_write reg value) told)
+Tears (device (put id bytes)) told = InStore (StoreBy (after_put id bytes) told)
+Tears act told = Same
 
+-- the disk calls that are listed of an act
 abbrev pub disk_calls_by : Act → List DiskCall
 disk_calls_by (through file place bytes) = WriteAt file place (length bytes) ∷ Sync file ∷ []
+disk_calls_by (writes file place bytes) = WriteAt file place (length bytes) ∷ []
 disk_calls_by (prints bytes) = []
 disk_calls_by (calls call) = call ∷ []
 disk_calls_by (device call) = []
+
+-- ---- one call of a board
+
+-- What is certain of a crash once this act has succeeded: a sync leaves the file's bytes and the store, a print the
+-- whole piece, and a device call that may change the store leaves the changed one if a crash before left the old one.
+abbrev pub ActSettles : Act → Seen → Seen → Type 0
+ActSettles (calls (Sync file)) old new =
+    IfSome old.told (λ t. IsSynced file (file_of file t) new.clock) × StoreIsLeft new.told new.clock
+ActSettles (prints bytes) old new = Leads (InOut (Appends bytes)) old.clock new.clock
+ActSettles (device (reg_write reg value)) old new = StoreIsLeft old.told old.clock → StoreIsLeft new.told new.clock
+ActSettles (device (put id bytes)) old new = StoreIsLeft old.told old.clock → StoreIsLeft new.told new.clock
+ActSettles act old new = Unit {0}
+
+-- An act was made by one call, with this result. The model changes as the act does, or as a failed call of it may; a
+-- crash tears the act at most; the call counts one fault of its kind if and only if it failed.
+pub record ActMade {T E : Type 0} (act : Act) (result : Result T E) (old new : Seen) : Type 0 where
+  pub told : OnOk result (Steps (after_act act) old.told new.told)
+  pub failed : OnErr result (Relates (FailsAct act) old.told new.told)
+  pub stops : Passes (Tears act old.told) old.clock new.clock
+  pub settles : OnOk result (ActSettles act old new)
+  pub cause : FailsAs (kind_of act) old.faults new.faults result
+
+-- Nothing changed, and a crash meanwhile leaves what a crash before might have left.
+pub record BoardStays (old new : Seen) : Type 0 where
+  pub told : new.told ≡ old.told
+  pub stops : Passes Same old.clock new.clock
+  pub faults : new.faults ≡ old.faults
+
+-- A put was made. One that is refused changes nothing.
+abbrev pub PutMade : ℕ → List ℕ → Result (Unit {0}) BoardPut → Seen → Seen → Type 0
+PutMade id bytes (Err (Refused cause)) old new = BoardStays old new
+PutMade id bytes result old new = ActMade (device (put id bytes)) (put_failure result) old new
 
 -- ---- acts one after another
 
@@ -132,7 +160,7 @@ FailsActs kind (act ∷ acts) old new =
 -- A crash tore one of the acts, and the acts before it are done.
 abbrev pub Moment : List Act → Told → Left → Type 0
 Moment [] t left = ⊥
-Moment (act ∷ acts) t left = TornAct act t left ⊎ Moment acts (after_act act t) left
+Moment (act ∷ acts) t left = Tears act (Some t) t.here left ⊎ Moment acts (after_act act t) left
 
 -- the disk calls that are listed of these acts
 abbrev pub calls_of : List Act → List DiskCall
@@ -209,6 +237,7 @@ IsBad gave_up = Unit {0}
 -- an act of the disk: neither a print nor a call of the device
 abbrev pub IsOnDisk : Act → Type 0
 IsOnDisk (through file place bytes) = Unit {0}
+IsOnDisk (writes file place bytes) = Unit {0}
 IsOnDisk (prints bytes) = ⊥
 IsOnDisk (calls call) = Unit {0}
 IsOnDisk (device call) = ⊥
@@ -220,6 +249,7 @@ AreOnDisk (act ∷ acts) = IsOnDisk act × AreOnDisk acts
 
 abbrev pub IsOffDevice : Act → Type 0
 IsOffDevice (through file place bytes) = Unit {0}
+IsOffDevice (writes file place bytes) = Unit {0}
 IsOffDevice (prints bytes) = Unit {0}
 IsOffDevice (calls call) = Unit {0}
 IsOffDevice (device call) = ⊥

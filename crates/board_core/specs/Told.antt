@@ -102,11 +102,6 @@ AnswersPut (Ok done) refusal = refusal ≡ None
 AnswersPut (Err (Refused cause)) refusal = AnswersRefusal {X = Unit {0}} (Err cause) refusal
 AnswersPut (Err Failed) refusal = Unit {0}
 
--- A put that is refused changes nothing at all.
-abbrev pub KeepsAtRefusal : Result (Unit {0}) BoardPut → Option Told → Option Told → Type 0
-KeepsAtRefusal (Err (Refused cause)) old new = new ≡ old
-KeepsAtRefusal result old new = Unit {0}
-
 -- What a crash during a device call leaves of the store: as before the call or as after it, never between. Says nothing
 -- of a board that isn't modelled.
 abbrev pub StoreBy : (Device → Device) → Option Told → List Stored → List Stored → Type 0

@@ -1,7 +1,7 @@
 //! What a board in memory records of each call that succeeded, and the calls on plain vectors.
 ghost use Rattle.std.specs.Prelude.{◌≡◌, ◌≤◌, ◌++◌, [], ◌∷◌, length, IsSome, OnOk, OnErr};
-ghost use Rattle.board_core.specs.Steps.History.{first_bytes, changes_of};
-ghost use Rattle.board_core.specs.MemBoard.{wrote, printed};
+ghost use Rattle.board_core.specs.Steps.History.{acts_of, first_bytes};
+ghost use Rattle.board_core.specs.Doing.{prints, writes};
 ghost use Rattle.board_core.specs.Told.{overlay};
 
 use crate::FileNo;
@@ -20,8 +20,8 @@ pub fn write(
 ) -> Result<(), NoMemory>
     requires { place ≤ length file.old.bytes.items }
     ensures file { OnOk result (file.new.bytes.items ≡ overlay place bytes.now file.old.bytes.items) }
-    ensures events { OnOk result (changes_of events.new.items
-        ≡ changes_of events.old.items ++ wrote number place bytes.now ∷ []) }
+    ensures events { OnOk result (acts_of events.new.items
+        ≡ acts_of events.old.items ++ writes number place bytes.now ∷ []) }
     ensures first { first_bytes file.new ≡ first_bytes file.old }
     ensures same_file { OnErr result (file.new.bytes.items ≡ file.old.bytes.items) }
     ensures same_events { OnErr result (events.new.items ≡ events.old.items) }
@@ -54,8 +54,8 @@ pub fn print(
     bytes: &[u8],
 ) -> Result<(), NoMemory>
     ensures out { OnOk result (out.new.items ≡ out.old.items ++ bytes.now) }
-    ensures events { OnOk result (changes_of events.new.items
-        ≡ changes_of events.old.items ++ printed bytes.now ∷ []) }
+    ensures events { OnOk result (acts_of events.new.items
+        ≡ acts_of events.old.items ++ prints bytes.now ∷ []) }
     ensures same_out { OnErr result (out.new.items ≡ out.old.items) }
     ensures same_events { OnErr result (events.new.items ≡ events.old.items) }
 {

@@ -4,10 +4,12 @@ ghost use Rattle.std.specs.Prelude.{◌≡◌, ℕ, ◌+◌, ◌≤◌, ◌++◌
 ghost use Rattle.erst_store.specs.Actions.{range_length};
 ghost use Rattle.erst_store.specs.DeviceLaws.{IsDevice};
 ghost use Rattle.erst_store.specs.Store.{refusal_of, AnswersRefusal};
-ghost use Rattle.board_core.specs.MemBoard.{Past, new_past, new_held, with_change, past_after, wrote, synced, acted, printed, wrote_register, wrote_range, put_record, device_in, disk_of, held_of};
+ghost use Rattle.board_core.specs.declared.board.DiskCall.TheVariants.{Sync};
+ghost use Rattle.board_core.specs.Doing.{writes, prints, calls, device, reg_write, range_write, put};
+ghost use Rattle.board_core.specs.MemBoard.{Past, new_past, new_told, with_act, past_after, disk_of, now_of};
 ghost use Rattle.board_core.specs.Pick.{IsPicked};
 ghost use Rattle.board_core.specs.Stop.{file_in, with_file_in};
-ghost use Rattle.board_core.specs.Told.{register_in};
+ghost use Rattle.board_core.specs.Told.{device_of, register_in};
 
 use crate::events::{print, write};
 use crate::leaving::picked_bytes;
@@ -59,21 +61,21 @@ pub enum MemChange {
 }
 
 impl Model for History {
-    ghost use Rattle.std.specs.Prelude.{◌≡◌};
-    ghost use Rattle.board_core.specs.Steps.History.{first_bytes, changes_of, held_with};
-    ghost use Rattle.board_core.specs.MemBoard.{Past, new_held, after_changes};
+    ghost use Rattle.board_core.specs.Steps.History.{acts_of, first_bytes, Has};
+    ghost use Rattle.board_core.specs.Doing.{after_acts};
+    ghost use Rattle.board_core.specs.MemBoard.{Past, new_told};
 
     ghost Value = { Past };
 
     ghost view = { λ h. record {
-      first = new_held (first_bytes h.zero) (first_bytes h.one) h.first_store h.slow;
-      changes = changes_of h.events.items;
+      first = new_told (first_bytes h.zero) (first_bytes h.one) h.first_store h.slow;
+      acts = acts_of h.events.items;
     } };
 
-    ghost invariant = { λ h.
-        after_changes (changes_of h.events.items)
-        (new_held (first_bytes h.zero) (first_bytes h.one) h.first_store h.slow)
-        ≡ held_with h.zero.bytes.items h.one.bytes.items h.device h.out.items };
+    ghost invariant = { λ h. Has
+        (after_acts (acts_of h.events.items)
+        (new_told (first_bytes h.zero) (first_bytes h.one) h.first_store h.slow))
+        h.zero.bytes.items h.one.bytes.items h.device h.out.items };
 }
 
 impl History {
@@ -86,7 +88,7 @@ impl History {
         slow: u64,
     ) -> Result<History, NoMemory>
         ensures { IfOk result (λ history. history
-            ≡ new_past (new_held file0.items file1.items store slow)) }
+            ≡ new_past (new_told file0.items file1.items store slow)) }
     {
         let first_store = store.copy(alloc)?;
         Ok(History {
@@ -109,7 +111,7 @@ impl History {
 
     /// Replaces a file's bytes, before anything else was done.
     pub fn set_file(&mut self, file: FileNo, bytes: Vec<u8>)
-        requires { self.old.changes ≡ [] }
+        requires { self.old.acts ≡ [] }
         ensures { self.new ≡ new_past (record self.old.first {
           here = with_file_in file bytes.items self.old.first.here;
         }) }
@@ -123,7 +125,7 @@ impl History {
 
     /// Returns a file's bytes.
     pub fn file(&self, file: FileNo) -> &[u8]
-        ensures { result.now ≡ file_in file (held_of self.now).here }
+        ensures { result.now ≡ file_in file (now_of self.now).here }
     {
         match file {
             FileNo::Zero => &self.zero.bytes,
@@ -133,22 +135,22 @@ impl History {
 
     /// Returns the bytes printed so far.
     pub fn out(&self) -> &[u8]
-        ensures { result.now ≡ (held_of self.now).here.out }
+        ensures { result.now ≡ (now_of self.now).here.out }
     {
         &self.out
     }
 
     /// Returns the record store.
     pub fn store(&self) -> &Store
-        ensures same { result.now ≡ (held_of self.now).here.store }
-        ensures device { IsDevice (device_in (held_of self.now)) }
+        ensures same { result.now ≡ (now_of self.now).here.store }
+        ensures device { IsDevice (device_of (now_of self.now)) }
     {
         self.device.store()
     }
 
     /// Returns the number in a register of the device.
     pub fn register(&self, reg: Reg) -> u64
-        ensures { result ≡ register_in reg (device_in (held_of self.now)) }
+        ensures { result ≡ register_in reg (device_of (now_of self.now)) }
     {
         match reg {
             Reg::Action => self.device.read_action(),
@@ -160,15 +162,15 @@ impl History {
     pub fn range_read(&self, place: u32, buf: &mut [u8])
         requires { place + length buf.old ≤ range_length }
         ensures { buf.new
-            ≡ take (length buf.old) (drop place (device_in (held_of self.now)).range) }
+            ≡ take (length buf.old) (drop place (device_of (now_of self.now)).range) }
     {
         self.device.range_read(place, buf);
     }
 
     /// Writes bytes into a file at an offset, which is at most its length.
     pub fn write(&mut self, file: FileNo, place: u64, bytes: &[u8]) -> Result<(), NoMemory>
-        requires { place ≤ length (file_in file (held_of self.old).here) }
-        ensures ok { OnOk result (self.new ≡ with_change (wrote file place bytes.now) self.old) }
+        requires { place ≤ length (file_in file (now_of self.old).here) }
+        ensures ok { OnOk result (self.new ≡ with_act (writes file place bytes.now) self.old) }
         ensures err { OnErr result (self.new ≡ self.old) }
     {
         match file {
@@ -193,7 +195,7 @@ impl History {
 
     /// Records that a file was synced.
     pub fn sync(&mut self, file: FileNo) -> Result<(), NoMemory>
-        ensures ok { OnOk result (self.new ≡ with_change (synced file) self.old) }
+        ensures ok { OnOk result (self.new ≡ with_act (calls (Sync file)) self.old) }
         ensures err { OnErr result (self.new ≡ self.old) }
     {
         self.events.push(MemChange::Synced(file))?;
@@ -203,7 +205,7 @@ impl History {
     /// Writes a number to a register of the device.
     pub fn write_register(&mut self, reg: Reg, value: u64) -> Result<(), NoMemory>
         ensures ok { OnOk result (self.new
-            ≡ with_change (acted (wrote_register reg value)) self.old) }
+            ≡ with_act (device (reg_write reg value)) self.old) }
         ensures err { OnErr result (self.new ≡ self.old) }
     {
         self.events.reserve(1)?;
@@ -219,7 +221,7 @@ impl History {
     pub fn range_write(&mut self, place: u32, bytes: &[u8]) -> Result<(), NoMemory>
         requires { place + length bytes.now ≤ range_length }
         ensures ok { OnOk result (self.new
-            ≡ with_change (acted (wrote_range place bytes.now)) self.old) }
+            ≡ with_act (device (range_write place bytes.now)) self.old) }
         ensures err { OnErr result (self.new ≡ self.old) }
     {
         let kept = Vec::from_slice(self.alloc, bytes)?;
@@ -231,10 +233,10 @@ impl History {
     /// Puts a record into the store and returns what the store returns, or `NoMemory` if the put
     /// can't be recorded.
     pub fn put(&mut self, id: u64, bytes: &[u8]) -> Result<Result<(), PutRefused>, NoMemory>
-        ensures past { IfOk result (λ put. self.new
-            ≡ past_after put (acted (put_record id bytes.now)) self.old) }
-        ensures answers { IfOk result
-            (λ put. AnswersRefusal put (refusal_of id bytes.now (held_of self.old).here.store)) }
+        ensures past { IfOk result (λ answer. self.new
+            ≡ past_after answer (device (put id bytes.now)) self.old) }
+        ensures answers { IfOk result (λ answer. AnswersRefusal answer
+            (refusal_of id bytes.now (now_of self.old).here.store)) }
         ensures kept { OnErr result (self.new ≡ self.old) }
     {
         let kept = Vec::from_slice(self.alloc, bytes)?;
@@ -250,7 +252,7 @@ impl History {
 
     /// Appends bytes to the output.
     pub fn print(&mut self, bytes: &[u8]) -> Result<(), NoMemory>
-        ensures ok { OnOk result (self.new ≡ with_change (printed bytes.now) self.old) }
+        ensures ok { OnOk result (self.new ≡ with_act (prints bytes.now) self.old) }
         ensures err { OnErr result (self.new ≡ self.old) }
     {
         print(self.alloc, &mut self.out, &mut self.events, bytes)
@@ -259,10 +261,10 @@ impl History {
     /// Returns both files in the state that `pick` names, the store, and how slow the device is.
     pub fn into_left(self, pick: Pick) -> Result<(Vec<u8>, Vec<u8>, Store, u64), NoMemory>
         ensures zero { IfOk result
-            (λ left. IsPicked pick (disk_of self).zero (held_of self).here.file0 left.0.items) }
+            (λ left. IsPicked pick (disk_of self).zero (now_of self).here.file0 left.0.items) }
         ensures one { IfOk result
-            (λ left. IsPicked pick (disk_of self).one (held_of self).here.file1 left.1.items) }
-        ensures store { IfOk result (λ left. left.2 ≡ (held_of self).here.store) }
+            (λ left. IsPicked pick (disk_of self).one (now_of self).here.file1 left.1.items) }
+        ensures store { IfOk result (λ left. left.2 ≡ (now_of self).here.store) }
         ensures slow { IfOk result (λ left. left.3 ≡ self.first.volatile.slow) }
     {
         let History {

@@ -5,7 +5,8 @@ ghost use Rattle.board_core.specs.declared.board.FileNo.{FileNo};
 ghost use Rattle.board_core.specs.CallsMade.{AreMade, KeepsDisk, ranges_in};
 ghost use Rattle.board_core.specs.Clock.{LeftNow, IsSynced};
 ghost use Rattle.board_core.specs.DiskModel.{Range, Disk, MayLeave, MayLeaveFile, MayLeaveSince, Call, rests, after_all, greatest_length};
-ghost use Rattle.board_core.specs.MemBoard.{Past, DeviceChange, device_step, with_change, acted, printed, clock_of, disk_of, held_of, device_in};
+ghost use Rattle.board_core.specs.Doing.{DeviceCall, after_device, device, prints};
+ghost use Rattle.board_core.specs.MemBoard.{Past, with_act, clock_of, disk_of, now_of};
 ghost use Rattle.board_core.specs.Stop.{Left, Becomes, file_in};
 ghost use Rattle.board_core.specs.Told.{overlay};
 
@@ -17,21 +18,21 @@ pub fn disk_model<B: Board>()
     // that file what the disk model says, from the bytes as of that sync and the ranges written
     // since.
     ensures file { (file : FileNo) (bytes : List ℕ) (calls : List Call) (first last : B)
-        → IsSynced file bytes (B.clock first) → AreMade B.clock calls first last
-        → (left : Left) → (B.clock last).may_leave_since (B.clock first).now left
+        → IsSynced file bytes (B.seen first).clock → AreMade B.seen calls first last
+        → (left : Left) → (B.seen last).clock.may_leave_since (B.seen first).clock.now left
         → MayLeaveFile (record { synced = bytes; written = ranges_in file calls })
         (file_in file left) }
 
     // Both files, the record store and the printed text together: a crash leaves what the disk
     // model says of one point in time.
     ensures together { (disk : Disk) (calls : List Call) (first last : B)
-        → KeepsDisk disk (B.clock first) → AreMade B.clock calls first last
-        → (left : Left) → (B.clock last).may_leave_since (B.clock first).now left
+        → KeepsDisk disk (B.seen first).clock → AreMade B.seen calls first last
+        → (left : Left) → (B.seen last).clock.may_leave_since (B.seen first).clock.now left
         → MayLeaveSince disk calls 0 left }
     ensures after { (disk : Disk) (calls : List Call) (first last : B)
-        → KeepsDisk disk (B.clock first)
-        → AreMade B.clock calls first last
-        → KeepsDisk (after_all calls disk) (B.clock last) }
+        → KeepsDisk disk (B.seen first).clock
+        → AreMade B.seen calls first last
+        → KeepsDisk (after_all calls disk) (B.seen last).clock }
 {}
 
 /// What the definitions of the disk model amount to.
@@ -52,13 +53,13 @@ pub fn disk_model_words()
         → LeftNow (clock_of past) left ↔ MayLeave (disk_of past) rests
         left }
     ensures printing { (past : Past) (part missing : List ℕ)
-        → (clock_of (with_change (printed (part ++ missing)) past)).may_leave_since
-        (clock_of past).now (record (held_of past).here { out = (held_of past).here.out ++ part }) }
+        → (clock_of (with_act (prints (part ++ missing)) past)).may_leave_since
+        (clock_of past).now (record (now_of past).here { out = (now_of past).here.out ++ part }) }
 
     // During a call of its device it leaves the store as before the call and as after it.
-    ensures acting { (past : Past) (change : DeviceChange) (store : List Stored)
-        → Becomes (device_step change (device_in (held_of past))).store
-        (held_of past).here.store store
-        → (clock_of (with_change (acted change) past)).may_leave_since (clock_of past).now
-        (record (held_of past).here { store = store }) }
+    ensures acting { (past : Past) (call : DeviceCall) (store : List Stored)
+        → Becomes (after_device call (now_of past)).here.store
+        (now_of past).here.store store
+        → (clock_of (with_act (device call) past)).may_leave_since (clock_of past).now
+        (record (now_of past).here { store = store }) }
 {}

@@ -1,9 +1,9 @@
 //! A file of a board in memory as a crash may leave it.
 ghost use Rattle.std.specs.Prelude.{◌≡◌, ◌↔◌, ℕ, ◌≤◌, IsTrue, [], ◌∷◌, length, take, drop, List, IfOk, OnOk};
 ghost use Rattle.board_core.specs.Steps.FileHistory.{bytes_after, bytes_after_all, disk_after_all, range_of, ranges_of, ArePartedAtSync};
-ghost use Rattle.board_core.specs.Steps.History.{change_of, changes_of, first_bytes};
+ghost use Rattle.board_core.specs.Steps.History.{first_bytes};
 ghost use Rattle.board_core.specs.DiskModel.{settled_file};
-ghost use Rattle.board_core.specs.MemBoard.{synced};
+ghost use Rattle.board_core.specs.declared.history.MemChange.TheVariants.{Synced};
 ghost use Rattle.board_core.specs.Pick.{IsFilled, IsPicked};
 
 use crate::events::overlay_bytes;
@@ -20,7 +20,7 @@ pub fn picked_bytes(
     pick: Pick,
 ) -> Result<Vec<u8>, NoMemory>
     ensures { IfOk result (λ taken. IsPicked pick
-        (disk_after_all number (changes_of events.now) (first_bytes file)
+        (disk_after_all number events.now (first_bytes file)
         (settled_file (first_bytes file))) file.bytes.items taken.items) }
 {
     let MemFile { mut bytes, first } = file;
@@ -42,8 +42,8 @@ pub fn picked_bytes(
 // How many events there are up to and including the last sync of a file: 0 if it wasn't synced.
 fn events_to_last_sync(events: &[MemChange], number: FileNo) -> usize
     ensures within { result ≤ length events.now }
-    ensures parted { ArePartedAtSync number (changes_of (take result events.now))
-        (changes_of (drop result events.now)) (changes_of events.now) }
+    ensures parted { ArePartedAtSync number (take result events.now)
+        (drop result events.now) events.now }
 {
     let mut count = 0;
     for (place, event) in events.iter().enumerate() {
@@ -55,7 +55,7 @@ fn events_to_last_sync(events: &[MemChange], number: FileNo) -> usize
 }
 
 fn syncs(event: &MemChange, number: FileNo) -> bool
-    ensures { IsTrue result ↔ (change_of event.now ≡ synced number) }
+    ensures { IsTrue result ↔ (event.now ≡ Synced number) }
 {
     match event {
         MemChange::Synced(file) => *file == number,
@@ -65,7 +65,7 @@ fn syncs(event: &MemChange, number: FileNo) -> bool
 
 // Writes again what these events wrote into a file.
 fn repeat(bytes: &mut Vec<u8>, events: &[MemChange], number: FileNo) -> Result<(), NoMemory>
-    ensures { OnOk result (bytes.new.items ≡ bytes_after_all number (changes_of events.now)
+    ensures { OnOk result (bytes.new.items ≡ bytes_after_all number events.now
         bytes.old.items) }
 {
     for event in events {
@@ -76,7 +76,7 @@ fn repeat(bytes: &mut Vec<u8>, events: &[MemChange], number: FileNo) -> Result<(
 
 // No write began past the file's end.
 fn repeat_one(bytes: &mut Vec<u8>, event: &MemChange, number: FileNo) -> Result<(), NoMemory>
-    ensures { OnOk result (bytes.new.items ≡ bytes_after number (change_of event.now) bytes.old.items) }
+    ensures { OnOk result (bytes.new.items ≡ bytes_after number event.now bytes.old.items) }
 {
     match event {
         MemChange::Wrote(file, place, written) if *file == number => {
@@ -89,7 +89,7 @@ fn repeat_one(bytes: &mut Vec<u8>, event: &MemChange, number: FileNo) -> Result<
 
 // Sets each byte that these events wrote into a file.
 fn fill(bytes: &mut [u8], events: &[MemChange], number: FileNo, byte: u8)
-    ensures { IsFilled byte (ranges_of number (changes_of events.now)) bytes.old bytes.new }
+    ensures { IsFilled byte (ranges_of number events.now) bytes.old bytes.new }
 {
     for event in events {
         fill_one(bytes, event, number, byte);
@@ -97,7 +97,7 @@ fn fill(bytes: &mut [u8], events: &[MemChange], number: FileNo, byte: u8)
 }
 
 fn fill_one(bytes: &mut [u8], event: &MemChange, number: FileNo, byte: u8)
-    ensures { IsFilled byte (range_of number (change_of event.now)) bytes.old bytes.new }
+    ensures { IsFilled byte (range_of number event.now) bytes.old bytes.new }
 {
     match event {
         MemChange::Wrote(file, place, written) if *file == number => {

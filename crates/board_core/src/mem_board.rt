@@ -2,12 +2,13 @@
 ghost use Rattle.std.specs.Prelude.{◌≡◌, ◌++◌, [], ◌∷◌, min, IfOk, OnOk, OnErr};
 ghost use Rattle.erst_store.specs.DeviceLaws.{IsDevice};
 ghost use Rattle.board_core.specs.Clock.{LeftNow};
-ghost use Rattle.board_core.specs.MemBoard.{new_board, new_past, told_of, held_of, device_in, disk_of, clock_of};
-ghost use Rattle.board_core.specs.MemBoard.{fails_next, with_refusal, Faulted};
-ghost use Rattle.board_core.specs.Steps.MemBoardCalls.{Begins, Ends};
+ghost use Rattle.board_core.specs.MemBoard.{new_board, new_past, told_of, now_of, disk_of, clock_of};
+ghost use Rattle.board_core.specs.Cause.{device_call, disk_call};
+ghost use Rattle.board_core.specs.MemBoard.{fails_next, listing, listing_access, with_refusal, Faulted};
+ghost use Rattle.board_core.specs.Steps.MemBoardCalls.{Begins, Counts, Ends, kind_in};
 ghost use Rattle.board_core.specs.Pick.{IsPicked};
 ghost use Rattle.board_core.specs.Stop.{with_file_in};
-ghost use Rattle.board_core.specs.Told.{file_of};
+ghost use Rattle.board_core.specs.Told.{device_of, file_of};
 
 mod calls;
 
@@ -37,12 +38,11 @@ pub struct MemBoard {
     print_faults: u64,
 }
 
-// A call of the trait, with what is listed of it.
+// The kind of fault of a call that fails.
 #[derive(Clone, Copy)]
-enum BoardCall {
-    Disk(DiskCall),
-    Device(Access),
-    Put,
+enum Fault {
+    Disk,
+    Device,
     Print,
 }
 
@@ -63,7 +63,7 @@ impl Model for MemBoard {
       faults = record { disk = b.disk_faults; registers = b.register_faults; prints = b.print_faults };
     } };
 
-    ghost invariant = { λ b. b.made ≡ 0 → b.history.changes ≡ [] };
+    ghost invariant = { λ b. b.made ≡ 0 → b.history.acts ≡ [] };
 }
 
 impl MemBoard {
@@ -200,56 +200,67 @@ impl MemBoard {
         self.fails.contains(&next) || self.allowed < next
     }
 
-    // Counts and lists a call, which fails if it was chosen to, or if the list can't grow.
-    fn begin(&mut self, call: BoardCall) -> Result<(), Failed>
-        ensures does { Begins call self.old self.new result }
-        ensures device { IsDevice (device_in (held_of self.old.past)) }
+    // Counts and lists a disk call, which fails if it was chosen to, or if the list can't grow.
+    fn begin_disk(&mut self, call: DiskCall) -> Result<(), Failed>
+        ensures { Begins disk_call (listing call self.old) self.old self.new result }
+    {
+        let is_listed = self.disk_calls.push(call).is_ok();
+        self.begin(Fault::Disk, is_listed)
+    }
+
+    // The same of a device call.
+    fn begin_device(&mut self, access: Access) -> Result<(), Failed>
+        ensures does { Begins device_call (listing_access access self.old) self.old self.new
+            result }
+        ensures device { IsDevice (device_of (now_of self.old.past)) }
+    {
+        let is_listed = self.accesses.push(access).is_ok();
+        self.begin(Fault::Device, is_listed)
+    }
+
+    // Counts a call, which fails if it was chosen to, or if it isn't listed.
+    fn begin(&mut self, kind: Fault, is_listed: bool) -> Result<(), Failed>
+        ensures does { Counts (kind_in kind) is_listed self.old self.new result }
+        ensures device { IsDevice (device_of (now_of self.old.past)) }
     {
         let _device = self.history.store();
         let is_chosen = self.fails_next();
         self.made = self.made.saturating_add(1);
-        let is_refused = match call {
-            BoardCall::Disk(call) => self.disk_calls.push(call).is_err(),
-            BoardCall::Device(access) => self.accesses.push(access).is_err(),
-            BoardCall::Put | BoardCall::Print => false,
-        };
-        if is_refused {
-            return Err(self.starve(call));
+        if !is_listed {
+            return Err(self.starve(kind));
         }
         if is_chosen {
-            return Err(self.fault(call));
+            return Err(self.fault(kind));
         }
         Ok(())
     }
 
     // Ends a call that began successfully. It fails if memory for its change ran out.
-    fn end(&mut self, call: BoardCall, made: Result<(), NoMemory>) -> Result<(), Failed>
-        ensures { Ends call made self.old self.new result }
+    fn end(&mut self, kind: Fault, made: Result<(), NoMemory>) -> Result<(), Failed>
+        ensures { Ends (kind_in kind) made self.old self.new result }
     {
         match made {
             Ok(()) => Ok(()),
-            Err(NoMemory) => Err(self.starve(call)),
+            Err(NoMemory) => Err(self.starve(kind)),
         }
     }
 
     // Counts a call for which memory ran out.
-    fn starve(&mut self, call: BoardCall) -> Failed
-        ensures { Faulted call (with_refusal self.old) self.new }
+    fn starve(&mut self, kind: Fault) -> Failed
+        ensures { Faulted (kind_in kind) (with_refusal self.old) self.new }
     {
         self.starved = self.starved.saturating_add(1);
-        self.fault(call)
+        self.fault(kind)
     }
 
-    // Counts a fault of the call's kind.
-    fn fault(&mut self, call: BoardCall) -> Failed
-        ensures { Faulted call self.old self.new }
+    // Counts a fault of this kind.
+    fn fault(&mut self, kind: Fault) -> Failed
+        ensures { Faulted (kind_in kind) self.old self.new }
     {
-        match call {
-            BoardCall::Disk(_) => self.disk_faults = self.disk_faults.saturating_add(1),
-            BoardCall::Device(_) | BoardCall::Put => {
-                self.register_faults = self.register_faults.saturating_add(1);
-            }
-            BoardCall::Print => self.print_faults = self.print_faults.saturating_add(1),
+        match kind {
+            Fault::Disk => self.disk_faults = self.disk_faults.saturating_add(1),
+            Fault::Device => self.register_faults = self.register_faults.saturating_add(1),
+            Fault::Print => self.print_faults = self.print_faults.saturating_add(1),
         }
         Failed
     }

@@ -4,7 +4,7 @@ ghost use Rattle.erst_store.specs.DeviceLaws.{IsDevice};
 ghost use Rattle.erst_store.specs.Store.{refusal_of};
 ghost use Rattle.board_core.specs.Cause.{device_call, disk_call, put_failure};
 ghost use Rattle.board_core.specs.Clock.{Adds, After};
-ghost use Rattle.board_core.specs.Doing.{Does, looks, one_end, put_acts, through};
+ghost use Rattle.board_core.specs.Doing.{Does, one_end, put_acts, through};
 ghost use Rattle.board_core.specs.Stop.{InFile};
 ghost use Rattle.board_core.specs.Told.{AnswersPut, Torn, device_of, file_of};
 
@@ -23,13 +23,14 @@ pub fn write_through<B: Board>(
     bytes: &[u8],
     board: &mut B,
 ) -> Result<(), Failed>
-    requires { IfSome (B.told board.old) (λ told. place ≤ length (file_of file told)) }
-    ensures does { Does (looks B.told B.clock B.faults) (through file place bytes.now ∷ [])
+    requires { IfSome (B.seen board.old).told (λ told. place ≤ length (file_of file told)) }
+    ensures does { Does B.seen (through file place bytes.now ∷ [])
         (one_end disk_call result) board.old board.new }
     // This holds even if a crash before the call might have left something other than the model
     // says.
-    ensures stops { Adds (After (B.clock board.old) (InFile file (Torn place (length bytes.now))))
-        (B.clock board.old) (B.clock board.new) }
+    ensures stops { Adds (After (B.seen board.old).clock
+        (InFile file (Torn place (length bytes.now))))
+        (B.seen board.old).clock (B.seen board.new).clock }
 {
     board.write_at(file, place, bytes)?;
     board.sync(file)
@@ -40,11 +41,11 @@ pub fn write_through<B: Board>(
 /// `Refused`: with the store's own refusal, which follows from the model, or with `NoMemory`;
 /// nothing was done. `Failed`: the record may or may not have been put.
 pub fn put<B: Board>(id: u64, bytes: &[u8], board: &mut B) -> Result<(), BoardPut>
-    ensures does { Does (looks B.told B.clock B.faults) (put_acts id bytes.now result)
+    ensures does { Does B.seen (put_acts id bytes.now result)
         (one_end device_call (put_failure result)) board.old board.new }
-    ensures answers { IfSome (B.told board.old)
+    ensures answers { IfSome (B.seen board.old).told
         (λ t. AnswersPut result (refusal_of id bytes.now t.here.store)) }
-    ensures device { IfSome (B.told board.old) (λ t. IsDevice (device_of t)) }
+    ensures device { IfSome (B.seen board.old).told (λ t. IsDevice (device_of t)) }
 {
     board.put(id, bytes)
 }

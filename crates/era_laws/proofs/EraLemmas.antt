@@ -59,7 +59,7 @@ module _ (era : Era) (is : IsEra era) where
   abbrev at : Headline era.run era.here era.left
   at = is.leaves
 
-  printed-is : printed_in era ≡ at.printed
+  pub printed-is : printed_in era ≡ at.printed
   printed-is = ap (drop (length era.here.out)) at.text ∙ drop-front era.here.out at.printed
 
   done-is : done_in era ≡ at.done

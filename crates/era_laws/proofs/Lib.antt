@@ -2,6 +2,8 @@ pub mod EraLemmas
 pub mod EraOrderLemmas
 pub mod FoundLemmas
 pub mod PollLemmas
+pub mod PrintLemmas
+pub mod PrintedLemmas
 pub mod ReplayLemmas
 pub mod RunEraLemmas
 pub mod TakesLemmas

@@ -3,28 +3,32 @@ use Rattle.std.proofs.Common.{◌≡◌, ℕ, ◌+◌, ◌≤◌, List, [], ◌�
 use Rattle.std.specs.Prelude.{◌⊎◌, filter}
 use Rattle.std.specs.List.{AllByRecursion, flat_map}
 use Rattle.std.proofs.lemmas.List.{append_cancel_left}
-use Rattle.std.proofs.lemmas.List.Elements.{recursion_from_All}
+use Rattle.std.proofs.lemmas.List.Elements.{All-from_recursion, filter-append, recursion_from_All}
 use Rattle.board_core.specs.Stop.{Left}
-use Rattle.ras_base.specs.Places.{places}
+use Rattle.ras_base.specs.Places.{places, places_behind}
 use Rattle.ras_base.specs.Prefix.{IsPrefixOf}
+use Rattle.ras_base.specs.Steps.PlacesLemmas.{places_behind-append}
+use Rattle.ras_base.specs.Steps.PrefixLemmas.{IsPrefixOf-trans}
 use Rattle.ras_account.specs.Account.{State, account_of}
 use Rattle.ras_account.specs.Fresh.{fresh_entries}
 use Rattle.ras_account.specs.History.{History, with_entries}
 use Rattle.ras_facts.specs.declared.entry.Entry.{Entry}
 use Rattle.ras_journal.specs.Recovered.{Recovers}
-use Rattle.ras_events.specs.Reports.{Place, entries_at}
+use Rattle.ras_events.specs.Reports.{NumberedLine, Place, entries_at}
 use Rattle.ras_events.specs.Sizes.{IsFact}
 use Rattle.ras_run.specs.Places.{Start}
+use Rattle.ras_script.specs.Lines.{script_lines}
 use Rattle.ras_daemon.specs.Headline.{reported}
 use Rattle.ras_daemon.specs.Machine.{Run, account_upto}
 use Rattle.ras_daemon.specs.RunOf.{run_of}
-use Rattle.ras_daemon.specs.Runs.{CountTheSame, IsTakenWhole, PollsNothing, ReportsFacts, event_count, facts_of, logged}
-use Rattle.ras_daemon.specs.Script.{events_of, is_event, reads_of}
+use Rattle.ras_daemon.specs.Runs.{CountTheSame, IsNoPoll, IsTakenWhole, PollsNothing, ReportsFacts, event_count, facts_of, logged}
+use Rattle.ras_daemon.specs.Script.{events_of, is_event, reads_in, reads_of}
 use Rattle.ras_daemon.proofs.AgainLemmas.{counts-again, facts-again, facts_of-append}
 use Rattle.ras_daemon.proofs.HistoryLemmas.{again-counted, with_entries-append}
 use Rattle.ras_daemon.proofs.ListLemmas.{all-front, take-whole}
+use Rattle.ras_daemon.proofs.PlaceLemmas.{reads-append, reads_behind}
 use Rattle.ras_daemon.proofs.RunLawLemmas.{accounts-follow, events-front, logs-follow, prefix-flat_map, reported-any, taken-events}
-use Rattle.era_laws.specs.Eras.{AreEras, Counts, CountsEach, Era, IsReplayed, TakesScript, done_in, logged_in, logs_upto, reported_in, reports_upto}
+use Rattle.era_laws.specs.Eras.{AreEras, Counts, CountsEach, Era, IsReplayed, TakesFirst, TakesScript, done_in, logged_in, logs_upto, reported_in, reports_upto}
 use Rattle.era_laws.proofs.EraLemmas.{counts-of, leaves-history, logs-along, one-account}
 use Rattle.era_laws.proofs.TakesLemmas.{takes-count, takes-reports, whole-account, whole-logs}
 
@@ -47,12 +51,33 @@ module _ (script : List ℕ) (polls : PollsNothing script) (one : Start) (whole 
   pub last-reports : (next : Start) (n : ℕ) → IsTakenWhole next script → event_count next script ≤ n → reported next script n ≡ all
   last-reports next n taken most = whole-reports next n most ∙ ap by-any (taken-events next script taken) ∙ sym all-reports
 
-  -- and any other one a beginning of it
-  pub reports-front : (next : Start) (n : ℕ) → IsPrefixOf (reported next script n) all
-  reports-front next n =
-      subst (λ (es : List Entry). IsPrefixOf es all) (sym (reported-any next [] script n polls))
-      (subst (IsPrefixOf (by-any (take n (events_of next script)))) (sym all-reports)
-      (prefix-flat_map (entries_at []) (take n (events_of next script)) (filter is_event (places (reads_of script))) (events-front next script n)))
+  -- and a run of its first lines a beginning of it
+  module _ (own : List ℕ) (first : IsPrefixOf (script_lines own).whole (script_lines script).whole) where
+    abbrev more : List NumberedLine
+    more = reads_behind (script_lines own).whole first.0
+
+    reads-split : reads_of script ≡ reads_of own ++ more
+    reads-split = ap reads_in (sym first.1) ∙ reads-append (script_lines own).whole first.0
+
+    own-polls : PollsNothing own
+    own-polls =
+        All-from_recursion IsNoPoll (reads_of own)
+        (all-front IsNoPoll (reads_of own) more (subst (AllByRecursion IsNoPoll) reads-split (recursion_from_All IsNoPoll (reads_of script) polls)))
+
+    own-events : IsPrefixOf (filter is_event (places (reads_of own))) (filter is_event (places (reads_of script)))
+    own-events = (
+      filter is_event (places_behind (reads_of own) more),
+      sym (filter-append is_event (places (reads_of own)) (places_behind (reads_of own) more))
+          ∙ ap (filter is_event) (sym (ap places reads-split ∙ places_behind-append [] (reads_of own) more)),
+    )
+
+    pub reports-front : (next : Start) (n : ℕ) → IsPrefixOf (reported next own n) all
+    reports-front next n =
+        let events : List Place = filter is_event (places (reads_of script)) in
+        subst (λ (es : List Entry). IsPrefixOf es all) (sym (reported-any next [] own n own-polls))
+        (subst (IsPrefixOf (by-any (take n (events_of next own)))) (sym all-reports)
+        (prefix-flat_map (entries_at []) (take n (events_of next own)) events
+        (IsPrefixOf-trans (take n (events_of next own)) (filter is_event (places (reads_of own))) events (events-front next own n) own-events)))
 
   -- ---- one run after another, and one that isn't stopped
 
@@ -69,11 +94,12 @@ module _ (script : List ℕ) (polls : PollsNothing script) (one : Start) (whole 
     ends n counted = takes-reports script last takes n ∙ last-reports takes.start n taken (most n counted)
 
     -- and another one
-    other-front : (era : Era) (n : ℕ) → TakesScript script era → IsPrefixOf (reports_upto era.run n) all
-    other-front era n other = subst (λ (es : List Entry). IsPrefixOf es all) (sym (takes-reports script era other n)) (reports-front other.start n)
+    other-front : (era : Era) (n : ℕ) → TakesFirst script era → IsPrefixOf (reports_upto era.run n) all
+    other-front era n other =
+        subst (λ (es : List Entry). IsPrefixOf es all) (sym (takes-reports other.own era other.takes n)) (reports-front other.own other.first other.takes.start n)
 
     abbrev TakeIt : List Era → Type 0
-    TakeIt eras = AllByRecursion (TakesScript script) eras
+    TakeIt eras = AllByRecursion (TakesFirst script) eras
 
     -- The account at the end is the one of all that is reported, as far as these are the same.
     module _ (Same : State → State → Type 0) (self : (a : State) → Same a a) (chain : (a b c : State) → Same a b → Same b c → Same a c)
@@ -126,8 +152,8 @@ module _ (history : History) (one : Start) (script : List ℕ) (here : Left) (er
   undisturbed-is : account_of (with_entries history reports-all) ≡ undisturbed
   undisturbed-is = sym (whole-account one script ∙ accounts-follow history one is.begins script (event_count one script))
 
-  others : AllByRecursion (TakesScript script) eras
-  others = recursion_from_All (TakesScript script) eras is.takes
+  others : AllByRecursion (TakesFirst script) eras
+  others = recursion_from_All (TakesFirst script) eras is.takes
 
   pub replayed-counts : (now : State) → Recovers now last.left → CountTheSame now undisturbed
   replayed-counts now of =

@@ -1,8 +1,9 @@
 -- Eras, from what `rasd` promises of a run.
-use Rattle.std.proofs.Common.{◌≡◌, ℕ, ◌≤◌, List, Option, arith, inl, inr, refl, sym, ap, subst}
+use Rattle.std.proofs.Common.{◌≡◌, ℕ, ◌≤◌, List, arith, inl, inr, refl, sym, ap, subst}
 use Rattle.std.specs.Prelude.{◌⊎◌}
 use Rattle.board_core.specs.Clock.{Clock, LeftNow}
 use Rattle.board_core.specs.Stop.{Left}
+use Rattle.board_core.specs.Doing.{Seen}
 use Rattle.board_core.specs.Told.{Told}
 use Rattle.ras_account.specs.Account.{State}
 use Rattle.ras_exit.specs.declared.exit.Exit.{Exit}
@@ -21,7 +22,7 @@ stops-recover clock account t recovers only left now = record {
   store = ap (λ (l : Left). l.store) (only left now);
 }
 
-module _ {X : Type 0} (told : X → Option Told) (clock : X → Clock) (old new : X) (account : State) (t : Told) (script : List ℕ) (opens : Recovers account t.here) where
+module _ {X : Type 0} (see : X → Seen) (old new : X) (account : State) (t : Told) (script : List ℕ) (opens : Recovers account t.here) where
   abbrev start : Start
   start = start_of account t
 
@@ -32,34 +33,34 @@ module _ {X : Type 0} (told : X → Option Told) (clock : X → Clock) (old new 
   is-era left leaves = record { opens = opens; store = refl; leaves = leaves }
 
   -- from the moment at which the opening is answered
-  pub era-settled : (left : Left) (settles : Settles told clock start script t old new) → (clock new).may_leave_since (clock settles.opened).now left → Leaves left
+  pub era-settled : (left : Left) (settles : Settles see start script t old new) → (see new).clock.may_leave_since (see settles.opened).clock.now left → Leaves left
   era-settled left settles may = is-era left (settles.from left may)
 
-  module _ (exit : Exit) (Same : Type 0) (stops : RunStops told clock exit Same start script t old new) where
+  module _ (exit : Exit) (Same : Type 0) (stops : RunStops see exit Same start script t old new) where
     -- a stop at any moment of the run
-    pub era-stopped : StopsRecover start (clock old) → (left : Left) → (clock new).may_leave_since (clock old).now left → Leaves left
+    pub era-stopped : StopsRecover start (see old).clock → (left : Left) → (see new).clock.may_leave_since (see old).clock.now left → Leaves left
     era-stopped recover left may = is-era left (stops.once recover left may)
 
     -- what is told at its end, if a stop at the end may leave that
-    pub era-ended : StopsRecover start (clock old)
-        → ((s t : ℕ) (left : Left) → s ≤ t → (clock new).may_leave_since t left → (clock new).may_leave_since s left)
-        → (left : Left) → LeftNow (clock new) left → Leaves left
-    era-ended recover earlier left now = era-stopped recover left (earlier (clock old).now (clock new).now left stops.later now)
+    pub era-ended : StopsRecover start (see old).clock
+        → ((s t : ℕ) (left : Left) → s ≤ t → (see new).clock.may_leave_since t left → (see new).clock.may_leave_since s left)
+        → (left : Left) → LeftNow (see new).clock left → Leaves left
+    era-ended recover earlier left now = era-stopped recover left (earlier (see old).clock.now (see new).clock.now left stops.later now)
 
     -- a run that began while the machine went on
-    pub era-went-on : (left : Left) → (clock new).may_leave_since (clock old).now left → LeftNow (clock old) left ⊎ Leaves left
+    pub era-went-on : (left : Left) → (see new).clock.may_leave_since (see old).clock.now left → LeftNow (see old).clock left ⊎ Leaves left
     era-went-on left may = by stops.settled
       where
         began : AtOpening start t.here.out left → Leaves left
         began opening = is-era left (headline-nothing start script t.here left opening.text opening.recovers opening.store)
 
-        here : LeftNow (clock old) left ⊎ AtOpening start t.here.out left → LeftNow (clock old) left ⊎ Leaves left
+        here : LeftNow (see old).clock left ⊎ AtOpening start t.here.out left → LeftNow (see old).clock left ⊎ Leaves left
         here (inl now) = inl now
         here (inr opening) = inr (began opening)
 
-        by : Settles told clock start script t old new ⊎ NeverOpens exit Same start t.here (clock old) (clock new) → LeftNow (clock old) left ⊎ Leaves left
-        by (inl settles) = elim (settles.behind.each (clock old).now left settles.before.later may) [
-          | inl was ↦ elim (settles.before.each (clock old).now left (omega arith) was) [ inl now ↦ inl now | inr opening ↦ here opening ]
+        by : Settles see start script t old new ⊎ NeverOpens exit Same start t.here (see old).clock (see new).clock → LeftNow (see old).clock left ⊎ Leaves left
+        by (inl settles) = elim (settles.behind.each (see old).clock.now left settles.before.later may) [
+          | inl was ↦ elim (settles.before.each (see old).clock.now left (omega arith) was) [ inl now ↦ inl now | inr opening ↦ here opening ]
           | inr leaves ↦ inr (is-era left leaves)
         ]
         by (inr never) = here (never.always left may)

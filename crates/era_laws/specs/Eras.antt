@@ -15,7 +15,9 @@ use Rattle.ras_journal.specs.Recovered.{Recovers}
 use Rattle.ras_panic.specs.Reading.{stored_name}
 use Rattle.ras_events.specs.Preparing.{orders_along_entries}
 use Rattle.ras_events.specs.Stores.{read_stored}
+use Rattle.ras_base.specs.Prefix.{IsPrefixOf}
 use Rattle.ras_run.specs.Places.{Start}
+use Rattle.ras_script.specs.Lines.{script_lines}
 use Rattle.ras_events.specs.DoneLines.{done_count}
 use Rattle.ras_daemon.specs.Headline.{Headline}
 use Rattle.ras_daemon.specs.Machine.{Run, RunEvent, StoreChange, account_upto, change_next, changes_upto, last_changed, puts, text_upto}
@@ -132,15 +134,21 @@ pub record TakesScript (script : List ℕ) (era : Era) : Type 0 where
   pub start : Start
   pub is : era.run ≡ run_of start script
 
+-- the run of an era is the run of a script whose lines are the first lines of another script, or all of them
+pub record TakesFirst (script : List ℕ) (era : Era) : Type 0 where
+  pub own : List ℕ
+  pub takes : TakesScript own era
+  pub first : IsPrefixOf (script_lines own).whole (script_lines script).whole
+
 -- A script without polls is run again from its first line after each crash, until a last run has all of its
--- events done.
+-- events done. Meanwhile it may grow at its end: each run takes as many lines as there were at that time.
 pub record IsReplayed (history : History) (undisturbed : Start) (script : List ℕ) (here : Left) (eras : List Era) (last : Era) : Type 0 where
   -- The files give the account of a history, with which the uninterrupted run begins too.
   pub opens : Recovers (account_of history) here
   pub begins : BeginsWith history undisturbed
-  -- All eras run the script.
+  -- All eras run first lines of the script, and the last one all of it.
   pub follow : AreEras here (eras ++ last ∷ [])
-  pub takes : All (TakesScript script) eras
+  pub takes : All (TakesFirst script) eras
   pub ends : TakesScript script last
   pub polls : PollsNothing script
   -- Neither the uninterrupted run nor the last one refuses a line, and the last one printed all done lines.

@@ -2,7 +2,7 @@
 
 ghost use Rattle.std.specs.Prelude.{◌≡◌, ◌≤◌, ◌⊎◌, ◌++◌, ℕ, List, [], ◌∷◌, length, Some, All};
 ghost use Rattle.std.specs.Prelude.{if◌then◌else◌};
-ghost use Rattle.std.specs.List.{IsDistinct};
+ghost use Rattle.std.specs.List.{IsDistinct, flat_map};
 ghost use Rattle.std.specs.Map.{lookup};
 ghost use Rattle.board_core.specs.Clock.{LeftNow, Rests};
 ghost use Rattle.board_core.specs.Stop.{Becomes, Left};
@@ -35,6 +35,7 @@ ghost use Rattle.era_laws.specs.Eras.{AreEras, Counts, CountsEach, Era, IsEra, I
 ghost use Rattle.era_laws.specs.Eras.{IsReplayed, TakesScript, done_in, era_of, last_laid_in};
 ghost use Rattle.era_laws.specs.Eras.{left_after, logged_in, logs_upto, ordered_in, orders_upto};
 ghost use Rattle.era_laws.specs.Eras.{reported_in, reports_upto};
+ghost use Rattle.era_laws.specs.Printed.{Print, PrintsEach, TakesSome, names_told, told_in};
 
 use board_core::{Board, Source};
 
@@ -47,14 +48,15 @@ use board_core::{Board, Source};
 /// - `counts`, `accounts` and `histories` say what the files give after all eras: the first account
 ///   with the events that are done by what each era printed, and with at most one more event of
 ///   each.
-/// - `logged` and `once` say that over all eras no name is logged twice.
+/// - `logged` and `once` say that over all eras no name is logged twice, `printed` and
+///   `printed_once` that none is printed as new twice.
 /// - `ordered`, `page` and `module` say that nothing is ordered twice. `page_stands` and
 ///   `module_stands` say that the account that is left has all that was ordered.
 /// - `records` and `cut` say that each readable record that was last put or saved is in the store,
 ///   or the account knows its name.
 /// - `replayed`, `same` and `together` say that a script without polls that is run again after each
-///   crash gives what it gives in one run. `polled` and `polled_whole` say what holds of a script
-///   that polls.
+///   crash, and may grow meanwhile, gives what it gives in one run. `polled` and `polled_whole` say
+///   what holds of a script that polls.
 pub fn era_laws()
     // Of each era the files count the events that are done by what it printed, or one more. They
     // give the first account with what these events report, in order.
@@ -68,7 +70,8 @@ pub fn era_laws()
         → Recovers (account_of (with_entries history (reported_in eras counts)))
         (left_after here eras) }
 
-    // What is logged follows era by era, and over all eras no name is logged twice.
+    // What is logged follows era by era, and over all eras no name is logged twice. Nor is a name
+    // printed as new twice.
     ensures logged { (history : History) (here : Left) (eras : List Era) (counts : List ℕ)
         → Recovers (account_of history) here → AreEras here eras → CountsEach eras counts
         → fresh_entries (with_entries history (reported_in eras counts))
@@ -76,6 +79,17 @@ pub fn era_laws()
     ensures once { (history : History) (here : Left) (eras : List Era) (counts : List ℕ)
         → Recovers (account_of history) here → AreEras here eras → CountsEach eras counts
         → IsDistinct same_name (names_of (fresh_entries history ++ logged_in eras counts)) }
+    ensures printed_once { (history : History) (here : Left) (eras : List Era)
+        → Recovers (account_of history) here → AreEras here eras → All TakesSome eras
+        → (prints : List (List Print)) × PrintsEach eras prints
+        × IsDistinct same_name (names_of (fresh_entries history) ++ names_told prints) }
+
+    // For nothing is printed of an event before its report is counted. So the new reports among
+    // what the eras printed are those that are logged, in order, up to where a crash cut them off.
+    ensures printed { (here : Left) (eras : List Era) (counts : List ℕ)
+        → AreEras here eras → CountsEach eras counts → All TakesSome eras
+        → (prints : List (List Print)) × PrintsEach eras prints
+        × (flat_map told_in prints ≡ facts_of (logged_in eras counts)) }
 
     // What is ordered follows era by era too. Over all eras a page is taken offline at most once
     // softly and at most once hard, and never softly after that. Since the last upgrade marker a
@@ -129,9 +143,10 @@ pub fn era_laws()
         → let laid = store_upto era.run (done_in era) in
         Becomes (store_changed laid (puts r)) laid era.left.store }
 
-    // If a script without polls is run again from its first line after each crash, the account in
-    // the end is that of one uninterrupted run, except for the number of entries, because limits
-    // are set again. If the script reports only facts, that number is the same too.
+    // If a script without polls, which may grow at its end, is run again from its first line after
+    // each crash, the account in the end is that of one uninterrupted run of all of it, except for
+    // the number of entries, because limits are set again. If the script reports only facts, that
+    // number is the same too.
     ensures replayed { (history : History) (undisturbed : Start) (script : List ℕ) (here : Left)
         (eras : List Era) (last : Era) (now : State)
         → IsReplayed history undisturbed script here eras last → Recovers now last.left
@@ -179,22 +194,22 @@ pub fn run_eras<S: Source, B: Board>()
     // If a crash now leaves exactly what the board's model says, as after the machine starts, then
     // a crash at a run's start leaves the account and the record store that the run starts with.
     ensures begins { (board : B) (account : State) (t : Told) → Recovers account t.here
-        → Rests t (B.told board) (B.clock board)
-        → StopsRecover (start_of account t) (B.clock board) }
+        → Rests t (B.seen board).told (B.seen board).clock
+        → StopsRecover (start_of account t) (B.seen board).clock }
 
     // Whatever a crash at any point of the run leaves is then the end of an era, by `rasd/stops`.
     // So is what the board's model says when the run ends.
     ensures stopped { (exit : Exit) (first last : S) (old new : B)
         (account : State) (t : Told) (script : List ℕ) (left : Left)
-        → Recovers account t.here → StopsRecover (start_of account t) (B.clock old)
-        → RunStops B.told B.clock exit (last ≡ first) (start_of account t) script t old new
-        → (B.clock new).may_leave_since (B.clock old).now left
+        → Recovers account t.here → StopsRecover (start_of account t) (B.seen old).clock
+        → RunStops B.seen exit (last ≡ first) (start_of account t) script t old new
+        → (B.seen new).clock.may_leave_since (B.seen old).clock.now left
         → IsEra (era_of account t script left) }
     ensures ended { (exit : Exit) (first last : S) (old new : B)
         (account : State) (t now : Told) (script : List ℕ)
-        → Recovers account t.here → StopsRecover (start_of account t) (B.clock old)
-        → RunStops B.told B.clock exit (last ≡ first) (start_of account t) script t old new
-        → B.told new ≡ Some now → IsEra (era_of account t script now.here) }
+        → Recovers account t.here → StopsRecover (start_of account t) (B.seen old).clock
+        → RunStops B.seen exit (last ≡ first) (start_of account t) script t old new
+        → (B.seen new).told ≡ Some now → IsEra (era_of account t script now.here) }
 
     // After a process is killed the machine goes on, and writes may not be durable yet. A crash
     // during the next run leaves the end of an era of that run from the point at which its journal
@@ -202,15 +217,15 @@ pub fn run_eras<S: Source, B: Board>()
     // run might have left.
     ensures settled { (old new : B) (account : State) (t : Told) (script : List ℕ) (left : Left)
         → Recovers account t.here
-        → (settles : Settles B.told B.clock (start_of account t) script t old new)
-        → (B.clock new).may_leave_since (B.clock settles.opened).now left
+        → (settles : Settles B.seen (start_of account t) script t old new)
+        → (B.seen new).clock.may_leave_since (B.seen settles.opened).clock.now left
         → IsEra (era_of account t script left) }
     ensures went_on { (exit : Exit) (first last : S) (old new : B)
         (account : State) (t : Told) (script : List ℕ) (left : Left)
         → Recovers account t.here
-        → RunStops B.told B.clock exit (last ≡ first) (start_of account t) script t old new
-        → (B.clock new).may_leave_since (B.clock old).now left
-        → LeftNow (B.clock old) left ⊎ IsEra (era_of account t script left) }
+        → RunStops B.seen exit (last ≡ first) (start_of account t) script t old new
+        → (B.seen new).clock.may_leave_since (B.seen old).clock.now left
+        → LeftNow (B.seen old).clock left ⊎ IsEra (era_of account t script left) }
 {}
 
 /// What the events of a script's run report, log and order is what `run_laws` says of the script's

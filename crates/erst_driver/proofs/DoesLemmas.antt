@@ -8,7 +8,7 @@ use Rattle.erst_store.specs.Store.{Stored}
 use Rattle.board_core.specs.Cause.{device_call}
 use Rattle.board_core.specs.Clock.{Adds, Passes, Rests, StoreIsLeft}
 use Rattle.board_core.specs.Steps.ClockLemmas.{adds_at_rest, rests_store, rests_stored}
-use Rattle.board_core.specs.Doing.{DeviceCall, Does, FailsActs, Moment, Raises, Seen, TornDevice, after_acts, after_device, broke, ended_by, went_well, reg_read, reg_write, range_read, range_write, put}
+use Rattle.board_core.specs.Doing.{DeviceCall, Does, FailsActs, Moment, Raises, Seen, Tears, after_acts, after_device, broke, device, ended_by, went_well, reg_read, reg_write, range_read, range_write, put}
 use Rattle.board_core.specs.Stop.{Becomes, InStore, Left}
 use Rattle.board_core.specs.Told.{Relates, Told}
 use Rattle.erst_interp.specs.declared.entries.InstructionEntry.{InstructionEntry}
@@ -27,14 +27,14 @@ use Rattle.erst_driver.specs.Operations.{AreInside, Inside, checks, device_calls
 
 -- ---- lists of calls
 
-torn_before : (call : DeviceCall) (t : Told) → TornDevice call t t.here
+torn_before : (call : DeviceCall) (t : Told) → Tears (device call) (Some t) t.here t.here
 torn_before (reg_read reg) t = refl
 torn_before (reg_write reg value) t = record { store = t.here.store; step = inl refl; rest = refl }
 torn_before (range_read place count) t = refl
 torn_before (range_write place bytes) t = refl
 torn_before (put id bytes) t = record { store = t.here.store; step = inl refl; rest = refl }
 
-torn_after : (call : DeviceCall) (t : Told) → TornDevice call t (after_device call t).here
+torn_after : (call : DeviceCall) (t : Told) → Tears (device call) (Some t) t.here (after_device call t).here
 torn_after (reg_read reg) t = refl
 torn_after (reg_write reg value) t = record { store = (after_device (reg_write reg value) t).here.store; step = inr refl; rest = refl }
 torn_after (range_read place count) t = refl

@@ -1,7 +1,6 @@
 //! The operations on the record store.
 
 ghost use Rattle.std.specs.Prelude.{◌≡◌, ◌≤◌, length, IfSome, IfOk, OnOk};
-ghost use Rattle.board_core.specs.Doing.{looks};
 ghost use Rattle.erst_store.specs.Actions.{range_length};
 ghost use Rattle.ras_base.specs.LittleEndian.{number_at};
 ghost use Rattle.erst_store.specs.Device.{header_length, length_place};
@@ -71,7 +70,7 @@ impl Driver {
     /// a crash before might have left, with the record or without it.
     /// [`crate::operations_on_the_store`] says what the calls themselves leave.
     pub fn clear<B: Board>(&self, id: u64, board: &mut B) -> Result<(), DriverRefused>
-        ensures clears { RunsOperation (looks B.told B.clock B.faults)
+        ensures clears { RunsOperation B.seen
             (clear_calls self.now id) (answer_on_found id) (Clears id) result board.old board.new }
     {
         let steps = clear_steps(id);
@@ -94,9 +93,9 @@ impl Driver {
         board: &mut B,
     ) -> Result<(), DriverRefused>
         requires { length buf.old ≡ range_length }
-        ensures reads { RunsOperation (looks B.told B.clock B.faults)
+        ensures reads { RunsOperation B.seen
             (read_calls self.now id) (answer_on_found id) Stays result board.old board.new }
-        ensures record_read { OnOk result (IfSome (B.told board.old)
+        ensures record_read { OnOk result (IfSome (B.seen board.old).told
             (λ t. HoldsRecord id t.here.store buf.new)) }
     {
         let steps = read_steps(id);
@@ -121,7 +120,7 @@ impl Driver {
         requires fits { (header_length ≤ length bytes.now)
             × (length bytes.now ≤ range_length) }
         requires whole { number_at length_place 4 bytes.now ≡ length bytes.now }
-        ensures writes { RunsOperation (looks B.told B.clock B.faults)
+        ensures writes { RunsOperation B.seen
             (write_calls self.now bytes.now) (answer_on_put (written_id bytes.now)) (Puts bytes.now)
             result board.old board.new }
     {
@@ -139,9 +138,9 @@ impl Driver {
     /// the call would leave the store in the model, a crash during it leaves what a crash before
     /// might have left.
     pub fn ids<B: Board>(&self, alloc: Global, board: &mut B) -> Result<Vec<u64>, DriverRefused>
-        ensures lists { ListsRecords (looks B.told B.clock B.faults) (list_calls self.now) result
+        ensures lists { ListsRecords B.seen (list_calls self.now) result
             board.old board.new }
-        ensures ids { IfOk result (λ found. IfSome (B.told board.old)
+        ensures ids { IfOk result (λ found. IfSome (B.seen board.old).told
             (λ t. found.items ≡ ids t.here.store)) }
         ensures few { IfOk result (λ found. length found.items ≤ most_records) }
     {
@@ -152,9 +151,9 @@ impl Driver {
     // Lists identifiers until the end of the list is returned.
     fn list_to_end<B: Board>(&self, board: &mut B) -> Result<(), DriverRefused>
         ensures lists { ListsOut self.now result
-            (looks B.told B.clock B.faults board.old)
-            (looks B.told B.clock B.faults board.new) }
-        ensures device { HasDevice self.now (B.told board.old) }
+            (B.seen board.old)
+            (B.seen board.new) }
+        ensures device { HasDevice self.now (B.seen board.old).told }
     {
         for _ in 0..MOST_LISTINGS {
             if self.table.run(GET_RECORD_IDENTIFIER as u8, 0, board)? == NO_RECORD {
@@ -168,8 +167,8 @@ impl Driver {
     // as many as a store can contain.
     fn collect<B: Board>(&self, alloc: Global, board: &mut B) -> Result<Vec<u64>, DriverRefused>
         ensures collects { Collects (λ v. v.items) self.now result
-            (looks B.told B.clock B.faults board.old)
-            (looks B.told B.clock B.faults board.new) }
+            (B.seen board.old)
+            (B.seen board.new) }
     {
         let mut found = Vec::new(alloc);
         for _ in 0..MOST_RECORDS {
@@ -190,10 +189,10 @@ impl Driver {
     fn operate<B: Board>(&self, steps: &[Step], board: &mut B) -> Result<(), DriverRefused>
         requires { AreInside steps.now }
         ensures operates { Operates self.now (actions_of steps.now) (answer_of steps.now) result
-            (looks B.told B.clock B.faults board.old)
-            (looks B.told B.clock B.faults board.new) }
+            (B.seen board.old)
+            (B.seen board.new) }
         ensures refused { IsAnswered result }
-        ensures device { HasDevice self.now (B.told board.old) }
+        ensures device { HasDevice self.now (B.seen board.old).told }
     {
         for step in steps {
             self.table.run(step.action as u8, step.input, board)?;
@@ -211,10 +210,10 @@ impl Driver {
     // Asks the device until it isn't busy.
     fn wait<B: Board>(&self, board: &mut B) -> Result<(), DriverRefused>
         ensures waits { Operates self.now (λ d. asks d.busy) (λ d. answer_within d.busy) result
-            (looks B.told B.clock B.faults board.old)
-            (looks B.told B.clock B.faults board.new) }
+            (B.seen board.old)
+            (B.seen board.new) }
         ensures refused { IsAnswered result }
-        ensures device { HasDevice self.now (B.told board.old) }
+        ensures device { HasDevice self.now (B.seen board.old).told }
     {
         for _ in 0..MOST_CHECKS {
             if self.table.run(CHECK_BUSY_STATUS as u8, 0, board)? == 0 {

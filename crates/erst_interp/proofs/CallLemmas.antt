@@ -1,17 +1,17 @@
--- Calls of the device one after another, each with what is told of it, what stops leave and which
--- counts rose.
+-- Calls of the device one after another, each with what becomes of the model, what a crash leaves and
+-- which counts rose.
 use Rattle.std.proofs.Common.{◌≡◌, ◌∙◌, ℕ, List, [], ◌∷◌, ◌++◌, Option, Some, None, refl, sym, ap, subst, inl, inr}
-use Rattle.std.specs.Prelude.{IfSome, Ok, Err}
+use Rattle.std.specs.Prelude.{IfSome, Result, Ok, Err}
 use Rattle.std.specs.Option.{option_map}
+use Rattle.erst_store.specs.Device.{Device}
 use Rattle.erst_store.specs.Store.{Stored}
 use Rattle.board_core.specs.declared.board.Reg.{Reg}
-use Rattle.board_core.specs.declared.board.Access.TheVariants.{Read, Write}
-use Rattle.board_core.specs.Cause.{FailsAs, device_call}
+use Rattle.board_core.specs.Cause.{device_call}
 use Rattle.board_core.specs.Clock.{After, Clock, Passes, StoreIsLeft}
-use Rattle.board_core.specs.Doing.{Act, DeviceCall, FailsDevice, Moment, Raises, Seen, after_acts, after_device, reg_read, reg_write}
-use Rattle.board_core.specs.Stop.{InStore, Left, Same}
+use Rattle.board_core.specs.Doing.{Act, DeviceCall, ActMade, Moment, Seen, ActSettles, Tears, after_acts, after_device, device, put, range_read, range_write, reg_read, reg_write}
+use Rattle.board_core.specs.Stop.{Becomes, InStore, Left, Same}
 use Rattle.board_core.specs.Steps.ClockLemmas.{not_told}
-use Rattle.board_core.specs.Told.{FailsAccess, Relates, Steps, StoreBy, Told, after_reg_write, device_of, on_device, register_in, with_access}
+use Rattle.board_core.specs.Told.{Steps, StoreBy, Told, after_put, after_reg_write, device_of, register_in}
 use Rattle.board_core.proofs.DoingLemmas.{broke_faults, moment_first, moment_then, steps_as, steps_then, well_faults}
 use Rattle.erst_interp.specs.Run.{IsCutShort, acts_of}
 use Rattle.erst_interp.specs.Steps.Running.{Cut, Fails, GoesWell, Made, Stays, StoreIn}
@@ -57,14 +57,20 @@ passes_same S same a b passes = record {
 
 -- ---- one call
 
-one_made : (call : DeviceCall) (a b : Seen) → Steps (λ t. after_device call t) a.told b.told → Passes (InStore (StoreIn (call ∷ []) a.told)) a.clock b.clock
-    → (StoreIsLeft a.told a.clock → StoreIsLeft b.told b.clock) → b.faults ≡ a.faults → Made (call ∷ []) a b
-one_made call a b told stops stored faults = record { told = told; well = record { kept = call_keeps call a.told b.told told; stops = stops; stored = stored; faults = faults } }
+-- what a crash during a call leaves of the store, as a moment of the call
+torn_in : (call : DeviceCall) (step : Device → Device) (told : Option Told) → ((t : Told) (y : List Stored) → InStore (Becomes (step (device_of t)).store) t.here (record t.here { store = y }) → Tears (device call) (Some t) t.here (record t.here { store = y }))
+    → (x y : List Stored) → StoreBy step told x y → StoreIn (call ∷ []) told x y
+torn_in call step None tears x y is = tt
+torn_in call step (Some t) tears x y is = elim is [ inl same ↦ inl same | inr new ↦ inr (inl (tears t y (record { store = y; step = inr new; rest = refl }))) ]
 
-one_cut : (call : DeviceCall) (a b : Seen) → Relates (FailsDevice call) a.told b.told → Passes (InStore (StoreIn (call ∷ []) a.told)) a.clock b.clock → Raises device_call a.faults b.faults → Cut (call ∷ []) a b
-one_cut call a b failed stops raises = record { told = one_fails call a.told b.told failed; fails = record { kept = call_fails_keeps call a.told b.told failed; stops = stops; raises = raises } }
+stops_in : (call : DeviceCall) (a b : Seen) → Passes (Tears (device call) a.told) a.clock b.clock → Passes (InStore (StoreIn (call ∷ []) a.told)) a.clock b.clock
+stops_in (reg_read reg) a b stops = passes_same (StoreIn (reg_read reg ∷ []) a.told) (stays_in (reg_read reg ∷ []) a.told) a.clock b.clock stops
+stops_in (reg_write reg n) a b stops = passes_more (StoreBy (after_reg_write reg n) a.told) (StoreIn (reg_write reg n ∷ []) a.told) (torn_in (reg_write reg n) (after_reg_write reg n) a.told (λ t y torn. torn)) a.clock b.clock stops
+stops_in (range_read place count) a b stops = passes_same (StoreIn (range_read place count ∷ []) a.told) (stays_in (range_read place count ∷ []) a.told) a.clock b.clock stops
+stops_in (range_write place bytes) a b stops = passes_same (StoreIn (range_write place bytes ∷ []) a.told) (stays_in (range_write place bytes ∷ []) a.told) a.clock b.clock stops
+stops_in (put id bytes) a b stops = passes_more (StoreBy (after_put id bytes) a.told) (StoreIn (put id bytes ∷ []) a.told) (torn_in (put id bytes) (after_put id bytes) a.told (λ t y torn. torn)) a.clock b.clock stops
 
--- A call that leaves the store: if a stop before leaves the store that is told, so does one after.
+-- A call that leaves the store: if a crash before leaves the store of the model, so does one after.
 stored_still : (call : DeviceCall) → ((t : Told) → (after_device call t).here ≡ t.here) → (a b : Seen) → Passes Same a.clock b.clock → Steps (λ t. after_device call t) a.told b.told
     → StoreIsLeft a.told a.clock → StoreIsLeft b.told b.clock
 stored_still call here a b stops told before u is left now = by a.told refl told
@@ -81,60 +87,58 @@ stored_still call here a b stops told before u is left now = by a.told refl told
         ap (λ (l : Left). l.store) from.by ∙ before t at from.from from.was
         ∙ ap (λ (l : Left). l.store) (sym (here t)) ∙ ap (λ (v : Told). v.here.store) (some (after_device call t) u (sym steps ∙ is))
 
+stored_in : (call : DeviceCall) (a b : Seen) → Steps (λ t. after_device call t) a.told b.told → Passes (Tears (device call) a.told) a.clock b.clock → ActSettles (device call) a b → StoreIsLeft a.told a.clock → StoreIsLeft b.told b.clock
+stored_in (reg_read reg) a b told stops settles = stored_still (reg_read reg) (λ t. refl) a b stops told
+stored_in (reg_write reg n) a b told stops settles = settles
+stored_in (range_read place count) a b told stops settles = stored_still (range_read place count) (λ t. refl) a b stops told
+stored_in (range_write place bytes) a b told stops settles = stored_still (range_write place bytes) (λ t. refl) a b stops told
+stored_in (put id bytes) a b told stops settles = settles
+
+pub one_made : {T E : Type 0} {x : T} (call : DeviceCall) (a b : Seen) → ActMade {T = T} {E = E} (device call) (Ok x) a b → Made (call ∷ []) a b
+one_made call a b made = record {
+  told = made.told;
+  well = record {
+    kept = call_keeps call a.told b.told made.told;
+    stops = stops_in call a b made.stops;
+    stored = stored_in call a b made.told made.stops made.settles;
+    faults = well_faults device_call a.faults b.faults made.cause;
+  };
+}
+
+pub one_cut : {T E : Type 0} {e : E} (call : DeviceCall) (a b : Seen) → ActMade {T = T} {E = E} (device call) (Err e) a b → Cut (call ∷ []) a b
+one_cut call a b made = record {
+  told = one_fails call a.told b.told made.failed;
+  fails = record {
+    kept = call_fails_keeps call a.told b.told made.failed;
+    stops = stops_in call a b made.stops;
+    raises = broke_faults device_call a.faults b.faults made.cause;
+  };
+}
+
 -- ---- calls that leave the store
 
-module _ (call : DeviceCall) (a b : Seen) (stops : Passes Same a.clock b.clock) where
-  still : Passes (InStore (StoreIn (call ∷ []) a.told)) a.clock b.clock
-  still = passes_same (StoreIn (call ∷ []) a.told) (stays_in (call ∷ []) a.told) a.clock b.clock stops
+pub quiet_well : {T E : Type 0} {x : T} (call : DeviceCall) (a b : Seen) → ((t : Told) → (after_device call t).here ≡ t.here) → Passes Same a.clock b.clock → ActMade {T = T} {E = E} (device call) (Ok x) a b → GoesWell Stays a b
+quiet_well call a b here stops made = record {
+  kept = call_keeps call a.told b.told made.told;
+  stops = passes_same Stays (λ x. refl) a.clock b.clock stops;
+  stored = stored_still call here a b stops made.told;
+  faults = well_faults device_call a.faults b.faults made.cause;
+}
 
-  pub quiet_made : {T E : Type 0} {x : T} → ((t : Told) → (after_device call t).here ≡ t.here) → Steps (λ t. after_device call t) a.told b.told → FailsAs {T = T} {E = E} device_call a.faults b.faults (Ok x)
-      → Made (call ∷ []) a b
-  quiet_made here told cause = one_made call a b told still (stored_still call here a b stops told) (well_faults device_call a.faults b.faults cause)
+pub quiet_fails : {T E : Type 0} {e : E} (call : DeviceCall) (a b : Seen) → Passes Same a.clock b.clock → ActMade {T = T} {E = E} (device call) (Err e) a b → Fails Stays a b
+quiet_fails call a b stops made = record {
+  kept = call_fails_keeps call a.told b.told made.failed;
+  stops = passes_same Stays (λ x. refl) a.clock b.clock stops;
+  raises = broke_faults device_call a.faults b.faults made.cause;
+}
 
-  pub quiet_cut : {T E : Type 0} {e : E} → Relates (FailsDevice call) a.told b.told → FailsAs {T = T} {E = E} device_call a.faults b.faults (Err e) → Cut (call ∷ []) a b
-  quiet_cut failed cause = one_cut call a b failed still (broke_faults device_call a.faults b.faults cause)
-
--- the same, with the store left as it was
-module _ (call : DeviceCall) (a b : Seen) (stops : Passes Same a.clock b.clock) where
-  pub quiet_well : {T E : Type 0} {x : T} → ((t : Told) → (after_device call t).here ≡ t.here) → Steps (λ t. after_device call t) a.told b.told → FailsAs {T = T} {E = E} device_call a.faults b.faults (Ok x)
-      → GoesWell Stays a b
-  quiet_well here told cause = record {
-    kept = call_keeps call a.told b.told told;
-    stops = passes_same Stays (λ x. refl) a.clock b.clock stops;
-    stored = stored_still call here a b stops told;
-    faults = well_faults device_call a.faults b.faults cause;
-  }
-
-  pub quiet_fails : {T E : Type 0} {e : E} → Relates (FailsDevice call) a.told b.told → FailsAs {T = T} {E = E} device_call a.faults b.faults (Err e) → Fails Stays a b
-  quiet_fails failed cause = record { kept = call_fails_keeps call a.told b.told failed; stops = passes_same Stays (λ x. refl) a.clock b.clock stops; raises = broke_faults device_call a.faults b.faults cause }
+-- a read of so many bytes
+pub read_of : {T E : Type 0} (result : Result T E) (place count n : ℕ) (a b : Seen) → count ≡ n → ActMade (device (range_read place count)) result a b → ActMade (device (range_read place n)) result a b
+read_of result place count n a b is made = subst (λ (k : ℕ). ActMade (device (range_read place k)) result a b) is made
 
 -- a register was read
 abbrev pub IsRead : Reg → ℕ → Option Told → Type 0
 IsRead reg n told = IfSome told (λ t. n ≡ register_in reg (device_of t))
-
-read_steps : (reg : Reg) (n : ℕ) (old new : Option Told) → IsRead reg n old → Steps (with_access (Read reg n)) old new → Steps (λ t. after_device (reg_read reg) t) old new
-read_steps reg n None new value told = told
-read_steps reg n (Some t) new value told = told ∙ ap (λ (k : ℕ). Some (with_access (Read reg k) t)) value
-
-pub read_made : {E : Type 0} (reg : Reg) (n : ℕ) (a b : Seen) → IsRead reg n a.told → Steps (with_access (Read reg n)) a.told b.told → Passes Same a.clock b.clock
-    → FailsAs {T = ℕ} {E = E} device_call a.faults b.faults (Ok n) → Made (reg_read reg ∷ []) a b
-read_made reg n a b value told stops cause = quiet_made (reg_read reg) a b stops (λ t. refl) (read_steps reg n a.told b.told value told) cause
-
--- one was written
-written : (reg : Reg) (n : ℕ) (told : Option Told) (x y : List Stored) → StoreBy (after_reg_write reg n) told x y → StoreIn (reg_write reg n ∷ []) told x y
-written reg n None x y is = tt
-written reg n (Some t) x y is = elim is [ inl same ↦ inl same | inr new ↦ inr (inl (record { store = y; step = inr new; rest = refl })) ]
-
-module _ (reg : Reg) (n : ℕ) (a b : Seen) (stops : Passes (InStore (StoreBy (after_reg_write reg n) a.told)) a.clock b.clock) where
-  acted : Passes (InStore (StoreIn (reg_write reg n ∷ []) a.told)) a.clock b.clock
-  acted = passes_more (StoreBy (after_reg_write reg n) a.told) (StoreIn (reg_write reg n ∷ []) a.told) (written reg n a.told) a.clock b.clock stops
-
-  pub write_made : {T E : Type 0} {x : T} → Steps (λ t. with_access (Write reg n) (on_device (after_reg_write reg n) t)) a.told b.told → (StoreIsLeft a.told a.clock → StoreIsLeft b.told b.clock)
-      → FailsAs {T = T} {E = E} device_call a.faults b.faults (Ok x) → Made (reg_write reg n ∷ []) a b
-  write_made told stored cause = one_made (reg_write reg n) a b told acted stored (well_faults device_call a.faults b.faults cause)
-
-  pub write_cut : {T E : Type 0} {e : E} → Relates (FailsAccess (Write reg n) (after_reg_write reg n)) a.told b.told → FailsAs {T = T} {E = E} device_call a.faults b.faults (Err e) → Cut (reg_write reg n ∷ []) a b
-  write_cut failed cause = one_cut (reg_write reg n) a b failed acted (broke_faults device_call a.faults b.faults cause)
 
 -- ---- none, and one after another
 

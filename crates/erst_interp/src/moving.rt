@@ -1,7 +1,6 @@
 //! The instruction that moves bytes of the range.
 
 ghost use Rattle.std.specs.Prelude.{◌+◌, ◌<◌, ◌^◌};
-ghost use Rattle.board_core.specs.Doing.{looks};
 ghost use Rattle.erst_interp.specs.Machine.{moved};
 ghost use Rattle.erst_interp.specs.Steps.Running.{IsPlace, Turns};
 
@@ -32,8 +31,8 @@ pub(crate) fn move_bytes<B: Board>(
 ) -> Result<Variables, RunRefused>
     requires { variables.index + 2 < 2 ^ 64 }
     ensures { Turns (λ s. moved offset s) variables result
-        (looks B.told B.clock B.faults board.old)
-        (looks B.told B.clock B.faults board.new) }
+        (B.seen board.old)
+        (B.seen board.new) }
 {
     let count = variables.var2;
     let Some(from) = place_of(variables.src, offset, count) else {

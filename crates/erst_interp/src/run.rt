@@ -1,7 +1,6 @@
 //! Runs of an action's list.
 
 ghost use Rattle.std.specs.Prelude.{◌<◌, ◌+◌, ◌^◌, ◌⊎◌, IfSome, IsTrue};
-ghost use Rattle.board_core.specs.Doing.{looks};
 ghost use Rattle.board_core.specs.Told.{device_of};
 ghost use Rattle.erst_store.specs.DeviceLaws.{IsDevice};
 ghost use Rattle.erst_interp.specs.Admission.{IsAdmitted};
@@ -36,12 +35,12 @@ impl Table {
     /// The list of an admitted table does its action, and returns no error but `Register`.
     pub fn run<B: Board>(&self, action: u8, input: u64, board: &mut B) -> Result<u64, RunRefused>
         ensures runs { RunsList (list_of action self.now) input result
-            (looks B.told B.clock B.faults board.old)
-            (looks B.told B.clock B.faults board.new) }
+            (B.seen board.old)
+            (B.seen board.new) }
         ensures admitted { IsAdmitted action (list_of action self.now)
             → RunsAction action input result
-            (looks B.told B.clock B.faults board.old)
-            (looks B.told B.clock B.faults board.new) }
+            (B.seen board.old)
+            (B.seen board.new) }
     {
         let list = self.list(action);
         let mut variables = Variables::new(input);
@@ -66,11 +65,11 @@ fn turn<B: Board>(
 ) -> Result<Variables, RunRefused>
     requires { variables.index + 2 < 2 ^ 64 }
     ensures turns { Turns (λ s. turn entry.now s) variables result
-        (looks B.told B.clock B.faults board.old)
-        (looks B.told B.clock B.faults board.new) }
+        (B.seen board.old)
+        (B.seen board.new) }
     ensures straight { IsTrue (is_straight entry.now) → GoesOn variables result }
-    ensures device { IsUnused entry.now result (B.told board.old) (B.told board.new)
-        ⊎ IfSome (B.told board.old) (λ t. IsDevice (device_of t)) }
+    ensures device { IsUnused entry.now result (B.seen board.old).told (B.seen board.new).told
+        ⊎ IfSome (B.seen board.old).told (λ t. IsDevice (device_of t)) }
 {
     let how = match entry.instruction.work() {
         Work::Unknown => return Err(RunRefused::BadInstruction),

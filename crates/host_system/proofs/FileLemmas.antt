@@ -1,19 +1,18 @@
 -- What a call of one of a board's files comes to, where a system tells.
-use Rattle.std.proofs.Common.{◌∷◌, ◌≡◌, ℕ, [], List, Some, refl, ap, sym, ◌∙◌, subst, inl, inr, ◌⊎◌, OnOk}
-use Rattle.std.specs.Prelude.{true, false, Option, None, IfSome, IsSome, Result, Ok, Err, OnErr}
+use Rattle.std.proofs.Common.{◌≡◌, ℕ, List, Some, refl, ap, sym, ◌∙◌, subst, inl, inr, ◌⊎◌, OnOk}
+use Rattle.std.specs.Prelude.{Option, None, IfSome, IsSome, Result, Ok, Err, OnErr}
 use Rattle.std.specs.Option.{option_map}
 use Rattle.board_core.specs.Clock.{untold, Passes}
-use Rattle.board_core.specs.DiskModel.{DiskFile}
 use Rattle.board_core.specs.Stop.{Left, Same}
 use Rattle.board_core.specs.declared.board.FileNo.{FileNo}
 use Rattle.board_core.specs.declared.board.FileNo.TheVariants.{Zero, One}
 use Rattle.host_system.specs.declared.system.FileName.TheVariants.{Journal}
-use Rattle.host_system.specs.BoardFile.{KeepsFileIn, other_than, KeepsOthersIn, KeepsOthers, SeesSame}
-use Rattle.host_system.specs.Folder.{FolderFile, NameEntry, Folder, opened, locked, lost, with_use, use_in, entry_named, settled_name, after_syncing, FolderChange, wrote, synced, made, opens, locks, loses, synced_names, folder_after, Stopped, MayLeaveFolder, During, bytes_now, here_in}
+use Rattle.host_system.specs.BoardFile.{IsUsableAs, KeepsFileIn, other_than, KeepsOthersIn, KeepsOthers, SeesSame, IsSettled}
+use Rattle.host_system.specs.Folder.{FolderFile, NameEntry, Folder, FileUse, opened, locked, lost, used, change_name, entry_named, FolderChange, wrote, synced, made, opens, locks, loses, synced_names, folder_after, Stopped, MayLeaveFolder, During, bytes_now, here_in}
 use Rattle.host_system.specs.FolderPast.{FolderPast, Did, IfTold, changed_by, folder_of, MayDo, IsMissing, bytes_or}
-use Rattle.host_system.specs.Steps.FolderLemmas.{AfterFolder, none_before, names_before, uses_before, sync_before, made_before}
+use Rattle.host_system.specs.Steps.FolderLemmas.{AfterFolder, none_before, names_before, used_before, sync_before, made_before, after_syncing}
 use Rattle.host_system.specs.Steps.FolderPastLemmas.{consistent_of, folder_of-more, passes_change, passes_then, stands}
-use Rattle.host_system.specs.View.{is_settled_file, is_settled, seen_as, seen_now, clock_over}
+use Rattle.host_system.specs.View.{IsDurable, seen_as, seen_now, clock_over}
 
 -- ---- what was done, and what may have been, where a system tells
 
@@ -39,23 +38,19 @@ weaker P Q implies (Some x) (Some y) is = implies x y is
 
 -- ---- files that stay as usable as they were
 
-pub keeps_file : (file : FileNo) (x y : Folder) → entry_named (Journal file) y ≡ entry_named (Journal file) x → use_in (Journal file) y.uses ≡ use_in (Journal file) x.uses → KeepsFileIn file x y
-keeps_file file x y entry how = record {
+pub keeps_file : (file : FileNo) (x y : Folder) → entry_named (Journal file) y ≡ entry_named (Journal file) x → KeepsFileIn file x y
+keeps_file file x y entry = record {
   named = λ is. ap (λ (e : NameEntry). e.others) entry ∙ is;
-  held = λ is. record { there = subst (λ (e : NameEntry). IsSome (bytes_now e)) (sym entry) is.there; is_locked = how ∙ is.is_locked };
-  usable = λ is. record {
-    there = subst (λ (e : NameEntry). IsSome (bytes_now e)) (sym entry) is.there;
-    named = ap (λ (e : NameEntry). e.others) entry ∙ is.named;
-    is_locked = how ∙ is.is_locked;
-  };
-  openable = λ is gone. is (sym how ∙ gone);
+  held = λ is. record { there = subst (λ (e : NameEntry). IsSome (bytes_now e)) (sym entry) is.there; is_locked = ap (λ (e : NameEntry). e.how) entry ∙ is.is_locked };
+  usable = λ is. subst IsUsableAs (sym entry) is;
+  openable = λ is gone. is (sym (ap (λ (e : NameEntry). e.how) entry) ∙ gone);
 }
 
-pub keeps_others : (file : FileNo) (x y : Folder) → y.store ≡ x.store → entry_named (Journal (other_than file)) y ≡ entry_named (Journal (other_than file)) x → use_in (Journal (other_than file)) y.uses ≡ use_in (Journal (other_than file)) x.uses → KeepsOthersIn file x y
-keeps_others file x y store entry how = record {
-  settled = λ is. ap is_settled store ∙ is;
-  whole = λ is. ap (λ (e : NameEntry). is_settled_file e.now) store ∙ is;
-  other = keeps_file (other_than file) x y entry how;
+pub keeps_others : (file : FileNo) (x y : Folder) → y.store ≡ x.store → entry_named (Journal (other_than file)) y ≡ entry_named (Journal (other_than file)) x → KeepsOthersIn file x y
+keeps_others file x y store entry = record {
+  settled = λ is. subst IsSettled (sym store) is;
+  whole = λ is. subst (λ (e : NameEntry). IsDurable e.now) (sym store) is;
+  other = keeps_file (other_than file) x y entry;
 }
 
 keeps_then : (file : FileNo) (x y z : FolderPast) → KeepsOthers file x y → KeepsOthers file y z → KeepsOthers file x z
@@ -71,42 +66,35 @@ pub record IsOf (file : FileNo) (change : FolderChange) : Type 0 where
   pub during : (f : Folder) (left : Stopped) → During change f left → MayLeaveFolder f left ⊎ MayLeaveFolder (folder_after change f) left
 
 of_made : (file : FileNo) → IsOf file (made (Journal file))
-of_made Zero = record { keeps = λ f. keeps_others Zero f (folder_after (made (Journal Zero)) f) refl refl refl; during = λ f left may. may }
-of_made One = record { keeps = λ f. keeps_others One f (folder_after (made (Journal One)) f) refl refl refl; during = λ f left may. may }
+of_made Zero = record { keeps = λ f. keeps_others Zero f (folder_after (made (Journal Zero)) f) refl refl; during = λ f left may. may }
+of_made One = record { keeps = λ f. keeps_others One f (folder_after (made (Journal One)) f) refl refl; during = λ f left may. may }
 
 of_opens : (file : FileNo) → IsOf file (opens (Journal file))
-of_opens Zero = record { keeps = λ f. keeps_others Zero f (folder_after (opens (Journal Zero)) f) refl refl refl; during = λ f left may. may }
-of_opens One = record { keeps = λ f. keeps_others One f (folder_after (opens (Journal One)) f) refl refl refl; during = λ f left may. may }
+of_opens Zero = record { keeps = λ f. keeps_others Zero f (folder_after (opens (Journal Zero)) f) refl refl; during = λ f left may. may }
+of_opens One = record { keeps = λ f. keeps_others One f (folder_after (opens (Journal One)) f) refl refl; during = λ f left may. may }
 
 of_locks : (file : FileNo) → IsOf file (locks (Journal file))
-of_locks Zero = record { keeps = λ f. keeps_others Zero f (folder_after (locks (Journal Zero)) f) refl refl refl; during = λ f left may. may }
-of_locks One = record { keeps = λ f. keeps_others One f (folder_after (locks (Journal One)) f) refl refl refl; during = λ f left may. may }
+of_locks Zero = record { keeps = λ f. keeps_others Zero f (folder_after (locks (Journal Zero)) f) refl refl; during = λ f left may. may }
+of_locks One = record { keeps = λ f. keeps_others One f (folder_after (locks (Journal One)) f) refl refl; during = λ f left may. may }
 
 of_loses : (file : FileNo) → IsOf file (loses (Journal file))
-of_loses Zero = record { keeps = λ f. keeps_others Zero f (folder_after (loses (Journal Zero)) f) refl refl refl; during = λ f left may. may }
-of_loses One = record { keeps = λ f. keeps_others One f (folder_after (loses (Journal One)) f) refl refl refl; during = λ f left may. may }
+of_loses Zero = record { keeps = λ f. keeps_others Zero f (folder_after (loses (Journal Zero)) f) refl refl; during = λ f left may. may }
+of_loses One = record { keeps = λ f. keeps_others One f (folder_after (loses (Journal One)) f) refl refl; during = λ f left may. may }
 
 of_synced : (file : FileNo) → IsOf file (synced (Journal file))
-of_synced Zero = record { keeps = λ f. keeps_others Zero f (folder_after (synced (Journal Zero)) f) refl refl refl; during = λ f left may. may }
-of_synced One = record { keeps = λ f. keeps_others One f (folder_after (synced (Journal One)) f) refl refl refl; during = λ f left may. may }
+of_synced Zero = record { keeps = λ f. keeps_others Zero f (folder_after (synced (Journal Zero)) f) refl refl; during = λ f left may. may }
+of_synced One = record { keeps = λ f. keeps_others One f (folder_after (synced (Journal One)) f) refl refl; during = λ f left may. may }
 
 pub of_wrote : (file : FileNo) (place count : ℕ) (bytes : List ℕ) → IsOf file (wrote (Journal file) place count bytes)
-of_wrote Zero place count bytes = record { keeps = λ f. keeps_others Zero f (folder_after (wrote (Journal Zero) place count bytes) f) refl refl refl; during = λ f left may. may }
-of_wrote One place count bytes = record { keeps = λ f. keeps_others One f (folder_after (wrote (Journal One) place count bytes) f) refl refl refl; during = λ f left may. may }
-
-settled_settles : (entry : NameEntry) (others : List (Option DiskFile)) → is_settled (record { now = entry.now; others = others }) ≡ true → is_settled (settled_name entry) ≡ true
-settled_settles entry [] is = is
-settled_settles entry (x ∷ xs) is = absurd (false_true is)
-  where
-    false_true : false ≡ true → ⊥
-    false_true e = cc
+of_wrote Zero place count bytes = record { keeps = λ f. keeps_others Zero f (folder_after (wrote (Journal Zero) place count bytes) f) refl refl; during = λ f left may. may }
+of_wrote One place count bytes = record { keeps = λ f. keeps_others One f (folder_after (wrote (Journal One) place count bytes) f) refl refl; during = λ f left may. may }
 
 named_keeps : (file : FileNo) (f : Folder) → KeepsFileIn file f (folder_after synced_names f)
 named_keeps Zero f = record { named = λ is. refl; held = λ is. record { there = is.there; is_locked = is.is_locked }; usable = λ is. record { there = is.there; named = refl; is_locked = is.is_locked }; openable = λ is. is }
 named_keeps One f = record { named = λ is. refl; held = λ is. record { there = is.there; is_locked = is.is_locked }; usable = λ is. record { there = is.there; named = refl; is_locked = is.is_locked }; openable = λ is. is }
 
 of_names : (file : FileNo) → IsOf file synced_names
-of_names file = record { keeps = λ f. record { settled = λ is. settled_settles f.store f.store.others is; whole = λ is. is; other = named_keeps (other_than file) f }; during = λ f left may. may }
+of_names file = record { keeps = λ f. record { settled = λ is. (refl, is.1); whole = λ is. is; other = named_keeps (other_than file) f }; during = λ f left may. may }
 
 -- ---- what a board sees of a call of one file
 
@@ -121,7 +109,7 @@ sees_none file R Step same = record { told = refl; keeps = refl; stops = stands 
 pub sees_still : (file : FileNo) (R : FolderPast → FolderPast → Type 0) (Step : Left → Left → Type 0) → ((l : Left) → Step l l) → (past : FolderPast) → R past past → Sees file R Step (Some past) (Some past)
 sees_still file R Step same past is = record {
   told = is;
-  keeps = keeps_others file (folder_of past) (folder_of past) refl refl refl;
+  keeps = keeps_others file (folder_of past) (folder_of past) refl refl;
   stops = stands Step (clock_over (Some past)) same;
 }
 
@@ -168,14 +156,19 @@ same_before folder left may = none_before Same (λ l. refl) folder left may
 names_none : (file : FileNo) (past : FolderPast) → SeesNone file (Some past) (Some (changed_by synced_names past))
 names_none file past = none_change file synced_names (of_names file) past refl (λ left may. same_before (folder_of past) left (names_before (folder_of past) left may))
 
+-- how a run has a file isn't seen
+seen_used : (file : FileNo) (how : FileUse) (folder : Folder) → seen_as (here_in (change_name (Journal file) (used how) folder)) ≡ seen_as (here_in folder)
+seen_used Zero how folder = refl
+seen_used One how folder = refl
+
 opens_none : (file : FileNo) (past : FolderPast) → SeesNone file (Some past) (Some (changed_by (opens (Journal file)) past))
-opens_none file past = none_change file (opens (Journal file)) (of_opens file) past refl (λ left may. same_before (folder_of past) left (uses_before (with_use (Journal file) opened (folder_of past).uses) (folder_of past) left may))
+opens_none file past = none_change file (opens (Journal file)) (of_opens file) past (seen_used file opened (folder_of past)) (λ left may. same_before (folder_of past) left (used_before (Journal file) opened (folder_of past) left may))
 
 locks_none : (file : FileNo) (past : FolderPast) → SeesNone file (Some past) (Some (changed_by (locks (Journal file)) past))
-locks_none file past = none_change file (locks (Journal file)) (of_locks file) past refl (λ left may. same_before (folder_of past) left (uses_before (with_use (Journal file) locked (folder_of past).uses) (folder_of past) left may))
+locks_none file past = none_change file (locks (Journal file)) (of_locks file) past (seen_used file locked (folder_of past)) (λ left may. same_before (folder_of past) left (used_before (Journal file) locked (folder_of past) left may))
 
 loses_none : (file : FileNo) (past : FolderPast) → SeesNone file (Some past) (Some (changed_by (loses (Journal file)) past))
-loses_none file past = none_change file (loses (Journal file)) (of_loses file) past refl (λ left may. same_before (folder_of past) left (uses_before (with_use (Journal file) lost (folder_of past).uses) (folder_of past) left may))
+loses_none file past = none_change file (loses (Journal file)) (of_loses file) past (seen_used file lost (folder_of past)) (λ left may. same_before (folder_of past) left (used_before (Journal file) lost (folder_of past) left may))
 
 seen_made : (file : FileNo) (folder : Folder) → bytes_now (entry_named (Journal file) folder) ≡ None → seen_as (here_in (folder_after (made (Journal file)) folder)) ≡ seen_as (here_in folder)
 seen_made Zero folder missing = ap (λ (bytes : List ℕ). record (seen_as (here_in folder)) { file0 = bytes }) (sym (ap bytes_or missing))

@@ -5,5 +5,4 @@ mod WriteLemmas
 mod QuietLemmas
 mod StoreLemmas
 mod PrintLemmas
-mod MemLemmas
-mod LeftLemmas
+pub mod CallLemmas

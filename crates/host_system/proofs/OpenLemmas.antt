@@ -1,15 +1,15 @@
 -- What the opening of both files comes to.
-use Rattle.std.proofs.Common.{◌≡◌, ap, sym, ◌∙◌, subst, OnOk}
-use Rattle.std.specs.Prelude.{true, Option, IfSome, Result, Ok, Err, OnErr}
+use Rattle.std.proofs.Common.{◌≡◌, refl, ap, sym, ◌∙◌, subst, OnOk}
+use Rattle.std.specs.Prelude.{Option, IfSome, Result, Ok, Err, OnErr}
 use Rattle.board_core.specs.Clock.{Passes}
 use Rattle.board_core.specs.Stop.{Same}
 use Rattle.board_core.specs.declared.board.FileNo.{FileNo}
 use Rattle.board_core.specs.declared.board.FileNo.TheVariants.{Zero, One}
-use Rattle.host_system.specs.BoardFile.{IsUsableIn, IsOpenable, IsHeld, AreOpenable, AreOpened, AreNamed, KeepsStore, KeepsOthers, SeesSame}
+use Rattle.host_system.specs.BoardFile.{IsUsableIn, IsOpenable, IsHeld, AreOpenable, AreOpened, AreNamed, KeepsStore, KeepsOthers, SeesSame, HasSettledStore, IsSettled}
 use Rattle.host_system.specs.Folder.{NameEntry, Folder, settled_name, synced_names}
 use Rattle.host_system.specs.FolderPast.{FolderPast, Did, IfTold, changed_by, folder_of}
 use Rattle.host_system.specs.Steps.FolderPastLemmas.{folder_of-more, passes_then}
-use Rattle.host_system.specs.View.{HasWholeStore, HasSettledStore, is_settled_file, is_settled, clock_over}
+use Rattle.host_system.specs.View.{HasWholeStore, IsDurable, clock_over}
 use Rattle.host_system.proofs.FileLemmas.{did_by, may_by, told_then, weaker, names_end}
 use Rattle.host_system.proofs.UseLemmas.{named_goes}
 
@@ -71,11 +71,11 @@ still_held old new keeps was = may_by (KeepsOthers One) (λ (o n : Option Folder
 
 -- the names of all files are on the disk
 
-whole_settles : (entry : NameEntry) → is_settled_file entry.now ≡ true → is_settled (settled_name entry) ≡ true
-whole_settles entry whole = whole
+whole_settles : (entry : NameEntry) → IsDurable entry.now → IsSettled (settled_name entry)
+whole_settles entry whole = (refl, whole)
 
 named_whole : (past : FolderPast) → HasWholeStore (changed_by synced_names past) → HasSettledStore (changed_by synced_names past)
-named_whole past = subst (λ (f : Folder). is_settled_file f.store.now ≡ true → is_settled f.store ≡ true) (sym (folder_of-more synced_names past)) (whole_settles (folder_of past).store)
+named_whole past = subst (λ (f : Folder). IsDurable f.store.now → IsSettled f.store) (sym (folder_of-more synced_names past)) (whole_settles (folder_of past).store)
 
 now_opened : (old new : Option FolderPast) → IfSome old (IsHeld Zero) → IfSome old (IsHeld One) → Did synced_names old new → IfSome new AreOpened
 now_opened old new zero one is =

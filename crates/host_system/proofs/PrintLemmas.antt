@@ -5,7 +5,8 @@ use Rattle.board_core.specs.Clock.{untold, Passes, Leads}
 use Rattle.board_core.specs.Stop.{Left, InOut, Begins, Appends}
 use Rattle.board_core.specs.declared.board.FileNo.{FileNo}
 use Rattle.board_core.specs.declared.board.FileNo.TheVariants.{Zero, One}
-use Rattle.host_system.specs.BoardFile.{KeepsOthersIn, KeepsOthers, SeesPrinted, SeesBegun}
+use Rattle.host_system.specs.BoardFile.{KeepsOthersIn, KeepsOthers}
+use Rattle.host_system.specs.Steps.Calls.{SeesPrinted, SeesBegun}
 use Rattle.host_system.specs.Folder.{Folder, printed, folder_after, Stopped, MayLeaveFolder, here_in}
 use Rattle.host_system.specs.FolderPast.{FolderPast, Did, IfTold, changed_by, folder_of, MayPrint}
 use Rattle.host_system.specs.Steps.FolderLemmas.{AfterFolder, print_before}
@@ -14,8 +15,8 @@ use Rattle.host_system.specs.View.{seen_as, seen_now, clock_over}
 use Rattle.host_system.proofs.FileLemmas.{did_by, may_by, keeps_others}
 
 printed_keeps : (file : FileNo) (part : List ℕ) (past : FolderPast) → KeepsOthers file past (changed_by (printed part) past)
-printed_keeps Zero part past = subst (KeepsOthersIn Zero (folder_of past)) (sym (folder_of-more (printed part) past)) (keeps_others Zero (folder_of past) (folder_after (printed part) (folder_of past)) refl refl refl)
-printed_keeps One part past = subst (KeepsOthersIn One (folder_of past)) (sym (folder_of-more (printed part) past)) (keeps_others One (folder_of past) (folder_after (printed part) (folder_of past)) refl refl refl)
+printed_keeps Zero part past = subst (KeepsOthersIn Zero (folder_of past)) (sym (folder_of-more (printed part) past)) (keeps_others Zero (folder_of past) (folder_after (printed part) (folder_of past)) refl refl)
+printed_keeps One part past = subst (KeepsOthersIn One (folder_of past)) (sym (folder_of-more (printed part) past)) (keeps_others One (folder_of past) (folder_after (printed part) (folder_of past)) refl refl)
 
 printed_seen : (part : List ℕ) (past : FolderPast) → SeesPrinted part past (changed_by (printed part) past)
 printed_seen part past = ap (λ (f : Folder). seen_as (here_in f)) (folder_of-more (printed part) past)

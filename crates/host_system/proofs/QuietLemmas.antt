@@ -7,20 +7,20 @@ use Rattle.board_core.specs.Clock.{untold, Passes}
 use Rattle.board_core.specs.Stop.{Left, Same, InStore, Becomes}
 use Rattle.board_core.specs.Told.{overlay}
 use Rattle.host_system.specs.declared.system.FileName.TheVariants.{New}
-use Rattle.host_system.specs.Folder.{FolderFile, NameEntry, Folder, FileUse, shut, opened, lost, with_now, renewed, settled_name, after_writing, after_syncing, empty_file, FolderChange, wrote, synced, made, loses, removed, renamed, synced_names, folder_after, Stopped, MayLeaveFolder, During, settled_file_of, bytes_now}
+use Rattle.host_system.specs.Folder.{FolderFile, NameEntry, Folder, shut, opened, lost, with_now, renewed, used, settled_name, after_writing, FolderChange, wrote, synced, made, loses, removed, renamed, synced_names, folder_after, Stopped, MayLeaveFolder, During, settled_file_of, bytes_now}
 use Rattle.host_system.specs.FolderPast.{FolderPast, Did, IfTold, changed_by, folder_of, MayDo, MayWrite, IsMissing, HasFile, IsOpen, MayBeWritten}
-use Rattle.host_system.specs.Steps.FolderLemmas.{AfterFolder, new_before, none_before, names_before, rename_before}
+use Rattle.host_system.specs.Steps.FolderLemmas.{AfterFolder, new_before, none_before, names_before, rename_before, after_syncing, empty_file}
 use Rattle.host_system.specs.Steps.FolderPastLemmas.{consistent_of, folder_of-more, passes_change, passes_then, stands}
 use Rattle.host_system.specs.Steps.Quiet.{KeepsSeen, SeesNothing, Quiet, HasNew, Moved, HasMoved, Replaced, IsReplaced, MayHaveMoved}
 use Rattle.host_system.specs.View.{store_in, clock_over}
 use Rattle.host_system.proofs.FileLemmas.{told_then, weaker}
 
 sees_then : (x y z : FolderPast) → SeesNothing x y → SeesNothing y z → SeesNothing x z
-sees_then x y z first second = record { zero = second.zero ∙ first.zero; one = second.one ∙ first.one; store = second.store ∙ first.store; out = second.out ∙ first.out; zero_use = second.zero_use ∙ first.zero_use; one_use = second.one_use ∙ first.one_use }
+sees_then x y z first second = record { zero = second.zero ∙ first.zero; one = second.one ∙ first.one; store = second.store ∙ first.store; out = second.out ∙ first.out }
 
 quiet_still : (told : Option FolderPast) → Quiet told told
 quiet_still None = record { keeps = refl; stops = stands Same untold (λ l. refl) }
-quiet_still (Some past) = record { keeps = record { zero = refl; one = refl; store = refl; out = refl; zero_use = refl; one_use = refl }; stops = stands Same (clock_over (Some past)) (λ l. refl) }
+quiet_still (Some past) = record { keeps = record { zero = refl; one = refl; store = refl; out = refl }; stops = stands Same (clock_over (Some past)) (λ l. refl) }
 
 pub quiet_same : (old new : Option FolderPast) → new ≡ old → Quiet old new
 quiet_same old new is = subst (λ (o : Option FolderPast). Quiet old o) (sym is) (quiet_still old)
@@ -34,31 +34,30 @@ quiet_then a b c first second = record {
 -- a change of `rasd.new` alone
 pub record IsOfNew (change : FolderChange) : Type 0 where
   pub step : NameEntry → NameEntry
-  pub how : FileUse → FileUse
-  pub is : (f : Folder) → folder_after change f ≡ record f { new = step f.new; uses = record f.uses { new = how f.uses.new } }
+  pub is : (f : Folder) → folder_after change f ≡ record f { new = step f.new }
   pub during : (f : Folder) (left : Stopped) → During change f left → MayLeaveFolder f left ⊎ MayLeaveFolder (folder_after change f) left
 
 pub of_make : IsOfNew (made New)
-of_make = record { step = renewed (Some empty_file); how = λ u. opened; is = λ f. refl; during = λ f left may. may }
+of_make = record { step = renewed (Some empty_file) opened; is = λ f. refl; during = λ f left may. may }
 
 pub of_remove : IsOfNew (removed New)
-of_remove = record { step = renewed None; how = λ u. shut; is = λ f. refl; during = λ f left may. may }
+of_remove = record { step = renewed None shut; is = λ f. refl; during = λ f left may. may }
 
 pub of_write : (place count : ℕ) (bytes : List ℕ) → IsOfNew (wrote New place count bytes)
-of_write place count bytes = record { step = with_now (after_writing place count bytes); how = λ u. u; is = λ f. refl; during = λ f left may. may }
+of_write place count bytes = record { step = with_now (after_writing place count bytes); is = λ f. refl; during = λ f left may. may }
 
 pub of_sync : IsOfNew (synced New)
-of_sync = record { step = with_now after_syncing; how = λ u. u; is = λ f. refl; during = λ f left may. may }
+of_sync = record { step = with_now after_syncing; is = λ f. refl; during = λ f left may. may }
 
 pub of_lose : IsOfNew (loses New)
-of_lose = record { step = λ e. e; how = λ u. lost; is = λ f. refl; during = λ f left may. may }
+of_lose = record { step = used lost; is = λ f. refl; during = λ f left may. may }
 
 quiet_change : (change : FolderChange) → IsOfNew change → (past : FolderPast) → Quiet (Some past) (Some (changed_by change past))
 quiet_change change of past =
     let behind : (left : Stopped) → MayLeaveFolder (folder_after change (folder_of past)) left → AfterFolder (folder_of past) Same left =
-    λ left may. new_before of.step (record (folder_of past).uses { new = of.how (folder_of past).uses.new }) (folder_of past) (consistent_of past) left (subst (λ (f : Folder). MayLeaveFolder f left) (of.is (folder_of past)) may) in
+    λ left may. new_before of.step (folder_of past) (consistent_of past) left (subst (λ (f : Folder). MayLeaveFolder f left) (of.is (folder_of past)) may) in
     record {
-      keeps = subst (λ (f : Folder). KeepsSeen (folder_of past) f) (sym (folder_of-more change past ∙ of.is (folder_of past))) (record { zero = refl; one = refl; store = refl; out = refl; zero_use = refl; one_use = refl });
+      keeps = subst (λ (f : Folder). KeepsSeen (folder_of past) f) (sym (folder_of-more change past ∙ of.is (folder_of past))) (record { zero = refl; one = refl; store = refl; out = refl });
       stops = passes_change past change Same
           (λ left here_in. elim (of.during (folder_of past) left here_in) [ inl may ↦ none_before Same (λ l. refl) (folder_of past) left may | inr may ↦ behind left may ])
           behind;
@@ -88,8 +87,8 @@ told_after : (P : FolderPast → Type 0) (change : FolderChange) (old new : Opti
 told_after P change None new is holds = subst (λ (o : Option FolderPast). IfSome o P) (sym is) tt
 told_after P change (Some past) new is holds = subst (λ (o : Option FolderPast). IfSome o P) (sym is) (holds past refl)
 
-use_is : (change : FolderChange) (past : FolderPast) → (folder_of (changed_by change past)).uses.new ≡ (folder_after change (folder_of past)).uses.new
-use_is change past = ap (λ (f : Folder). f.uses.new) (folder_of-more change past)
+use_is : (change : FolderChange) (past : FolderPast) → (folder_of (changed_by change past)).new.how ≡ (folder_after change (folder_of past)).new.how
+use_is change past = ap (λ (f : Folder). f.new.how) (folder_of-more change past)
 
 pub missing_removed : (old new : Option FolderPast) → Did (removed New) old new → IfSome new (IsMissing New)
 missing_removed old new is = told_after (IsMissing New) (removed New) old new is (λ past was. ap (λ (f : Folder). bytes_now f.new) (folder_of-more (removed New) past))
@@ -110,7 +109,7 @@ pub new_serves : (file : FolderFile) (told : Option FolderPast) → IfSome told 
 new_serves file None is = record { there = tt; is_open = tt; writable = tt }
 new_serves file (Some past) new = record { there = new_holds file past new; is_open = inl new.is_open; writable = new.is_open }
 
-new_after : (change : FolderChange) (step : FolderFile → FolderFile) → ((f : Folder) → (folder_after change f).new.now ≡ option_map step f.new.now) → ((f : Folder) → (folder_after change f).uses.new ≡ f.uses.new) → (file : FolderFile) (old new : Option FolderPast) → IfSome old (HasNew file) → Did change old new → IfSome new (HasNew (step file))
+new_after : (change : FolderChange) (step : FolderFile → FolderFile) → ((f : Folder) → (folder_after change f).new.now ≡ option_map step f.new.now) → ((f : Folder) → (folder_after change f).new.how ≡ f.new.how) → (file : FolderFile) (old new : Option FolderPast) → IfSome old (HasNew file) → Did change old new → IfSome new (HasNew (step file))
 new_after change step does keeps file None new was is = subst (λ (o : Option FolderPast). IfSome o (HasNew (step file))) (sym is) tt
 new_after change step does keeps file (Some past) new was is = subst (λ (o : Option FolderPast). IfSome o (HasNew (step file))) (sym is) (record {
   is = now_is change past ∙ (does (folder_of past) ∙ ap (λ (now : Option FolderFile). option_map step now) was.is);
@@ -163,7 +162,7 @@ passes_names (Some past) new is = subst (λ (o : Option FolderPast). Passes Same
 
 told_moved : (bytes : List ℕ) (x y : FolderPast) → SeesNothing x y → HasNew (settled_file_of bytes) y → HasMoved bytes x (changed_by renamed y)
 told_moved bytes x y sees new =
-    subst (Moved bytes (folder_of x)) (sym (folder_of-more renamed y)) (record { zero = sees.zero; one = sees.one; store = new.is; out = sees.out; zero_use = sees.zero_use; one_use = sees.one_use })
+    subst (Moved bytes (folder_of x)) (sym (folder_of-more renamed y)) (record { zero = sees.zero; one = sees.one; store = new.is; out = sees.out })
 
 moved_told : (bytes : List ℕ) (a b c : Option FolderPast) → IfTold SeesNothing a b → IfSome b (HasNew (settled_file_of bytes)) → Did renamed b c → IfTold (HasMoved bytes) a c
 moved_told bytes None b c sees new renames = renames ∙ ap (option_map (changed_by renamed)) sees
@@ -204,10 +203,9 @@ told_named bytes x y moved =
     subst (Replaced bytes (folder_of x)) (sym (folder_of-more synced_names y)) (record {
       zero = ap settled_name moved.zero;
       one = ap settled_name moved.one;
-      store = ap (λ (now : Option FolderFile). record { now = now; others = [] }) moved.store;
+      store = moved.store;
+      others = refl;
       out = moved.out;
-      zero_use = moved.zero_use;
-      one_use = moved.one_use;
     })
 
 named_told : (bytes : List ℕ) (a c d : Option FolderPast) → IfTold (HasMoved bytes) a c → Did synced_names c d → IfTold (IsReplaced bytes) a d

@@ -1,17 +1,18 @@
 -- What a board over a system sees after its store was saved, by what it saw before.
-use Rattle.std.proofs.Common.{◌≡◌, ℕ, [], List, Some, ap, sym, ◌∙◌, subst, inl, inr, ◌⊎◌}
+use Rattle.std.proofs.Common.{◌≡◌, ℕ, [], List, Some, refl, ap, sym, ◌∙◌, subst, inl, inr, ◌⊎◌}
+use Rattle.std.specs.Option.{option_map}
 use Rattle.std.specs.Prelude.{true, false, Option, IfSome, IsSome, Result, Ok, Err, OnOk, OnErr}
 use Rattle.std.specs.Result.{IsErr}
 use Rattle.erst_store.specs.Store.{Stored}
 use Rattle.board_core.specs.declared.board.FileNo.{FileNo}
 use Rattle.board_core.specs.declared.board.FileNo.TheVariants.{Zero, One}
 use Rattle.host_system.specs.declared.system.FileName.TheVariants.{Journal}
-use Rattle.host_system.specs.BoardFile.{KeepsFile, KeepsFileIn, SeesSame}
-use Rattle.host_system.specs.Folder.{FolderFile, NameEntry, Folder, entry_named, use_in, renamed, synced_names, settled_file_of, settled_name, bytes_now, here_in}
+use Rattle.host_system.specs.BoardFile.{KeepsFile, KeepsFileIn, SeesSame, IsSettled, with_store}
+use Rattle.host_system.specs.Folder.{FolderFile, NameEntry, Folder, entry_named, renamed, synced_names, settled_file_of, settled_name, bytes_now, here_in}
 use Rattle.host_system.specs.FolderPast.{FolderPast, Did, bytes_or, folder_of}
 use Rattle.host_system.specs.Steps.Quiet.{SeesNothing, Quiet, HasNew, HasMoved, IsReplaced, MayHaveMoved}
 use Rattle.host_system.specs.StoreFile.{SeesStore, HasReplaced, KeepsWhole, Replaces}
-use Rattle.host_system.specs.View.{seen_as, store_in, is_settled_file, is_settled, with_store}
+use Rattle.host_system.specs.View.{seen_as, store_in, IsDurable}
 use Rattle.host_system.proofs.FileLemmas.{keeps_file, weaker}
 use Rattle.host_system.proofs.QuietLemmas.{EndsBadly, EndsWell, badly_moved, well_named}
 
@@ -26,50 +27,53 @@ parts folder old store zero one stored out =
 -- nothing is seen of it
 
 nothing_whole : (x y : FolderPast) → SeesNothing x y → KeepsWhole x y
-nothing_whole x y is = λ was. ap (λ (e : NameEntry). is_settled_file e.now) is.store ∙ was
+nothing_whole x y is = λ was. subst (λ (e : NameEntry). IsDurable e.now) (sym is.store) was
 
 nothing_file : (file : FileNo) (x y : FolderPast) → SeesNothing x y → KeepsFile file x y
-nothing_file Zero x y is = keeps_file Zero (folder_of x) (folder_of y) is.zero is.zero_use
-nothing_file One x y is = keeps_file One (folder_of x) (folder_of y) is.one is.one_use
+nothing_file Zero x y is = keeps_file Zero (folder_of x) (folder_of y) is.zero
+nothing_file One x y is = keeps_file One (folder_of x) (folder_of y) is.one
 
 nothing_seen : (x y : FolderPast) → SeesNothing x y → SeesSame x y
 nothing_seen x y is = parts (folder_of y) (folder_of x) (store_in (bytes_now (folder_of x).store)) (ap bytes_now is.zero) (ap bytes_now is.one) (ap (λ (e : NameEntry). store_in (bytes_now e)) is.store) is.out
 
 -- the store's file is the new one
 
-now_whole : (bytes : List ℕ) (now : Option FolderFile) → now ≡ Some (settled_file_of bytes) → is_settled_file now ≡ true
-now_whole bytes now is = ap is_settled_file is
+now_whole : (bytes : List ℕ) (now : Option FolderFile) → now ≡ Some (settled_file_of bytes) → IsDurable now
+now_whole bytes now is = subst IsDurable (sym is) refl
 
 moved_file : (file : FileNo) (bytes : List ℕ) (x y : FolderPast) → HasMoved bytes x y → KeepsFile file x y
-moved_file Zero bytes x y is = keeps_file Zero (folder_of x) (folder_of y) is.zero is.zero_use
-moved_file One bytes x y is = keeps_file One (folder_of x) (folder_of y) is.one is.one_use
+moved_file Zero bytes x y is = keeps_file Zero (folder_of x) (folder_of y) is.zero
+moved_file One bytes x y is = keeps_file One (folder_of x) (folder_of y) is.one
 
 moved_seen : (bytes : List ℕ) (x y : FolderPast) → HasMoved bytes x y → SeesStore bytes x y
 moved_seen bytes x y is =
-    parts (folder_of y) (folder_of x) (store_in (Some bytes)) (ap bytes_now is.zero) (ap bytes_now is.one) (ap (λ (now : Option FolderFile). store_in (bytes_now (record { now = now; others = [] }))) is.store) is.out
+    parts (folder_of y) (folder_of x) (store_in (Some bytes)) (ap bytes_now is.zero) (ap bytes_now is.one) (ap (λ (now : Option FolderFile). store_in (option_map (λ (f : FolderFile). f.bytes) now)) is.store) is.out
 
 -- and so it is on the disk
 
-named_file : (file : FileNo) (x y : Folder) → entry_named (Journal file) y ≡ settled_name (entry_named (Journal file) x) → use_in (Journal file) y.uses ≡ use_in (Journal file) x.uses → KeepsFileIn file x y
-named_file file x y entry how = record {
+named_file : (file : FileNo) (x y : Folder) → entry_named (Journal file) y ≡ settled_name (entry_named (Journal file) x) → KeepsFileIn file x y
+named_file file x y entry = record {
   named = λ is. ap (λ (e : NameEntry). e.others) entry;
-  held = λ is. record { there = subst (λ (e : NameEntry). IsSome (bytes_now e)) (sym entry) is.there; is_locked = how ∙ is.is_locked };
+  held = λ is. record { there = subst (λ (e : NameEntry). IsSome (bytes_now e)) (sym entry) is.there; is_locked = ap (λ (e : NameEntry). e.how) entry ∙ is.is_locked };
   usable = λ is. record {
     there = subst (λ (e : NameEntry). IsSome (bytes_now e)) (sym entry) is.there;
     named = ap (λ (e : NameEntry). e.others) entry;
-    is_locked = how ∙ is.is_locked;
+    is_locked = ap (λ (e : NameEntry). e.how) entry ∙ is.is_locked;
   };
-  openable = λ is gone. is (sym how ∙ gone);
+  openable = λ is gone. is (sym (ap (λ (e : NameEntry). e.how) entry) ∙ gone);
 }
 
 replaced_file : (file : FileNo) (bytes : List ℕ) (x y : FolderPast) → IsReplaced bytes x y → KeepsFile file x y
-replaced_file Zero bytes x y is = named_file Zero (folder_of x) (folder_of y) is.zero is.zero_use
-replaced_file One bytes x y is = named_file One (folder_of x) (folder_of y) is.one is.one_use
+replaced_file Zero bytes x y is = named_file Zero (folder_of x) (folder_of y) is.zero
+replaced_file One bytes x y is = named_file One (folder_of x) (folder_of y) is.one
+
+replaced_settled : (bytes : List ℕ) (entry : NameEntry) → entry.others ≡ [] → entry.now ≡ Some (settled_file_of bytes) → IsSettled entry
+replaced_settled bytes entry others now = (others, now_whole bytes entry.now now)
 
 replaced_seen : (bytes : List ℕ) (x y : FolderPast) → IsReplaced bytes x y → HasReplaced bytes x y
 replaced_seen bytes x y is = record {
-  seen = parts (folder_of y) (folder_of x) (store_in (Some bytes)) (ap bytes_now is.zero) (ap bytes_now is.one) (ap (λ (e : NameEntry). store_in (bytes_now e)) is.store) is.out;
-  settled = ap is_settled is.store;
+  seen = parts (folder_of y) (folder_of x) (store_in (Some bytes)) (ap bytes_now is.zero) (ap bytes_now is.one) (ap (λ (now : Option FolderFile). store_in (option_map (λ (f : FolderFile). f.bytes) now)) is.store) is.out;
+  settled = replaced_settled bytes (folder_of y).store is.others is.store;
 }
 
 -- ---- however the call ended
@@ -104,7 +108,7 @@ failed_replaces bytes (Err e) old new failed ends = err_replaces bytes e old new
 
 done_replaces : {T E : Type 0} (bytes : List ℕ) (v : T) (old new : Option FolderPast) → EndsWell bytes old new → Replaces {T = T} {E = E} bytes (Ok v) old new
 done_replaces bytes v old new ends = record {
-  whole = weaker (IsReplaced bytes) KeepsWhole (λ x y is was. ap (λ (e : NameEntry). is_settled_file e.now) is.store) old new ends.is;
+  whole = weaker (IsReplaced bytes) KeepsWhole (λ x y is was. now_whole bytes (folder_of y).store.now is.store) old new ends.is;
   files = λ file. weaker (IsReplaced bytes) (KeepsFile file) (replaced_file file bytes) old new ends.is;
   ok = weaker (IsReplaced bytes) (HasReplaced bytes) (replaced_seen bytes) old new ends.is;
   err = tt;

@@ -5,7 +5,7 @@ use Rattle.board_core.specs.declared.board.FileNo.{FileNo}
 use Rattle.board_core.specs.declared.board.FileNo.TheVariants.{Zero, One}
 use Rattle.host_system.specs.declared.system.FileName.TheVariants.{Journal}
 use Rattle.host_system.specs.BoardFile.{IsUsableIn, IsHeldIn, IsOpenable, IsHeld}
-use Rattle.host_system.specs.Folder.{Folder, opened, locked, lost, use_in, entry_named, FolderChange, made, opens, locks, synced_names, folder_after, bytes_now}
+use Rattle.host_system.specs.Folder.{Folder, opened, locked, lost, entry_named, FolderChange, made, opens, locks, synced_names, folder_after, bytes_now}
 use Rattle.host_system.specs.FolderPast.{FolderPast, Did, IfTold, changed_by, folder_of, MayDo, HasFile, IsOpen}
 use Rattle.host_system.specs.Steps.FolderPastLemmas.{folder_of-more}
 use Rattle.host_system.proofs.FileLemmas.{did_by, may_by}
@@ -40,7 +40,7 @@ HasFileIn file folder = IsSome (bytes_now (entry_named (Journal file) folder))
 -- a file that is there and open, but not locked
 pub record IsOpenIn (file : FileNo) (folder : Folder) : Type 0 where
   pub there : HasFileIn file folder
-  pub is : use_in (Journal file) folder.uses ≡ opened
+  pub is : (entry_named (Journal file) folder).how ≡ opened
 
 made_goes : (file : FileNo) (f : Folder) → Whatever f → IsOpenIn file (folder_after (made (Journal file)) f)
 made_goes Zero f any = record { there = refl; is = refl }
@@ -61,7 +61,7 @@ named_goes One f held = record { there = held.there; named = refl; is_locked = h
 abbrev IsOpenNow : FileNo → FolderPast → Type 0
 IsOpenNow file past = IsOpenIn file (folder_of past)
 
-if_some : (P Q : FolderPast → Type 0) → ((p : FolderPast) → P p → Q p) → (told : Option FolderPast) → IfSome told P → IfSome told Q
+pub if_some : (P Q : FolderPast → Type 0) → ((p : FolderPast) → P p → Q p) → (told : Option FolderPast) → IfSome told P → IfSome told Q
 if_some P Q implies None was = tt
 if_some P Q implies (Some past) was = implies past was
 

@@ -13,10 +13,11 @@ use Rattle.board_core.specs.Told.{overlay, Torn}
 use Rattle.board_core.specs.declared.board.FileNo.{FileNo}
 use Rattle.board_core.specs.declared.board.FileNo.TheVariants.{Zero, One}
 use Rattle.host_system.specs.declared.system.FileName.TheVariants.{Journal}
-use Rattle.host_system.specs.BoardFile.{IsNamedIn, IsUsableIn, IsReadableIn, IsNamed, IsUsable, IsReadable, KeepsOthers, SeesWritten, SeesTorn}
-use Rattle.host_system.specs.Folder.{FolderFile, Folder, with_now, after_writing, after_syncing, wrote, synced, folder_after, Stopped, MayLeaveAny, MayLeaveName, MayLeaveFolder, here_in, settled_folder}
+use Rattle.host_system.specs.BoardFile.{IsNamedIn, IsUsableIn, IsReadableIn, IsNamed, IsUsable, IsReadable, KeepsOthers}
+use Rattle.host_system.specs.Steps.Calls.{SeesWritten, SeesTorn}
+use Rattle.host_system.specs.Folder.{FolderFile, Folder, shut, with_now, after_writing, wrote, synced, folder_after, Stopped, MayLeaveAny, MayLeaveName, MayLeaveFolder, here_in, settled_folder}
 use Rattle.host_system.specs.FolderPast.{FolderPast, Did, IfTold, changed_by, folder_of, MayWrite, file_bytes, bytes_or}
-use Rattle.host_system.specs.Steps.FolderLemmas.{write_before}
+use Rattle.host_system.specs.Steps.FolderLemmas.{write_before, after_syncing}
 use Rattle.host_system.specs.Steps.FolderPastLemmas.{consistent_of, folder_of-more, now_only}
 use Rattle.host_system.specs.View.{seen_as, seen_now, clock_over}
 use Rattle.host_system.proofs.FileLemmas.{did_by, may_by, of_wrote, Sees, sees_none, sees_still, sees_change}
@@ -45,7 +46,7 @@ synced_usable file (Ok x) old new was ok = after_did (synced (Journal file)) (Is
 synced_usable file (Err e) old new was ok = ok
 
 only_synced : (now : Option FolderFile) (others : List (Option DiskFile)) → others ≡ [] → (left : Option (List ℕ))
-    → MayLeaveName (with_now after_syncing (record { now = now; others = others })) left → left ≡ option_map (λ (f : FolderFile). f.bytes) now
+    → MayLeaveName (with_now after_syncing (record { now = now; others = others; how = shut })) left → left ≡ option_map (λ (f : FolderFile). f.bytes) now
 only_synced None others named None (inl may) = refl
 only_synced None others named (Some found) (inl may) = absurd may
 only_synced None others named left (inr may) = absurd (subst (λ (o : List (Option DiskFile)). MayLeaveAny o left) named may)

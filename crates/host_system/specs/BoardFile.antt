@@ -1,27 +1,26 @@
--- The files of a board over a system: when a file may be used, and what a board sees of a call.
-use Rattle.std.specs.Prelude.{◌≡◌, ℕ, List, [], ◌++◌, true, Option, IfSome, IsSome, Result, OnOk}
+-- The files of a board over a system: when a file may be used, and what a call leaves as it was.
+use Rattle.std.specs.Prelude.{◌≡◌, [], List, IsSome}
+use Rattle.erst_store.specs.Store.{Stored}
+use Rattle.board_core.specs.Stop.{Left}
 use Rattle.board_core.specs.declared.board.FileNo.{FileNo}
 use Rattle.board_core.specs.declared.board.FileNo.TheVariants.{Zero, One}
-use Rattle.board_core.specs.Clock.{IsSynced, Passes}
-use Rattle.board_core.specs.Stop.{Same, InFile, InOut, Begins, file_in, with_file_in}
-use Rattle.board_core.specs.Told.{Torn, overlay}
 use Rattle.host_system.specs.declared.system.FileName.TheVariants.{Journal}
-use Rattle.host_system.specs.Folder.{Folder, NameEntry, FileUse, locked, lost, use_in, entry_named, bytes_now}
-use Rattle.host_system.specs.FolderPast.{FolderPast, IfTold, folder_of}
-use Rattle.host_system.specs.View.{HasWholeStore, HasSettledStore, is_settled_file, is_settled, clock_over, seen_now}
+use Rattle.host_system.specs.Folder.{Folder, NameEntry, locked, lost, entry_named, bytes_now}
+use Rattle.host_system.specs.FolderPast.{FolderPast, folder_of}
+use Rattle.host_system.specs.View.{HasWholeStore, IsDurable, seen_now}
 
 -- A file exists, its name is durable, and it is locked.
-pub record IsUsableAs (entry : NameEntry) (how : FileUse) : Type 0 where
+pub record IsUsableAs (entry : NameEntry) : Type 0 where
   pub there : IsSome (bytes_now entry)
   pub named : entry.others ≡ []
-  pub is_locked : how ≡ locked
+  pub is_locked : entry.how ≡ locked
 
 abbrev pub IsUsableIn : FileNo → Folder → Type 0
-IsUsableIn file folder = IsUsableAs (entry_named (Journal file) folder) (use_in (Journal file) folder.uses)
+IsUsableIn file folder = IsUsableAs (entry_named (Journal file) folder)
 
 -- no sync of the file failed
 abbrev pub IsOpenableIn : FileNo → Folder → Type 0
-IsOpenableIn file folder = use_in (Journal file) folder.uses ≡ lost → ⊥
+IsOpenableIn file folder = (entry_named (Journal file) folder).how ≡ lost → ⊥
 
 abbrev pub IsUsable : FileNo → FolderPast → Type 0
 IsUsable file past = IsUsableIn file (folder_of past)
@@ -32,7 +31,7 @@ IsOpenable file past = IsOpenableIn file (folder_of past)
 -- A file exists and is locked. Its name may not be durable yet.
 pub record IsHeldIn (file : FileNo) (folder : Folder) : Type 0 where
   pub there : IsSome (bytes_now (entry_named (Journal file) folder))
-  pub is_locked : use_in (Journal file) folder.uses ≡ locked
+  pub is_locked : (entry_named (Journal file) folder).how ≡ locked
 
 abbrev pub IsHeld : FileNo → FolderPast → Type 0
 IsHeld file past = IsHeldIn file (folder_of past)
@@ -51,6 +50,21 @@ pub record IsReadableIn (file : FileNo) (folder : Folder) : Type 0 where
 
 abbrev pub IsReadable : FileNo → FolderPast → Type 0
 IsReadable file past = IsReadableIn file (folder_of past)
+
+-- ---- the record store's file
+
+-- A name and all bytes of its file are durable.
+abbrev pub IsSettled : NameEntry → Type 0
+IsSettled entry = (entry.others ≡ []) × IsDurable entry.now
+
+-- The store's file is durable, and so is its name.
+abbrev pub HasSettledStore : FolderPast → Type 0
+HasSettledStore past = IsSettled (folder_of past).store
+
+abbrev pub with_store : List Stored → Left → Left
+with_store store left = record left { store = store }
+
+-- ---- what stays as it was
 
 -- A file stays as usable as it was.
 pub record KeepsFileIn (file : FileNo) (old new : Folder) : Type 0 where
@@ -93,8 +107,8 @@ other_than One = Zero
 
 -- A call of one file leaves the other file as usable as it was, and the store's file as durable.
 pub record KeepsOthersIn (file : FileNo) (old new : Folder) : Type 0 where
-  pub settled : is_settled old.store ≡ true → is_settled new.store ≡ true
-  pub whole : is_settled_file old.store.now ≡ true → is_settled_file new.store.now ≡ true
+  pub settled : IsSettled old.store → IsSettled new.store
+  pub whole : IsDurable old.store.now → IsDurable new.store.now
   pub other : KeepsFileIn (other_than file) old new
 
 abbrev pub KeepsOthers : FileNo → FolderPast → FolderPast → Type 0
@@ -103,29 +117,3 @@ KeepsOthers file old new = KeepsOthersIn file (folder_of old) (folder_of new)
 -- A board sees the same as before.
 abbrev pub SeesSame : FolderPast → FolderPast → Type 0
 SeesSame old new = seen_now new ≡ seen_now old
-
--- A board sees these bytes written at an offset of a file.
-abbrev pub SeesWritten : FileNo → ℕ → List ℕ → FolderPast → FolderPast → Type 0
-SeesWritten file place bytes old new =
-    seen_now new ≡ with_file_in file (overlay place bytes (file_in file (seen_now old))) (seen_now old)
-
--- A board sees a torn write at an offset of a file.
-abbrev pub SeesTorn : FileNo → ℕ → ℕ → FolderPast → FolderPast → Type 0
-SeesTorn file place count old new = InFile file (Torn place count) (seen_now old) (seen_now new)
-
--- A board sees a piece appended to the output, or a beginning of the piece.
-abbrev pub SeesPrinted : List ℕ → FolderPast → FolderPast → Type 0
-SeesPrinted piece old new = seen_now new ≡ record (seen_now old) { out = (seen_now old).out ++ piece }
-
--- A board sees a beginning of a piece appended to the output.
-abbrev pub SeesBegun : List ℕ → FolderPast → FolderPast → Type 0
-SeesBegun piece old new = InOut (Begins piece) (seen_now old) (seen_now new)
-
--- A file was synced, or the sync failed. A board sees the same, and the other file and the store's file are
--- as they were. On `Ok` the file is durable, and may be used as before.
-pub record Syncs {T E : Type 0} (IsFor : FileNo → FolderPast → Type 0) (file : FileNo) (result : Result T E) (old new : Option FolderPast) : Type 0 where
-  pub told : IfTold SeesSame old new
-  pub keeps : IfTold (KeepsOthers file) old new
-  pub stops : Passes Same (clock_over old) (clock_over new)
-  pub synced : OnOk result (IfSome old (λ p. IsSynced file (file_in file (seen_now p)) (clock_over new)))
-  pub usable : OnOk result (IfSome new (IsFor file))

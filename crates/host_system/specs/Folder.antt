@@ -13,12 +13,6 @@ pub record FolderFile : Type 0 where
   pub bytes : List ℕ
   pub disk : DiskFile
 
--- What a name refers to now, and what else it may refer to on the disk: everything it has referred to since
--- the folder was synced.
-pub record NameEntry : Type 0 where
-  pub now : Option FolderFile
-  pub others : List (Option DiskFile)
-
 -- How a run has the file of a name: not open; open; open and locked; lost, because a sync of it failed and
 -- its bytes may not be relied on.
 pub data FileUse : Type 0 where
@@ -27,33 +21,20 @@ pub data FileUse : Type 0 where
   locked : FileUse
   lost : FileUse
 
--- how a run has each of the four files
-pub record Uses : Type 0 where
-  pub zero : FileUse
-  pub one : FileUse
-  pub store : FileUse
-  pub new : FileUse
+-- what a name refers to now; what else it may refer to on the disk: everything it has referred to since the
+-- folder was synced; and how a run has its file
+pub record NameEntry : Type 0 where
+  pub now : Option FolderFile
+  pub others : List (Option DiskFile)
+  pub how : FileUse
 
-abbrev pub use_in : FileName → Uses → FileUse
-use_in (Journal Zero) uses = uses.zero
-use_in (Journal One) uses = uses.one
-use_in Store uses = uses.store
-use_in New uses = uses.new
-
-abbrev pub with_use : FileName → FileUse → Uses → Uses
-with_use (Journal Zero) how uses = record uses { zero = how }
-with_use (Journal One) how uses = record uses { one = how }
-with_use Store how uses = record uses { store = how }
-with_use New how uses = record uses { new = how }
-
--- the four names of the folder, what was printed, and how a run has the files
+-- the four names of the folder, and what was printed
 pub record Folder : Type 0 where
   pub zero : NameEntry
   pub one : NameEntry
   pub store : NameEntry
   pub new : NameEntry
   pub out : List ℕ
-  pub uses : Uses
 
 abbrev pub entry_named : FileName → Folder → NameEntry
 entry_named (Journal Zero) folder = folder.zero
@@ -61,14 +42,12 @@ entry_named (Journal One) folder = folder.one
 entry_named Store folder = folder.store
 entry_named New folder = folder.new
 
-abbrev pub with_entry_named : FileName → NameEntry → Folder → Folder
-with_entry_named (Journal Zero) entry folder = record folder { zero = entry }
-with_entry_named (Journal One) entry folder = record folder { one = entry }
-with_entry_named Store entry folder = record folder { store = entry }
-with_entry_named New entry folder = record folder { new = entry }
-
-abbrev pub using : FileName → FileUse → Folder → Folder
-using name how folder = record folder { uses = with_use name how folder.uses }
+-- the folder with one name changed so
+abbrev pub change_name : FileName → (NameEntry → NameEntry) → Folder → Folder
+change_name (Journal Zero) step folder = record folder { zero = step folder.zero }
+change_name (Journal One) step folder = record folder { one = step folder.one }
+change_name Store step folder = record folder { store = step folder.store }
+change_name New step folder = record folder { new = step folder.new }
 
 -- ---- changes
 
@@ -80,9 +59,9 @@ after_writing place count bytes file = record {
   disk = with_range place count file.disk;
 }
 
--- a file after a sync: all its bytes are durable
-abbrev pub after_syncing : FolderFile → FolderFile
-after_syncing file = record { bytes = file.bytes; disk = settled_file file.bytes }
+-- a file whose bytes are all durable
+abbrev pub settled_file_of : List ℕ → FolderFile
+settled_file_of bytes = record { bytes = bytes; disk = settled_file bytes }
 
 -- a name whose present file, if it has one, changed so
 abbrev pub with_now : (FolderFile → FolderFile) → NameEntry → NameEntry
@@ -92,16 +71,17 @@ with_now step entry = record entry { now = option_map step entry.now }
 abbrev pub on_disk : Option FolderFile → Option DiskFile
 on_disk file = option_map (λ f. f.disk) file
 
--- a name that now refers to another file, or to no file
-abbrev pub renewed : Option FolderFile → NameEntry → NameEntry
-renewed file entry = record { now = file; others = on_disk entry.now ∷ entry.others }
+-- a name that now refers to another file, which a run has so, or to no file
+abbrev pub renewed : Option FolderFile → FileUse → NameEntry → NameEntry
+renewed file how entry = record { now = file; others = on_disk entry.now ∷ entry.others; how = how }
+
+-- a name whose file a run now has so
+abbrev pub used : FileUse → NameEntry → NameEntry
+used how entry = record entry { how = how }
 
 -- a name after its folder was synced
 abbrev pub settled_name : NameEntry → NameEntry
-settled_name entry = record { now = entry.now; others = [] }
-
-abbrev pub empty_file : FolderFile
-empty_file = record { bytes = []; disk = settled_file [] }
+settled_name entry = record entry { others = [] }
 
 -- What a call did: it wrote at an offset of a file, with the number of bytes asked for and the bytes that
 -- arrived; it synced a file; it made an empty file, which is then open; it opened a file; it locked a file;
@@ -119,24 +99,16 @@ pub data FolderChange : Type 0 where
   synced_names : FolderChange
   printed : List ℕ → FolderChange
 
--- the folder with one name changed so
-abbrev pub change_name : FileName → (NameEntry → NameEntry) → Folder → Folder
-change_name name step folder = with_entry_named name (step (entry_named name folder)) folder
-
 -- the folder after a change
 abbrev pub folder_after : FolderChange → Folder → Folder
 folder_after (wrote name place count bytes) folder = change_name name (with_now (after_writing place count bytes)) folder
-folder_after (synced name) folder = change_name name (with_now after_syncing) folder
-folder_after (made name) folder = using name opened (change_name name (renewed (Some empty_file)) folder)
-folder_after (opens name) folder = using name opened folder
-folder_after (locks name) folder = using name locked folder
-folder_after (loses name) folder = using name lost folder
-folder_after (removed name) folder = using name shut (change_name name (renewed None) folder)
-folder_after renamed folder = record folder {
-  store = renewed folder.new.now folder.store;
-  new = renewed None folder.new;
-  uses = record folder.uses { store = shut; new = shut };
-}
+folder_after (synced name) folder = change_name name (with_now (λ file. settled_file_of file.bytes)) folder
+folder_after (made name) folder = change_name name (renewed (Some (settled_file_of [])) opened) folder
+folder_after (opens name) folder = change_name name (used opened) folder
+folder_after (locks name) folder = change_name name (used locked) folder
+folder_after (loses name) folder = change_name name (used lost) folder
+folder_after (removed name) folder = change_name name (renewed None shut) folder
+folder_after renamed folder = record folder { store = renewed folder.new.now shut folder.store; new = renewed None shut folder.new }
 folder_after synced_names folder = record folder {
   zero = settled_name folder.zero;
   one = settled_name folder.one;
@@ -162,9 +134,8 @@ pub record Stopped : Type 0 where
 -- A crash may leave this of a file that may be missing.
 abbrev pub MayLeaveOne : Option DiskFile → Option (List ℕ) → Type 0
 MayLeaveOne None None = Unit {0}
-MayLeaveOne None (Some bytes) = ⊥
-MayLeaveOne (Some file) None = ⊥
 MayLeaveOne (Some file) (Some bytes) = MayLeaveFile file bytes
+MayLeaveOne file left = ⊥
 
 -- A crash may leave this of one of these files.
 abbrev pub MayLeaveAny : List (Option DiskFile) → Option (List ℕ) → Type 0
@@ -191,13 +162,9 @@ During (printed piece) folder left =
     (part : List ℕ) × (missing : List ℕ) × (part ++ missing ≡ piece) × MayLeaveFolder (folder_after (printed part) folder) left
 During change folder left = MayLeaveFolder folder left ⊎ MayLeaveFolder (folder_after change folder) left
 
--- a file whose bytes are all durable
-abbrev pub settled_file_of : List ℕ → FolderFile
-settled_file_of bytes = record { bytes = bytes; disk = settled_file bytes }
-
--- a name whose file is durable, with these bytes, or is missing
+-- a name whose file is durable, with these bytes, or is missing, and isn't open
 abbrev pub entry_from : Option (List ℕ) → NameEntry
-entry_from bytes = record { now = option_map settled_file_of bytes; others = [] }
+entry_from bytes = record { now = option_map settled_file_of bytes; others = []; how = shut }
 
 -- the folder after the machine starts over these files: all of them is durable, and none is open
 abbrev pub settled_folder : Stopped → Folder
@@ -207,7 +174,6 @@ settled_folder start = record {
   store = entry_from start.store;
   new = entry_from start.new;
   out = start.out;
-  uses = record { zero = shut; one = shut; store = shut; new = shut };
 }
 
 -- the bytes that a read returns, if the file exists

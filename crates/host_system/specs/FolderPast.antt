@@ -1,9 +1,9 @@
 -- What was done to a folder since all of it was durable, and what a crash may leave since then.
 use Rattle.std.specs.Prelude.{◌≡◌, ℕ, zero, suc, ◌⊎◌, List, [], ◌∷◌, ◌++◌, length, Option, None, Some, IsSome}
-use Rattle.std.specs.Option.{option_map}
+use Rattle.std.specs.Option.{option_map, unwrap_or}
 use Rattle.host_system.specs.declared.system.FileName.{FileName}
 use Rattle.host_system.specs.declared.system.FileName.TheVariants.{Journal, Store, New}
-use Rattle.host_system.specs.Folder.{Folder, FolderChange, wrote, printed, folder_after, folder_after_all, FileUse, opened, locked, lost, use_in, Stopped, MayLeaveFolder, During, settled_folder, entry_named, bytes_now}
+use Rattle.host_system.specs.Folder.{Folder, FolderChange, wrote, printed, folder_after, folder_after_all, FileUse, opened, locked, lost, Stopped, MayLeaveFolder, During, settled_folder, entry_named, bytes_now}
 
 -- the files and the output when all was durable, and what was done since, in order
 pub record FolderPast : Type 0 where
@@ -38,8 +38,7 @@ IfTold P (Some old) (Some new) = P old new
 
 -- the bytes of a file, or no bytes if it is missing
 abbrev pub bytes_or : Option (List ℕ) → List ℕ
-bytes_or None = []
-bytes_or (Some bytes) = bytes
+bytes_or bytes = unwrap_or bytes []
 
 -- the bytes that a read of the name returns now, if the file exists
 abbrev pub bytes_named : FileName → FolderPast → Option (List ℕ)
@@ -72,7 +71,7 @@ MayPrint piece old new = (part : List ℕ) × (missing : List ℕ) × (part ++ m
 
 -- how a run has the file of a name
 abbrev pub use_of : FileName → FolderPast → FileUse
-use_of name past = use_in name (folder_of past).uses
+use_of name past = (entry_named name (folder_of past)).how
 
 abbrev pub IsOpen : FileName → FolderPast → Type 0
 IsOpen name past = (use_of name past ≡ opened) ⊎ (use_of name past ≡ locked)

@@ -3,5 +3,4 @@ pub mod FolderPast
 pub mod View
 pub mod BoardFile
 pub mod StoreFile
-pub mod MemSystem
 pub mod Steps

@@ -3,9 +3,9 @@ use Rattle.std.specs.Prelude.{◌≡◌, ℕ, ◌⊎◌, List, Option, Some, Res
 use Rattle.board_core.specs.Clock.{Passes}
 use Rattle.board_core.specs.Stop.{InStore, Becomes}
 use Rattle.board_core.specs.declared.board.FileNo.{FileNo}
-use Rattle.host_system.specs.BoardFile.{KeepsFile, SeesSame}
+use Rattle.host_system.specs.BoardFile.{KeepsFile, SeesSame, HasSettledStore, with_store}
 use Rattle.host_system.specs.FolderPast.{FolderPast, IfTold}
-use Rattle.host_system.specs.View.{HasWholeStore, HasSettledStore, clock_over, seen_now, store_in, with_store}
+use Rattle.host_system.specs.View.{HasWholeStore, clock_over, seen_now, store_in}
 
 -- A board sees the store of these bytes, and everything else as before.
 abbrev pub SeesStore : List ℕ → FolderPast → FolderPast → Type 0

@@ -1,27 +1,22 @@
 -- The folder as a board sees it: its two files, the record store in its store file, and the output.
-use Rattle.std.specs.Prelude.{◌≡◌, ℕ, List, [], ◌∷◌, length, Bool, true, false, ◌&&◌, Option, None, Some, Result, Ok, Err}
+use Rattle.std.specs.Prelude.{◌≡◌, ℕ, List, [], length, Option, None, Some}
 use Rattle.std.specs.Option.{option_map}
+use Rattle.std.specs.Result.{result_unwrap_or}
 use Rattle.erst_store.specs.Store.{Stored}
 use Rattle.erst_store.specs.StoreReading.{file_at}
-use Rattle.erst_store.specs.declared.reading.StoreRefused.{StoreRefused}
 use Rattle.ras_base.specs.LittleEndian.{AreBytes}
 use Rattle.board_core.specs.Clock.{Clock, untold}
 use Rattle.board_core.specs.declared.board.FileNo.TheVariants.{Zero, One}
 use Rattle.host_system.specs.declared.system.FileName.{FileName}
 use Rattle.host_system.specs.declared.system.FileName.TheVariants.{Journal, Store, New}
 use Rattle.board_core.specs.Stop.{Left}
-use Rattle.host_system.specs.Folder.{FolderFile, NameEntry, Stopped, here_in, settled_folder}
+use Rattle.host_system.specs.Folder.{FolderFile, Stopped, here_in, settled_folder}
 use Rattle.host_system.specs.FolderPast.{FolderPast, MayLeaveFolderSince, bytes_or, folder_of, file_bytes, IsNotLost}
 
--- The store in a file: empty if the file isn't a store.
-abbrev pub store_or : Result (List Stored) StoreRefused → List Stored
-store_or (Ok records) = records
-store_or (Err refused) = []
-
--- the store in a file that may be missing
+-- the store in a file: empty if the file is missing or isn't a store
 abbrev pub store_in : Option (List ℕ) → List Stored
 store_in None = []
-store_in (Some bytes) = store_or (file_at bytes)
+store_in (Some bytes) = result_unwrap_or (file_at bytes) []
 
 -- what a board sees of these files
 abbrev pub seen_as : Stopped → Left
@@ -53,30 +48,14 @@ told_over past = option_map seen_now past
 
 -- ---- the record store's file
 
--- whether a list is empty
-abbrev pub is_none_of : {T : Type 0} → List T → Bool
-is_none_of [] = true
-is_none_of (x ∷ xs) = false
-
--- whether all bytes of a file that may be missing are durable
-abbrev pub is_settled_file : Option FolderFile → Bool
-is_settled_file None = true
-is_settled_file (Some file) = is_none_of file.disk.written
-
--- whether a name and all bytes of its file are durable
-abbrev pub is_settled : NameEntry → Bool
-is_settled entry = is_none_of entry.others && is_settled_file entry.now
+-- All bytes of a file that may be missing are durable.
+abbrev pub IsDurable : Option FolderFile → Type 0
+IsDurable None = Unit {0}
+IsDurable (Some file) = file.disk.written ≡ []
 
 -- All bytes of the store's file are durable. Its name may not be.
 abbrev pub HasWholeStore : FolderPast → Type 0
-HasWholeStore past = is_settled_file (folder_of past).store.now ≡ true
-
--- The store's file is durable, and so is its name.
-abbrev pub HasSettledStore : FolderPast → Type 0
-HasSettledStore past = is_settled (folder_of past).store ≡ true
-
-abbrev pub with_store : List Stored → Left → Left
-with_store store left = record left { store = store }
+HasWholeStore past = IsDurable (folder_of past).store.now
 
 -- A read returns what was written, unless a sync of the file failed. The record store's file is never written
 -- in place, so all its bytes have to be durable.

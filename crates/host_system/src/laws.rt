@@ -5,7 +5,8 @@ ghost use Rattle.board_core.specs.Clock.{LeftNow};
 ghost use Rattle.board_core.specs.Stop.{Left};
 ghost use Rattle.host_system.specs.FolderPast.{FolderPast, bytes_or};
 ghost use Rattle.host_system.specs.Folder.{Stopped};
-ghost use Rattle.host_system.specs.View.{MayBegin, HasSettledStore, told_over, seen_now, clock_over};
+ghost use Rattle.host_system.specs.View.{MayBegin, told_over, seen_now, clock_over};
+ghost use Rattle.host_system.specs.BoardFile.{HasSettledStore};
 
 /// What holds of a board over a system, whatever was done to the folder: of the board's model and
 /// of what a crash leaves.

@@ -6,20 +6,13 @@
 mod board_file;
 mod faults;
 mod laws;
-mod left_folder;
-mod mem_files;
-mod mem_system;
 mod notes;
 mod store_file;
 mod system;
 
-pub use board_file::{
-    file_size, open_files, print, read_file, sync_file, sync_names, sync_seen, write_file,
-};
+pub use board_file::{open_files, read_file};
 pub use faults::counted;
 pub use laws::system_laws;
-pub use left_folder::{LeftFolder, NamePick, StopPick, WriteLeft};
-pub use mem_system::{Effect, MemSystem};
 pub use notes::Notes;
 pub use store_file::replace_store;
 pub use system::{FileName, Input, System};

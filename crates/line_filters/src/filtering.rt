@@ -1,7 +1,6 @@
 //! The lines of a source, each filtered, with their texts printed before the source is read again.
 
 ghost use Rattle.std.specs.Prelude.{◌≡◌, ◌+◌, ◌≤◌, ◌++◌, ℕ, List, [], length, Contains, OnOk, Some, IfErr, IfSome, IsSomeAnd};
-ghost use Rattle.board_core.specs.Doing.{looks};
 ghost use Rattle.board_core.specs.Told.{Told};
 ghost use Rattle.ras_script.specs.declared.reader.TheConstants.{LONGEST_LINE, LONGEST_SCRIPT};
 ghost use Rattle.ras_exit.specs.Causes.{BoardCause, Causes, SourceCause};
@@ -28,17 +27,17 @@ pub fn filter_lines<S: Source, B: Board, F: LineFilter>(
 ) -> Exit
     requires { F.taken filter.old ≡ 0 }
     ensures filters { OfBoth (Filters (F.makes filter.old) result) (S.left source.old)
-        (S.left source.new) (B.told board.old) (B.told board.new) }
+        (S.left source.new) (B.seen board.old).told (B.seen board.new).told }
     ensures takes { IfSome (S.left source.old)
         (λ script. IsSomeAnd (S.left source.new) (TakesOf result script)) }
     // This holds even if a crash before might have left something other than the model says.
-    ensures stops { StopsFiltering (F.makes filter.old) (S.left source.old) (B.told board.old)
-        (B.clock board.old) (B.clock board.new) }
+    ensures stops { StopsFiltering (F.makes filter.old) (S.left source.old) (B.seen board.old).told
+        (B.seen board.old).clock (B.seen board.new).clock }
     ensures exits { IsFilterExit result }
     ensures source { SourceCause result (S.faults source.old) (S.faults source.new) }
-    ensures board { BoardCause result (B.faults board.old) (B.faults board.new) }
-    ensures device { LeavesDevice (B.told board.old) (B.told board.new)
-        (B.clock board.old) (B.clock board.new) }
+    ensures board { BoardCause result (B.seen board.old).faults (B.seen board.new).faults }
+    ensures device { LeavesDevice (B.seen board.old).told (B.seen board.new).told
+        (B.seen board.old).clock (B.seen board.new).clock }
 {
     let mut lines = match NumberedLines::new(alloc) {
         Ok(lines) => lines,
@@ -60,16 +59,17 @@ fn take_lines<S: Source, B: Board, F: LineFilter>(
 ) -> Exit
     requires begins { (lines.old ≡ no_lines) × (F.taken filter.old ≡ 0) }
     ensures ends { (script : List ℕ) (t : Told) → S.left source.old ≡ Some script
-        → B.told board.old ≡ Some t → EndsBoth (F.makes filter.old) script t (B.clock board.old)
+        → (B.seen board.old).told ≡ Some t → EndsBoth (F.makes filter.old) script t
+        (B.seen board.old).clock
         result (F.makes filter.new) lines.new.reader (S.left source.new)
-        (B.told board.new) (B.clock board.new) }
+        (B.seen board.new).told (B.seen board.new).clock }
     ensures takes { IfSome (S.left source.old)
         (λ script. IsSomeAnd (S.left source.new) (TakesOf result script)) }
     ensures few { (F.taken filter.new ≤ LONGEST_SCRIPT + 1) × IsFilterExit result }
     ensures causes { SourceCause result (S.faults source.old) (S.faults source.new)
-        × BoardCause result (B.faults board.old) (B.faults board.new) }
-    ensures device { LeavesDevice (B.told board.old) (B.told board.new)
-        (B.clock board.old) (B.clock board.new) }
+        × BoardCause result (B.seen board.old).faults (B.seen board.new).faults }
+    ensures device { LeavesDevice (B.seen board.old).told (B.seen board.new).told
+        (B.seen board.old).clock (B.seen board.new).clock }
 {
     let mut waiting = Vec::new(alloc);
     let ended = gather(alloc, lines, filter, text, &mut waiting, source, board);
@@ -114,16 +114,16 @@ fn gather<S: Source, B: Board, F: LineFilter>(
     requires begins { (lines.old ≡ no_lines) × (F.taken filter.old ≡ 0)
         × (waiting.old.items ≡ []) }
     ensures ends { (script : List ℕ) (t : Told) → S.left source.old ≡ Some script
-        → B.told board.old ≡ Some t → GathersBoth (F.makes filter.old) script t
-        (B.clock board.old) (exit_of result) (F.makes filter.new) waiting.new.items
-        lines.new.reader (S.left source.new) (B.told board.new) (B.clock board.new) }
+        → (B.seen board.old).told ≡ Some t → GathersBoth (F.makes filter.old) script t
+        (B.seen board.old).clock (exit_of result) (F.makes filter.new) waiting.new.items
+        lines.new.reader (S.left source.new) (B.seen board.new).told (B.seen board.new).clock }
     ensures takes { IfSome (S.left source.old)
         (λ script. IsSomeAnd (S.left source.new) (TakesOf (exit_of result) script)) }
     ensures few { (F.taken filter.new ≤ LONGEST_SCRIPT + 1) × IsFilterExit (exit_of result) }
     ensures causes { Causes SourceCause result (S.faults source.old) (S.faults source.new)
-        × Causes BoardCause result (B.faults board.old) (B.faults board.new) }
-    ensures device { LeavesDevice (B.told board.old) (B.told board.new)
-        (B.clock board.old) (B.clock board.new) }
+        × Causes BoardCause result (B.seen board.old).faults (B.seen board.new).faults }
+    ensures device { LeavesDevice (B.seen board.old).told (B.seen board.new).told
+        (B.seen board.old).clock (B.seen board.new).clock }
 {
     loop {
         print_waiting(lines, waiting, board)?;
@@ -141,12 +141,12 @@ fn print_waiting<B: Board>(
     waiting: &mut Vec<u8>,
     board: &mut B,
 ) -> Result<(), Exit>
-    ensures prints { PrintsWaiting (looks B.told B.clock B.faults) result
+    ensures prints { PrintsWaiting B.seen result
         (Contains lines.now.reader.held 10) waiting.old.items waiting.new.items
         board.old board.new }
-    ensures faults { Causes BoardCause result (B.faults board.old) (B.faults board.new) }
-    ensures device { LeavesDevice (B.told board.old) (B.told board.new)
-        (B.clock board.old) (B.clock board.new) }
+    ensures faults { Causes BoardCause result (B.seen board.old).faults (B.seen board.new).faults }
+    ensures device { LeavesDevice (B.seen board.old).told (B.seen board.new).told
+        (B.seen board.old).clock (B.seen board.new).clock }
 {
     if waiting.is_empty() || lines.has_line() {
         return Ok(());
@@ -174,6 +174,7 @@ fn take_line<F: LineFilter>(
 {
     text.clear();
     match filter.take(alloc, lines.line(), text) {
+        Ok(()) if text.is_empty() => Ok(()),
         Ok(()) => match waiting.extend_from_slice(text) {
             Ok(()) => Ok(()),
             Err(_) => Err(Exit::NoMemory),
@@ -193,13 +194,14 @@ fn end_lines<B: Board, F: LineFilter>(
 ) -> Exit
     requires taken { F.taken filter.now ≤ LONGEST_SCRIPT + 1 }
     requires exits { IsFilterExit exit }
-    ensures ends { Ends (looks B.told B.clock B.faults) exit result
+    ensures ends { Ends B.seen exit result
         (closing_text (F.makes filter.now) [] exit) board.old board.new }
     ensures cut { IsCut exit → board.new ≡ board.old }
     ensures exits { IsFilterExit result }
-    ensures faults { IsAnswer exit → BoardCause result (B.faults board.old) (B.faults board.new) }
-    ensures device { LeavesDevice (B.told board.old) (B.told board.new)
-        (B.clock board.old) (B.clock board.new) }
+    ensures faults { IsAnswer exit → BoardCause result (B.seen board.old).faults
+        (B.seen board.new).faults }
+    ensures device { LeavesDevice (B.seen board.old).told (B.seen board.new).told
+        (B.seen board.old).clock (B.seen board.new).clock }
 {
     if !exit.is_answer() {
         return exit;

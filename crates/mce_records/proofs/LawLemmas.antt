@@ -13,7 +13,7 @@ use Rattle.bank_lines.specs.Trace.{event_found, event_report}
 use Rattle.bank_lines.specs.declared.event.TraceEvent.{TraceEvent}
 use Rattle.bank_lines.specs.declared.found.Finding.{Finding}
 use Rattle.bank_lines.specs.declared.found.Finding.TheVariants.{Foreign, Unread}
-use Rattle.mce_records.specs.Records.{record_found, record_report}
+use Rattle.mce_records.specs.Records.{record_found, saved_report}
 
 counted : (n : ℕ) → (n ≡ 0 → ⊥) → (n == 0) ≡ false
 counted n some = grind (arith, nat_tests, some)
@@ -27,7 +27,7 @@ as_traced boot before e some =
     ∙ sym (ap (λ (none : Bool). if e.vendor == 0 then option_map_or (λ tsc. found_of (event_report boot e tsc)) (if none then last_stamp None (cut_at 32 before) else Some e.tsc) Unread else other) is)
 
 pub as_logged : (boot cap count : ℕ) (stamp : Option ℕ) (e : TraceEvent) → (e.tsc ≡ 0 → ⊥)
-    → bank_name (record_report boot e)
+    → bank_name (saved_report boot e)
     ≡ bank_name (with_counter count stamp (bank_of_group boot cap (record { cpu = e.cpu; mcg = e.mcg; bank = e.bank; status = e.status }) e.tsc e.addr e.misc e.seconds))
 as_logged boot cap count stamp e some =
     let r : BankReport = event_report boot e e.tsc in

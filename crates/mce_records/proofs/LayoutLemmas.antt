@@ -4,7 +4,7 @@ use Rattle.std.proofs.lemmas.Bool.Decides.{nat_tests}
 use Rattle.ras_base.specs.LittleEndian.{number_at, u32_bytes, u64_bytes}
 use Rattle.ras_base.specs.Steps.LittleEndianLemmas.{number_at-u32_bytes, number_at-u64_bytes}
 use Rattle.ras_klog.specs.Reading.{provided}
-use Rattle.mce_records.specs.Layout.{IsSaved, Saved, Version, event_at, event_of, is_length, saved_bytes, to_ipid, to_kflags, to_mcgcap, to_microcode, to_ppin}
+use Rattle.mce_records.specs.Layout.{IsSaved, Saved, Version, event_by_members, is_length, saved_bytes, saved_event, to_ipid, to_kflags, to_mcgcap, to_microcode, to_ppin}
 
 -- its length is that of a record
 abbrev size_of : Version → ℕ
@@ -36,7 +36,7 @@ cpu_back : (version : Version) (s : Saved) → s.event.cpu < 2 ^ 16 → number_a
 unfolding number_at u32_bytes u64_bytes
 cpu_back version s small = number_at-u32_bytes s.event.cpu [] (omega (arith, small))
 
-event_back : (version : Version) (s : Saved) → IsSaved s → event_at (saved_bytes version s) ≡ s.event
+event_back : (version : Version) (s : Saved) → IsSaved s → event_by_members (saved_bytes version s) ≡ s.event
 unfolding number_at u32_bytes u64_bytes
 event_back version s fits = λ k. record {
   vendor = s.event.vendor;
@@ -54,9 +54,9 @@ event_back version s fits = λ k. record {
 low : (n : ℕ) → n < 2 ^ 16 → nat_le n 65535 ≡ true
 low n small = grind (arith, nat_tests, small)
 
-pub is_read : (version : Version) (s : Saved) → IsSaved s → event_of (saved_bytes version s) ≡ Some s.event
+pub is_read : (version : Version) (s : Saved) → IsSaved s → saved_event (saved_bytes version s) ≡ Some s.event
 is_read version s fits =
-    ap (λ long. provided long (provided (nat_le (number_at 68 4 (saved_bytes version s)) 65535) (Some (event_at (saved_bytes version s))))) (long version s)
-    ∙ ap (λ cpu. provided (nat_le cpu 65535) (Some (event_at (saved_bytes version s)))) (cpu_back version s fits.cpu)
-    ∙ ap (λ fits. provided fits (Some (event_at (saved_bytes version s)))) (low s.event.cpu fits.cpu)
+    ap (λ long. provided long (provided (nat_le (number_at 68 4 (saved_bytes version s)) 65535) (Some (event_by_members (saved_bytes version s))))) (long version s)
+    ∙ ap (λ cpu. provided (nat_le cpu 65535) (Some (event_by_members (saved_bytes version s)))) (cpu_back version s fits.cpu)
+    ∙ ap (λ fits. provided fits (Some (event_by_members (saved_bytes version s)))) (low s.event.cpu fits.cpu)
     ∙ ap Some (event_back version s fits)

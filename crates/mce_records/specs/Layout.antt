@@ -73,8 +73,8 @@ abbrev pub is_length : ℕ → Bool
 is_length n = list_any (λ bytes. bytes == n) (88 ∷ 104 ∷ 112 ∷ 120 ∷ 128 ∷ [])
 
 -- what the members tell: each is read at its place and in its width
-abbrev pub event_at : List ℕ → TraceEvent
-event_at bytes = record {
+abbrev pub event_by_members : List ℕ → TraceEvent
+event_by_members bytes = record {
   vendor = slice_index bytes 56;
   cpu = number_at 68 4 bytes;
   bank = slice_index bytes 65;
@@ -88,7 +88,7 @@ event_at bytes = record {
 }
 
 -- the same of bytes that are a record, of a CPU whose number a report has room for
-abbrev pub event_of : List ℕ → Option TraceEvent
-event_of bytes =
+abbrev pub saved_event : List ℕ → Option TraceEvent
+saved_event bytes =
     provided (is_length (length bytes))
-    (provided (nat_le (number_at 68 4 bytes) 65535) (Some (event_at bytes)))
+    (provided (nat_le (number_at 68 4 bytes) 65535) (Some (event_by_members bytes)))

@@ -10,17 +10,17 @@ use Rattle.bank_lines.specs.Trace.{event_report}
 use Rattle.bank_lines.specs.declared.event.TraceEvent.{TraceEvent}
 use Rattle.bank_lines.specs.declared.found.Finding.{Finding}
 use Rattle.bank_lines.specs.declared.found.Finding.TheVariants.{Foreign, Nothing}
-use Rattle.mce_records.specs.Layout.{event_of}
+use Rattle.mce_records.specs.Layout.{saved_event}
 use Rattle.mce_records.specs.declared.printing.TheConstants.{MOST_BYTES}
 
 -- Its report. An error that was found by polling has no counter, and a record has no stamp: it gets the
 -- one that it would have in a log without stamps.
-abbrev pub record_report : ℕ → TraceEvent → BankReport
-record_report boot event = with_counter 0 None (event_report boot event event.tsc)
+abbrev pub saved_report : ℕ → TraceEvent → BankReport
+saved_report boot event = with_counter 0 None (event_report boot event event.tsc)
 
 abbrev pub record_found : ℕ → TraceEvent → Finding
 record_found boot event =
-    if event.vendor == 0 then found_of (record_report boot event)
+    if event.vendor == 0 then found_of (saved_report boot event)
     else Foreign event.vendor event.cpu event.bank
 
 -- ---- comments
@@ -45,7 +45,7 @@ saved_text boot event = finding_text event (record_found boot event)
 -- of these bytes
 abbrev pub record_text : ℕ → List ℕ → List ℕ
 record_text boot bytes =
-    option_map_or (saved_text boot) (event_of bytes) (script_of (unread_record (length bytes) ∷ []))
+    option_map_or (saved_text boot) (saved_event bytes) (script_of (unread_record (length bytes) ∷ []))
 
 -- Of an input, which is read up to one byte behind the longest record.
 abbrev pub record_output : ℕ → List ℕ → List ℕ

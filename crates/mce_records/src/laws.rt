@@ -8,8 +8,8 @@ ghost use Rattle.bank_lines.specs.Trace.{event_mark, is_traced, trace_found};
 ghost use Rattle.bank_lines.specs.declared.event.TraceEvent.{TraceEvent};
 ghost use Rattle.ras_facts.specs.Facts.{bank_name};
 ghost use Rattle.ras_klog.specs.Groups.{bank_of_group};
-ghost use Rattle.mce_records.specs.Layout.{IsSaved, Saved, Version, event_of, saved_bytes};
-ghost use Rattle.mce_records.specs.Records.{record_found, record_report};
+ghost use Rattle.mce_records.specs.Layout.{IsSaved, Saved, Version, saved_bytes, saved_event};
+ghost use Rattle.mce_records.specs.Records.{record_found, saved_report};
 
 use bank_lines::printed_events_are_read;
 
@@ -18,13 +18,13 @@ use bank_lines::printed_events_are_read;
 /// its report has the name that the report of a log has. Its clauses are what the function is for.
 pub fn records_are_read()
     ensures bytes { (version : Version) (s : Saved) → IsSaved s
-        → event_of (saved_bytes version s) ≡ Some s.event }
+        → saved_event (saved_bytes version s) ≡ Some s.event }
     ensures trace { (boot : ℕ) (before : List ℕ) (form : Form) (p : Printed) (spaces : ℕ)
         → IsPrinted p → is_traced before ≡ true → p.event.tsc ≢ 0
         → record_found boot p.event
         ≡ trace_found boot (before ++ (event_mark ++ (replicate spaces 32 ++ event_text form p))) }
     ensures log { (boot cap count : ℕ) (stamp : Option ℕ) (e : TraceEvent) → e.tsc ≢ 0
-        → bank_name (record_report boot e)
+        → bank_name (saved_report boot e)
         ≡ bank_name (with_counter count stamp (bank_of_group boot cap
         (record { cpu = e.cpu; mcg = e.mcg; bank = e.bank; status = e.status })
         e.tsc e.addr e.misc e.seconds)) }

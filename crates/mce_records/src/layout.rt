@@ -1,7 +1,7 @@
 //! What the bytes of a record tell.
 
 ghost use Rattle.std.specs.Prelude.{◌≡◌};
-ghost use Rattle.mce_records.specs.Layout.{event_of, is_length};
+ghost use Rattle.mce_records.specs.Layout.{is_length, saved_event};
 
 use bank_lines::TraceEvent;
 use ras_base::little_endian::{u32_at, u64_at};
@@ -9,8 +9,8 @@ use ras_base::little_endian::{u32_at, u64_at};
 /// Returns what the bytes of the kernel's `struct mce` tell (arch/x86/include/uapi/asm/mce.h). None
 /// if there are not as many of them as the struct of some kernel has, 88, 104, 112, 120 or 128, or
 /// if the CPU's number is above 65,535. It takes no memory.
-pub fn event_of(bytes: &[u8]) -> Option<TraceEvent>
-    ensures { result ≡ event_of bytes.now }
+pub fn saved_event(bytes: &[u8]) -> Option<TraceEvent>
+    ensures { result ≡ saved_event bytes.now }
 {
     if !is_length(bytes.len()) {
         return None;

@@ -8,6 +8,6 @@ mod printing;
 mod text;
 
 pub use laws::records_are_read;
-pub use layout::event_of;
+pub use layout::saved_event;
 pub use printing::{MOST_BYTES, print_record};
 pub use text::push_record;

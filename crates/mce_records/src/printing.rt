@@ -30,16 +30,17 @@ pub fn print_record<S: Source, B: Board>(
 ) -> Exit
     ensures prints { IfSome (S.left source.old) (λ input.
         Relates (PrintsText (record_output boot input) result)
-        (B.told board.old) (B.told board.new)) }
+        (B.seen board.old).told (B.seen board.new).told) }
     ensures takes { IfSome (S.left source.old)
         (λ input. IsSomeAnd (S.left source.new) (TakesRecord result input)) }
     // Also if a stop before might have left something else than the board tells.
-    ensures stops { StopsPrinting boot (S.left source.old) (B.clock board.old) (B.clock board.new) }
+    ensures stops { StopsPrinting boot (S.left source.old) (B.seen board.old).clock
+        (B.seen board.new).clock }
     ensures exits { IsRecordExit result }
     ensures source { SourceCause result (S.faults source.old) (S.faults source.new) }
-    ensures board { BoardCause result (B.faults board.old) (B.faults board.new) }
-    ensures device { LeavesDevice (B.told board.old) (B.told board.new)
-        (B.clock board.old) (B.clock board.new) }
+    ensures board { BoardCause result (B.seen board.old).faults (B.seen board.new).faults }
+    ensures device { LeavesDevice (B.seen board.old).told (B.seen board.new).told
+        (B.seen board.old).clock (B.seen board.new).clock }
 {
     let mut buffer = [0u8; MOST_BYTES];
     match read_front(source, &mut buffer) {
@@ -68,13 +69,13 @@ fn read_front<S: Source>(source: &mut S, buffer: &mut [u8; MOST_BYTES]) -> Resul
 // Prints the line of these bytes.
 fn print_bytes<B: Board>(alloc: Global, boot: u64, bytes: &[u8], board: &mut B) -> Exit
     ensures prints { Relates (PrintsText (record_text boot bytes.now) result)
-        (B.told board.old) (B.told board.new) }
-    ensures stops { Adds (PrintMoment (B.clock board.old) (record_text boot bytes.now))
-        (B.clock board.old) (B.clock board.new) }
+        (B.seen board.old).told (B.seen board.new).told }
+    ensures stops { Adds (PrintMoment (B.seen board.old).clock (record_text boot bytes.now))
+        (B.seen board.old).clock (B.seen board.new).clock }
     ensures exits { IsPrintExit result }
-    ensures board { BoardCause result (B.faults board.old) (B.faults board.new) }
-    ensures device { LeavesDevice (B.told board.old) (B.told board.new)
-        (B.clock board.old) (B.clock board.new) }
+    ensures board { BoardCause result (B.seen board.old).faults (B.seen board.new).faults }
+    ensures device { LeavesDevice (B.seen board.old).told (B.seen board.new).told
+        (B.seen board.old).clock (B.seen board.new).clock }
 {
     let mut text = Vec::new(alloc);
     if let Err(NoMemory) = push_record(&mut text, boot, bytes) {

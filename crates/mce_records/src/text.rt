@@ -5,7 +5,7 @@ ghost use Rattle.ras_script.specs.SplittingLaws.{script_of};
 ghost use Rattle.std.specs.Prelude.{◌∷◌, []};
 ghost use Rattle.mce_records.specs.Records.{empty_record, saved_text, record_found, record_text, unread_record};
 
-use crate::layout::event_of;
+use crate::layout::saved_event;
 use bank_lines::{Finding, TraceEvent, event_report, push_found, with_counter};
 use ras_base::{NoMemory, push_number};
 
@@ -18,7 +18,7 @@ use ras_base::{NoMemory, push_number};
 pub fn push_record(text: &mut Vec<u8>, boot: u64, bytes: &[u8]) -> Result<(), NoMemory>
     ensures { OnOk result (text.new.items ≡ text.old.items ++ record_text boot bytes.now) }
 {
-    match event_of(bytes) {
+    match saved_event(bytes) {
         Some(event) => push_event(text, boot, event),
         None => push_unread(text, bytes.len()),
     }

@@ -4,11 +4,11 @@ use Rattle.std.proofs.lemmas.Bool.{false≢true}
 use Rattle.std.specs.Prelude.{◌⊎◌, Bool, false, true, Option}
 use Rattle.board_core.specs.Cause.{Faults, Rose, device_call, disk_call, print_call}
 use Rattle.ras_cli.specs.OverCauses.{OverCaused, SystemCauseBy}
-use Rattle.ras_daemon.specs.Ahead.{TakesBy}
+use Rattle.ras_daemon.specs.Ahead.{TakesBy, TakesRecordBy}
 use Rattle.ras_daemon.specs.Promises.{Caused}
 use Rattle.ras_daemon.specs.Task.{ReadsBy}
 use Rattle.ras_daemon.specs.declared.word.Task.{Task}
-use Rattle.ras_daemon.specs.declared.word.Task.TheVariants.{Run, Report, Load, Pcie, Klog, TraceLines, KlogLines, GhesLines, Help, Version}
+use Rattle.ras_daemon.specs.declared.word.Task.TheVariants.{Run, Report, Load, Pcie, Klog, TraceLines, KlogLines, GhesLines, MceLine, Help, Version}
 use Rattle.ras_exit.specs.Causes.{BoardCauseBy, SourceCause}
 use Rattle.ras_exit.specs.Endings.{CallEnding, answered, ending_of, faulted, source_failed, starved}
 use Rattle.ras_exit.specs.declared.exit.Exit.{Exit}
@@ -59,6 +59,7 @@ module _ (how count : ℕ) (files : JournalFiles) (kept : Kept) (faults : Faults
   by_disk (Some (TraceLines boot)) alone d r p = once_most count faults.disk faults.registers faults.prints caused.each (omega (arith, d, r, p))
   by_disk (Some (KlogLines boot cap)) alone d r p = once_most count faults.disk faults.registers faults.prints caused.each (omega (arith, d, r, p))
   by_disk (Some (GhesLines boot began)) alone d r p = once_most count faults.disk faults.registers faults.prints caused.each (omega (arith, d, r, p))
+  by_disk (Some (MceLine boot)) alone d r p = once_most count faults.disk faults.registers faults.prints caused.each (omega (arith, d, r, p))
   by_disk (Some Help) alone d r p = once_most count faults.disk faults.registers faults.prints caused.each (omega (arith, d, r, p))
   by_disk (Some Version) alone d r p = once_most count faults.disk faults.registers faults.prints caused.each (omega (arith, d, r, p))
 
@@ -94,24 +95,34 @@ over_caused task exit how count before now files kept old new caused is_quiet al
 
 -- ---- what is read
 
-reads_as : (task : Option Task) (Takes Same Takes' Same' : Type 0) → (Takes → Takes') → (Same → Same') → ReadsBy task Takes Same → ReadsBy task Takes' Same'
-reads_as (Some Run) Takes Same Takes' Same' takes same is = takes is
-reads_as (Some Pcie) Takes Same Takes' Same' takes same is = takes is
-reads_as (Some (Klog boot cap)) Takes Same Takes' Same' takes same is = takes is
-reads_as (Some (TraceLines boot)) Takes Same Takes' Same' takes same is = takes is
-reads_as (Some (KlogLines boot cap)) Takes Same Takes' Same' takes same is = takes is
-reads_as (Some (GhesLines boot began)) Takes Same Takes' Same' takes same is = takes is
-reads_as None Takes Same Takes' Same' takes same is = same is
-reads_as (Some (Report listing)) Takes Same Takes' Same' takes same is = same is
-reads_as (Some (Load n)) Takes Same Takes' Same' takes same is = same is
-reads_as (Some Help) Takes Same Takes' Same' takes same is = same is
-reads_as (Some Version) Takes Same Takes' Same' takes same is = same is
+reads_as : (task : Option Task) (Takes Record Same Takes' Record' Same' : Type 0) → (Takes → Takes') → (Record → Record') → (Same → Same')
+    → ReadsBy task Takes Record Same → ReadsBy task Takes' Record' Same'
+reads_as (Some Run) Takes Record Same Takes' Record' Same' takes records same is = takes is
+reads_as (Some Pcie) Takes Record Same Takes' Record' Same' takes records same is = takes is
+reads_as (Some (Klog boot cap)) Takes Record Same Takes' Record' Same' takes records same is = takes is
+reads_as (Some (TraceLines boot)) Takes Record Same Takes' Record' Same' takes records same is = takes is
+reads_as (Some (KlogLines boot cap)) Takes Record Same Takes' Record' Same' takes records same is = takes is
+reads_as (Some (GhesLines boot began)) Takes Record Same Takes' Record' Same' takes records same is = takes is
+reads_as (Some (MceLine boot)) Takes Record Same Takes' Record' Same' takes records same is = records is
+reads_as None Takes Record Same Takes' Record' Same' takes records same is = same is
+reads_as (Some (Report listing)) Takes Record Same Takes' Record' Same' takes records same is = same is
+reads_as (Some (Load n)) Takes Record Same Takes' Record' Same' takes records same is = same is
+reads_as (Some Help) Takes Record Same Takes' Record' Same' takes records same is = same is
+reads_as (Some Version) Takes Record Same Takes' Record' Same' takes records same is = same is
+
+-- what a relation says of what was left of a source, it says of what was left of the input
+left_as : (Takes : Option (List ℕ) → Option (List ℕ) → Type 0) (old new first last : Option (List ℕ)) → old ≡ first → last ≡ new → Takes old new → Takes first last
+left_as Takes old new first last is_first is_last takes =
+    subst (λ (script : Option (List ℕ)). Takes script last) is_first
+    (subst (λ (rest : Option (List ℕ)). Takes old rest) (sym is_last) takes)
 
 pub over_reads : (task : Option Task) (exit : Exit) (old new : SourceState) (first last : Option (List ℕ))
-    → old.left ≡ first → last ≡ new.left → ReadsBy task (TakesBy exit old.left new.left) (new ≡ old) → ReadsBy task (TakesBy exit first last) (last ≡ first)
+    → old.left ≡ first → last ≡ new.left
+    → ReadsBy task (TakesBy exit old.left new.left) (TakesRecordBy exit old.left new.left) (new ≡ old)
+    → ReadsBy task (TakesBy exit first last) (TakesRecordBy exit first last) (last ≡ first)
 over_reads task exit old new first last is_first is_last reads =
-    reads_as task (TakesBy exit old.left new.left) (new ≡ old) (TakesBy exit first last) (last ≡ first)
-    (λ takes.
-    subst (λ (script : Option (List ℕ)). TakesBy exit script last) is_first
-    (subst (λ (rest : Option (List ℕ)). TakesBy exit old.left rest) (sym is_last) takes))
+    reads_as task (TakesBy exit old.left new.left) (TakesRecordBy exit old.left new.left) (new ≡ old)
+    (TakesBy exit first last) (TakesRecordBy exit first last) (last ≡ first)
+    (left_as (TakesBy exit) old.left new.left first last is_first is_last)
+    (left_as (TakesRecordBy exit) old.left new.left first last is_first is_last)
     (λ same. is_last ∙ (ap (λ (s : SourceState). s.left) same ∙ is_first)) reads

@@ -23,16 +23,16 @@ use Rattle.ras_daemon.specs.RunOutput.{run_output}
 use Rattle.ras_daemon.specs.RunStatus.{start_of}
 use Rattle.ras_daemon.specs.StoreDuring.{store_at_end}
 use Rattle.ras_daemon.specs.declared.word.Task.{Task}
-use Rattle.ras_daemon.specs.declared.word.Task.TheVariants.{Run, Report, Load, Pcie, Klog, TraceLines, KlogLines, GhesLines, Help, Version}
+use Rattle.ras_daemon.specs.declared.word.Task.TheVariants.{Run, Report, Load, Pcie, Klog, TraceLines, KlogLines, GhesLines, MceLine, Help, Version}
 use Rattle.ras_exit.specs.Endings.{CallEnding, OnAnswer, UnlessFaulted, answered, starved, faulted, source_failed, ending_of}
 use Rattle.ras_exit.specs.StopLine.{stop_line}
 use Rattle.ras_exit.specs.Telling.{OnlyText, PrintsPart}
 use Rattle.ras_exit.specs.declared.exit.Exit.{Exit}
 use Rattle.ras_host.specs.BoardState.{BoardState}
-use Rattle.ras_host.specs.Steps.Telling.{clock_of, told_of, told_with}
+use Rattle.ras_host.specs.Steps.Telling.{clock_of, seen_of, told_of, told_with}
 use Rattle.ras_host.specs.declared.kept.Kept.TheVariants.{Unread}
 use Rattle.ras_journal.specs.Recovered.{Recovers}
-use Rattle.ras_listing.specs.Reporting.{ReportMoment, Reports, report_output}
+use Rattle.ras_daemon.specs.Reporting.{ReportMoment, Reports, report_output}
 use Rattle.listing_texts.specs.declared.listing.Listing.{Listing}
 use Rattle.ras_run.specs.Files.{files_refusal}
 use Rattle.ras_run.specs.Places.{Start}
@@ -52,6 +52,7 @@ over_folder P (Some (Klog boot cap)) left past gives = tt
 over_folder P (Some (TraceLines boot)) left past gives = tt
 over_folder P (Some (KlogLines boot cap)) left past gives = tt
 over_folder P (Some (GhesLines boot began)) left past gives = tt
+over_folder P (Some (MceLine boot)) left past gives = tt
 over_folder P (Some Help) left past gives = tt
 over_folder P (Some Version) left past gives = tt
 over_folder P None left past gives = tt
@@ -68,6 +69,7 @@ over_damaged P (Some (Klog boot cap)) past gives = tt
 over_damaged P (Some (TraceLines boot)) past gives = tt
 over_damaged P (Some (KlogLines boot cap)) past gives = tt
 over_damaged P (Some (GhesLines boot began)) past gives = tt
+over_damaged P (Some (MceLine boot)) past gives = tt
 over_damaged P (Some Help) past gives = tt
 over_damaged P (Some Version) past gives = tt
 over_damaged P None past gives = tt
@@ -153,7 +155,7 @@ module _ (exit : Exit) (Same : Type 0) (task : Option Task) (left rest : Option 
   AllRan = OverRun (λ start script told. StillTell (Ran exit Same start script told) rest (told_of new)) task left (told_of old)
 
   abbrev AllStops : Type 0
-  AllStops = OverRun (λ start script told. RunStops told_of clock_of exit Same start script told old new) task left (told_of old)
+  AllStops = OverRun (λ start script told. RunStops seen_of exit Same start script told old new) task left (told_of old)
 
   module _ (ran : AllRan) (stops : AllStops) (account : State) (script : List ℕ) (p : FolderPast) (asked : task ≡ Some Run) (is_left : left ≡ Some script) (is_past : past ≡ Some p) (recovers : Recovers account (seen_now p)) where
     at_end : ToldAtEnd (Ran exit Same (start_of account (begun_over p)) script (begun_over p)) (told_of new)
@@ -164,9 +166,9 @@ module _ (exit : Exit) (Same : Type 0) (task : Option Task) (left rest : Option 
     the_end : Ended new at_end.t
     the_end = ended new at_end.t at_end.is
 
-    stopped : RunStops told_of clock_of exit Same (start_of account (begun_over p)) script (begun_over p) old new
+    stopped : RunStops seen_of exit Same (start_of account (begun_over p)) script (begun_over p) old new
     stopped =
-        from_over (λ start script told. RunStops told_of clock_of exit Same start script told old new) task left (told_of old) script (begun_over p) asked is_left (told_begun past old p begun is_past) stops account recovers
+        from_over (λ start script told. RunStops seen_of exit Same start script told old new) task left (told_of old) script (begun_over p) asked is_left (told_begun past old p begun is_past) stops account recovers
 
     is_old : old.past ≡ Some p
     is_old = past_begun past old p begun is_past
@@ -187,7 +189,7 @@ module _ (exit : Exit) (Same : Type 0) (task : Option Task) (left rest : Option 
     pub headline : IsSomeAnd now (Outlives (start_of account (begun_over p)) script p)
     headline = at_now (Outlives (start_of account (begun_over p)) script p) outlives
 
-    opened : Settles told_of clock_of (start_of account (begun_over p)) script (begun_over p) old new → OutlivesOpened (start_of account (begun_over p)) script p the_end.now
+    opened : Settles seen_of (start_of account (begun_over p)) script (begun_over p) old new → OutlivesOpened (start_of account (begun_over p)) script p the_end.now
     opened s = by (ended s.opened (after_acts s.just.acts (begun_over p)) s.just.rests.is)
       where
         by : Ended s.opened (after_acts s.just.acts (begun_over p)) → OutlivesOpened (start_of account (begun_over p)) script p the_end.now
@@ -215,7 +217,7 @@ module _ (exit : Exit) (Same : Type 0) (task : Option Task) (left rest : Option 
     pub settles : IsSomeAnd now (λ q. OutlivesOpened (start_of account (begun_over p)) script p q ⊎ NeverOpened exit (start_of account (begun_over p)) p q)
     settles = at_now (λ q. OutlivesOpened (start_of account (begun_over p)) script p q ⊎ NeverOpened exit (start_of account (begun_over p)) p q) (by stopped.settled)
       where
-        by : Settles told_of clock_of (start_of account (begun_over p)) script (begun_over p) old new ⊎ NeverOpens exit Same (start_of account (begun_over p)) (seen_now p) (clock_of old) (clock_of new)
+        by : Settles seen_of (start_of account (begun_over p)) script (begun_over p) old new ⊎ NeverOpens exit Same (start_of account (begun_over p)) (seen_now p) (clock_of old) (clock_of new)
             → OutlivesOpened (start_of account (begun_over p)) script p the_end.now ⊎ NeverOpened exit (start_of account (begun_over p)) p the_end.now
         by (inl s) = inl (opened s)
         by (inr n) = inr (never n)
@@ -282,6 +284,7 @@ over_report P (Some (Klog boot cap)) past gives = tt
 over_report P (Some (TraceLines boot)) past gives = tt
 over_report P (Some (KlogLines boot cap)) past gives = tt
 over_report P (Some (GhesLines boot began)) past gives = tt
+over_report P (Some (MceLine boot)) past gives = tt
 over_report P (Some Help) past gives = tt
 over_report P (Some Version) past gives = tt
 over_report P None past gives = tt
@@ -341,6 +344,7 @@ over_other P (Some (Klog boot cap)) past gives = if_told P past (λ p is. gives 
 over_other P (Some (TraceLines boot)) past gives = if_told P past (λ p is. gives p tt is)
 over_other P (Some (KlogLines boot cap)) past gives = if_told P past (λ p is. gives p tt is)
 over_other P (Some (GhesLines boot began)) past gives = if_told P past (λ p is. gives p tt is)
+over_other P (Some (MceLine boot)) past gives = if_told P past (λ p is. gives p tt is)
 over_other P (Some Help) past gives = if_told P past (λ p is. gives p tt is)
 over_other P (Some Version) past gives = if_told P past (λ p is. gives p tt is)
 
@@ -390,11 +394,13 @@ module _ (exit : Exit) (rest : Option (List ℕ)) (p q : FolderPast) (clock : Cl
       as_begun (Some (KlogLines boot cap)) (Some script) t here (only_filtered _ exit script rest (begun_over p) t did.tells) did
   by_other (Some (GhesLines boot began)) (Some script) t other here did =
       as_begun (Some (GhesLines boot began)) (Some script) t here (only_filtered _ exit script rest (begun_over p) t did.tells) did
+  by_other (Some (MceLine boot)) (Some input) t other here did = as_begun (Some (MceLine boot)) (Some input) t here did.tells.only did
   by_other (Some Pcie) None t other here did = record { tells = tt; stops = tt; device = device_as t here did.device }
   by_other (Some (Klog boot cap)) None t other here did = record { tells = tt; stops = tt; device = device_as t here did.device }
   by_other (Some (TraceLines boot)) None t other here did = record { tells = tt; stops = tt; device = device_as t here did.device }
   by_other (Some (KlogLines boot cap)) None t other here did = record { tells = tt; stops = tt; device = device_as t here did.device }
   by_other (Some (GhesLines boot began)) None t other here did = record { tells = tt; stops = tt; device = device_as t here did.device }
+  by_other (Some (MceLine boot)) None t other here did = record { tells = tt; stops = tt; device = device_as t here did.device }
 
 -- such a command goes on telling
 still_told : (exit : Exit) (task : Option Task) (left rest : Option (List ℕ)) (before : Told) (now : Option Told) (old new : Clock)
@@ -408,6 +414,7 @@ still_told exit (Some (Klog boot cap)) left rest before now old new other did = 
 still_told exit (Some (TraceLines boot)) left rest before now old new other did = did.device.0
 still_told exit (Some (KlogLines boot cap)) left rest before now old new other did = did.device.0
 still_told exit (Some (GhesLines boot began)) left rest before now old new other did = did.device.0
+still_told exit (Some (MceLine boot)) left rest before now old new other did = did.device.0
 still_told exit (Some Help) left rest before now old new other did = did.device.0
 still_told exit (Some Version) left rest before now old new other did = did.device.0
 

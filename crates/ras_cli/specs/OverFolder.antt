@@ -12,7 +12,7 @@ use Rattle.ras_exit.specs.StopLine.{stop_line}
 use Rattle.ras_exit.specs.declared.exit.Exit.{Exit}
 use Rattle.ras_exit.specs.declared.exit.Exit.TheVariants.{DiskFault, NoMemory}
 use Rattle.ras_journal.specs.Recovered.{Recovers}
-use Rattle.ras_listing.specs.Reporting.{ReportMoment, report_exit, report_output}
+use Rattle.ras_daemon.specs.Reporting.{ReportMoment, report_exit, report_output}
 use Rattle.listing_texts.specs.declared.listing.Listing.{Listing}
 use Rattle.ras_run.specs.Files.{files_refusal}
 use Rattle.ras_run.specs.Places.{Start}

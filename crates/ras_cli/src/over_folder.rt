@@ -3,7 +3,7 @@ ghost use Rattle.std.specs.Prelude.{◌≡◌, ◌⊎◌, Some, IfSome, IsSomeAn
 ghost use Rattle.host_system.specs.View.{MayBegin};
 ghost use Rattle.ras_cli.specs.OverCauses.{OverCaused};
 ghost use Rattle.ras_cli.specs.OverFolder.{Ends, NeverOpened, Outlives, OutlivesOpened, OverDamaged, OverFolder, OverOther, OverReport, PrintsAlone, Refuses, Reported};
-ghost use Rattle.ras_daemon.specs.Ahead.{TakesBy};
+ghost use Rattle.ras_daemon.specs.Ahead.{TakesBy, TakesRecordBy};
 ghost use Rattle.ras_daemon.specs.Commands.{MayEnd};
 ghost use Rattle.ras_daemon.specs.Task.{ReadsBy, task_of};
 
@@ -70,9 +70,11 @@ pub fn rasd_over<S: System + Drop, I: Input + Drop>(
     // Each command has its own exits.
     ensures exits { MayEnd (task_of words.now) result.exit }
     // A command that reads the input takes at most 67,108,865 bytes of it, and all of them if it
-    // ends as done. Every other command leaves the input alone.
+    // ends as done. The command that reads a saved record takes at most 129 bytes, and all of them
+    // or 129 if it ends as done. Every other command leaves the input alone.
     ensures reads { ReadsBy (task_of words.now)
         (TakesBy result.exit (I.left input) (I.left result.input))
+        (TakesRecordBy result.exit (I.left input) (I.left result.input))
         (I.left result.input ≡ I.left input) }
 {
     let mut source = FileSource::new(input);

@@ -173,14 +173,8 @@ module _ {X : Type 0} (see : X → Seen) (account : State) (script : List ℕ) (
   abbrev start : Start
   start = start_of account t
 
-  abbrev told_by : X → Option Told
-  told_by x = (see x).told
-
-  abbrev clock_by : X → Clock
-  clock_by x = (see x).clock
-
   -- from the moment on at which its journal is open
-  run-settles : Opens see start script exit t old new → Settles told_by clock_by start script t old new
+  run-settles : Opens see start script exit t old new → Settles see start script t old new
   run-settles d = record {
     opened = d.mid;
     just = record { acts = first.0; are = first.1; rests = subst (λ (u : Told). Rests u (see d.mid).told (see d.mid).clock) first.2 d.rests };
@@ -213,11 +207,11 @@ module _ {X : Type 0} (see : X → Seen) (account : State) (script : List ℕ) (
   }
 
   pub run-settled : (Same : Type 0) (left : Option (List ℕ)) → Comes see Same start script exit t left old new
-      → Settles told_by clock_by start script t old new ⊎ NeverOpens exit Same start t.here (see old).clock (see new).clock
+      → Settles see start script t old new ⊎ NeverOpens exit Same start t.here (see old).clock (see new).clock
   run-settled Same left comes = by comes.does comes.reads
     where
       by : DoesRun see start script exit t old new → Same ⊎ (Opens see start script exit t old new × EndsAhead (exit ≡ SourceFault) start script (lines_from start t.here.out) left (see new).told)
-          → Settles told_by clock_by start script t old new ⊎ NeverOpens exit Same start t.here (see old).clock (see new).clock
+          → Settles see start script t old new ⊎ NeverOpens exit Same start t.here (see old).clock (see new).clock
       by (inl d) (inl same) = inr (never-opens Same same d)
       by (inl d) (inr read) = inl (run-settles read.0)
       by (inr d) reads = inl (run-settles d)
@@ -239,7 +233,7 @@ module _ {X : Type 0} (see : X → Seen) (Same : Type 0) (account : State) (scri
   stops = run_stops see account script exit t old new recovers comes.does
 
   -- what stops leave
-  pub run-stops : RunStops (λ x. (see x).told) (λ x. (see x).clock) exit Same begins script t old new
+  pub run-stops : RunStops see exit Same begins script t old new
   run-stops = record {
     later = stops.later;
     once = λ recover. always-headline (see old).clock (see new).clock begins script t.here recover (λ left may. first.text t left is may) stops;

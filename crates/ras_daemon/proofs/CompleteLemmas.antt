@@ -3,7 +3,8 @@ use Rattle.std.proofs.Common.{◌≡◌, ℕ, List, [], length, Option, None, So
 use Rattle.std.proofs.lemmas.List.{append_cancel_left}
 use Rattle.std.specs.Prelude.{◌≢◌, ◌⊎◌}
 use Rattle.board_core.specs.Cause.{Faults}
-use Rattle.board_core.specs.Clock.{Always, Clock, LeftNow}
+use Rattle.board_core.specs.Clock.{Always, LeftNow}
+use Rattle.board_core.specs.Doing.{Seen}
 use Rattle.board_core.specs.Told.{Told}
 use Rattle.ras_account.specs.Accounts.{IsAccount}
 use Rattle.ras_journal.specs.Recovered.{HasFewLinks}
@@ -19,7 +20,7 @@ use Rattle.ras_events.specs.DoneLines.{done_count}
 use Rattle.ras_events.proofs.DoneLemmas.{none_done}
 use Rattle.ras_daemon.specs.Commands.{MayEnd}
 use Rattle.ras_daemon.specs.declared.word.Task.{Task}
-use Rattle.ras_daemon.specs.declared.word.Task.TheVariants.{Run, Report, Load, Pcie, Klog, TraceLines, KlogLines, GhesLines, Help, Version}
+use Rattle.ras_daemon.specs.declared.word.Task.TheVariants.{Run, Report, Load, Pcie, Klog, TraceLines, KlogLines, GhesLines, MceLine, Help, Version}
 use Rattle.ras_daemon.specs.Headline.{laid_with}
 use Rattle.ras_daemon.specs.Promises.{Caused, IsQuiet, IsQuietBoard, Ran, RunStops}
 use Rattle.ras_daemon.specs.RunActs.{DidAll, DidRun}
@@ -101,6 +102,7 @@ may_code task exit code may is = by task (subst (MayEnd task) is may)
     by (Some (TraceLines boot)) never = absurd never
     by (Some (KlogLines boot mask)) never = absurd never
     by (Some (GhesLines boot began)) never = absurd never
+    by (Some (MceLine boot)) never = absurd never
     by (Some Help) (inl is) = absurd cc
     by (Some Help) (inr is) = absurd cc
     by (Some Version) (inl is) = absurd cc
@@ -108,6 +110,6 @@ may_code task exit code may is = by task (subst (MayEnd task) is may)
 
 -- ---- how many links its files have
 
-pub stops_few : {X : Type 0} (told : X → Option Told) (clock : X → Clock) (exit : Exit) (Same : Type 0) (start : Start) (script : List ℕ) (t : Told) (old new : X) → LeftNow (clock old) t.here
-    → RunStops told clock exit Same start script t old new → Always (clock old) (clock old).now HasFewLinks → Always (clock new) (clock old).now HasFewLinks
-stops_few told clock exit Same start script t old new here stops always left may = elim (stops.few (always t.here here) left may) [ inl was ↦ always left was | inr few ↦ few ]
+pub stops_few : {X : Type 0} (see : X → Seen) (exit : Exit) (Same : Type 0) (start : Start) (script : List ℕ) (t : Told) (old new : X) → LeftNow (see old).clock t.here
+    → RunStops see exit Same start script t old new → Always (see old).clock (see old).clock.now HasFewLinks → Always (see new).clock (see old).clock.now HasFewLinks
+stops_few see exit Same start script t old new here stops always left may = elim (stops.few (always t.here here) left may) [ inl was ↦ always left was | inr few ↦ few ]

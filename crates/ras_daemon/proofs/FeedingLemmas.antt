@@ -19,8 +19,8 @@ use Rattle.ras_script.specs.declared.line.ErrorReport.TheVariants.{Bank}
 use Rattle.ras_script.specs.declared.line.Line.{Line}
 use Rattle.ras_script.specs.declared.line.Line.TheVariants as asks
 use Rattle.ras_script.specs.declared.line.LineRefused.{LineRefused}
-use Rattle.ras_reports.specs.Reports.{bank_report}
-use Rattle.ras_reports.specs.declared.details.Detail.TheVariants as detail
+use Rattle.ras_facts.specs.Reports.{bank_report}
+use Rattle.ras_facts.specs.declared.details.Detail.TheVariants as detail
 use Rattle.ras_events.specs.Making.{entries_in}
 use Rattle.ras_events.specs.Events.{counts_report}
 use Rattle.ras_events.specs.Reports.{NumberedLine, Place, entries_at, made_in, reports, rows_told, settings_told}

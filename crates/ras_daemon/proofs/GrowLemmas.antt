@@ -5,7 +5,7 @@ use Rattle.board_core.specs.Cause.{Kind}
 use Rattle.board_core.specs.declared.board.FileNo.TheVariants.{Zero, One}
 use Rattle.board_core.specs.declared.board.Access.{Access}
 use Rattle.board_core.specs.declared.board.Access.TheVariants.{Read, Write, RangeRead, RangeWrite}
-use Rattle.board_core.specs.Doing.{Act, DeviceCall, FailsAct, FailsActs, FailsDevice, Seen, after_act, after_acts, after_device, calls, device, prints, put, range_read, range_write, reg_read, reg_write, through}
+use Rattle.board_core.specs.Doing.{Act, DeviceCall, FailsAct, FailsActs, FailsDevice, Seen, after_act, after_acts, after_device, calls, device, prints, put, range_read, range_write, reg_read, reg_write, through, writes}
 use Rattle.board_core.specs.Stop.{Left}
 use Rattle.board_core.specs.Told.{FailsAccess, MayAct, MayListAccess, Relates, Told, after_put, after_range_write, after_reg_write, on_device, with_access}
 use Rattle.erst_store.specs.Device.{Device}
@@ -32,6 +32,8 @@ device_out (put id bytes) t = refl
 act_grows : (act : Act) (t : Told) → Grows t (after_act act t)
 act_grows (through Zero place bytes) t = same t (after_act (through Zero place bytes) t) refl
 act_grows (through One place bytes) t = same t (after_act (through One place bytes) t) refl
+act_grows (writes Zero place bytes) t = same t (after_act (writes Zero place bytes) t) refl
+act_grows (writes One place bytes) t = same t (after_act (writes One place bytes) t) refl
 act_grows (prints bytes) t = record { part = bytes; is = refl }
 act_grows (calls call) t = same t (after_act (calls call) t) refl
 act_grows (device call) t = same t (after_device call t) (device_out call t)
@@ -70,6 +72,10 @@ failed_grows (through One place bytes) old now (inl (torn, is_torn, inl is)) = s
 failed_grows (through One place bytes) old now (inl (torn, is_torn, inr is)) = same old now (ap (λ (t : Told). t.here.out) is)
 failed_grows (through One place bytes) old now (inr (inl is)) = same old now (ap (λ (t : Told). t.here.out) is)
 failed_grows (through One place bytes) old now (inr (inr is)) = same old now (ap (λ (t : Told). t.here.out) is)
+failed_grows (writes Zero place bytes) old now (torn, is_torn, inl is) = same old now (ap (λ (t : Told). t.here.out) is)
+failed_grows (writes Zero place bytes) old now (torn, is_torn, inr is) = same old now (ap (λ (t : Told). t.here.out) is)
+failed_grows (writes One place bytes) old now (torn, is_torn, inl is) = same old now (ap (λ (t : Told). t.here.out) is)
+failed_grows (writes One place bytes) old now (torn, is_torn, inr is) = same old now (ap (λ (t : Told). t.here.out) is)
 failed_grows (prints bytes) old now (part, rest, splits, is) = record { part = part; is = ap (λ (t : Told). t.here.out) is }
 failed_grows (calls call) old now (inl is) = same old now (ap (λ (t : Told). t.here.out) is)
 failed_grows (calls call) old now (inr is) = same old now (ap (λ (t : Told). t.here.out) is)

@@ -27,11 +27,11 @@ use Rattle.ras_facts.specs.Reported.{record_fact}
 use Rattle.mca_status.specs.Registers.{valid}
 use Rattle.ras_panic.specs.Panics.{is_reserved_identifier, panic_bytes}
 use Rattle.ras_panic.specs.declared.making.PanicRefused.TheVariants.{NotValid, ReservedId as ReservedBy}
-use Rattle.ras_panic.specs.Reading.{panic_report, stored_fact, stored_name}
+use Rattle.ras_panic.specs.Reading.{panic_report, stored_fact, stored_name, stored_report}
 use Rattle.ras_panic.proofs.HeldLemmas.{fact_is_named}
 use Rattle.ras_panic.proofs.RecordLemmas.{has_length}
-use Rattle.ras_reports.specs.declared.details.Detail.TheVariants.{Bank}
-use Rattle.ras_reports.specs.Reports.{bank_report, record_report, stored_report}
+use Rattle.ras_facts.specs.declared.details.Detail.TheVariants.{Bank}
+use Rattle.ras_facts.specs.Reports.{bank_report, record_report}
 use Rattle.ras_script.specs.declared.line.Line.{Line}
 use Rattle.ras_script.specs.declared.line.Line.TheVariants as asks
 use Rattle.ras_script.specs.declared.line.LineRefused.{LineRefused}

@@ -1,3 +1,4 @@
+pub mod ReportLemmas
 pub mod PlaceLemmas
 pub mod LinesLemmas
 pub mod LineEndLemmas

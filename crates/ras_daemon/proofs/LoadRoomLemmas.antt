@@ -39,7 +39,7 @@ use Rattle.ras_journal.specs.declared.limits.TheConstants.{LAST_GENERATION, LONG
 use Rattle.ras_journal.specs.declared.standing.Standing.{Standing}
 use Rattle.ras_journal.specs.Appending.{length_with, needs_switch, standing_with}
 use Rattle.ras_recover.specs.Switching.{has_no_room, switched}
-use Rattle.ras_ledger.specs.Keeping.{lacks_room, standing_kept}
+use Rattle.ras_run.specs.Keeping.{lacks_room, standing_kept}
 
 -- ---- how many bytes a checkpoint has
 

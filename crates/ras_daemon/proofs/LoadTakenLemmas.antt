@@ -20,7 +20,7 @@ use Rattle.ras_facts.specs.declared.name.Name.{Name}
 use Rattle.ras_facts.specs.Facts.{bank_item, bank_name, cap_in, status_in}
 use Rattle.ras_facts.specs.Valid.{IsValidFact}
 use Rattle.ras_facts.proofs.BankLemmas.{bank_valid}
-use Rattle.ras_reports.specs.declared.details.Detail.TheVariants.{Bank as bank_detail}
+use Rattle.ras_facts.specs.declared.details.Detail.TheVariants.{Bank as bank_detail}
 use Rattle.ras_account.specs.Account.{State}
 use Rattle.ras_account.specs.Continued.{account_after, account_after_all, is_fresh_in}
 use Rattle.ras_account.specs.Numbers.{fresh_entries_in}

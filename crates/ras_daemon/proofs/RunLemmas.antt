@@ -19,7 +19,7 @@ use Rattle.ras_account.specs.Accounts.{IsAccount}
 use Rattle.ras_account.specs.History.{empty}
 use Rattle.ras_journal.specs.Recovered.{Recovers, Refusal, damaged, recovered, too_long}
 use Rattle.ras_journal.specs.Appending.{Before}
-use Rattle.ras_ledger.specs.declared.ledger.Ledger.{Ledger}
+use Rattle.ras_run.specs.declared.ledger.Ledger.{Ledger}
 use Rattle.ras_recover.specs.DiskCalls.{IsBeginning, IsReading, Makes}
 use Rattle.ras_recover.specs.Opening.{Opening, standing_opened}
 use Rattle.ras_recover.specs.OpeningActs.{LeavesUnopened}
@@ -37,7 +37,7 @@ use Rattle.ras_exit.specs.StopLine.{stop_line}
 use Rattle.ras_exit.specs.Telling.{PrintMoment, Tells}
 use Rattle.ras_run.specs.Files.{KeepsFiles, files_refusal, refusal_exit}
 use Rattle.ras_run.specs.Taking.{IsReady, OpensLedger, Prints}
-use Rattle.ras_listing.specs.Reporting.{ReportMoment}
+use Rattle.ras_daemon.specs.Reporting.{ReportMoment}
 use Rattle.ras_daemon.specs.Steps.Doing.{Comes, ComesScript, DoesRun, Ends, Opens as OpensRun, TakesScript}
 use Rattle.ras_daemon.specs.Promises.{EndsRefused, OverRefused, Refuses}
 use Rattle.ras_daemon.specs.Headline.{AtOpening, OverRun}

@@ -8,7 +8,7 @@ use Rattle.board_core.specs.Told.{FailsPrint, Relates, Steps, Told, after_print}
 use Rattle.ras_account.specs.Account.{State}
 use Rattle.ras_journal.specs.declared.standing.Standing.{Standing}
 use Rattle.ras_journal.specs.Appending.{Before}
-use Rattle.ras_ledger.specs.Keeping.{Stands}
+use Rattle.ras_run.specs.Keeping.{Stands}
 use Rattle.ras_exit.specs.Acts.{end_of}
 use Rattle.ras_exit.specs.Causes.{BoardCause, BoardCauseBy, Causes, SourceCause, SourceCauseBy}
 use Rattle.ras_exit.specs.Endings.{OnAnswer, CallEnding, EndsBy, IsAnswer, IsCut, IsLineExit, IsStop, OnlyFault, answered, ending_of, faulted, source_failed, starved}

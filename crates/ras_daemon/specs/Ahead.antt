@@ -4,6 +4,7 @@ use Rattle.std.specs.Option.{option_map}
 use Rattle.board_core.specs.Told.{Told}
 use Rattle.ras_script.specs.declared.reader.TheConstants.{LONGEST_LINE}
 use Rattle.line_filters.specs.Filters.{TakesOf}
+use Rattle.mce_records.specs.Printing.{TakesRecord}
 use Rattle.ras_script.specs.Line.{line_of}
 use Rattle.ras_script.specs.Splitting.{lines_of}
 use Rattle.ras_events.specs.DoneLines.{done_count, ended_lines}
@@ -44,3 +45,8 @@ pub record TakesAhead (exit : Exit) (script left : List ℕ) (before now : Told)
 -- bytes, and all of it if the command is done.
 abbrev pub TakesBy : Exit → Option (List ℕ) → Option (List ℕ) → Type 0
 TakesBy exit first now = IfSome first (λ script. IsSomeAnd now (TakesOf exit script))
+
+-- The same of a command that reads a saved record: at most 129 bytes, and if the command is done all of them or
+-- 129.
+abbrev pub TakesRecordBy : Exit → Option (List ℕ) → Option (List ℕ) → Type 0
+TakesRecordBy exit first now = IfSome first (λ input. IsSomeAnd now (TakesRecord exit input))

@@ -12,12 +12,14 @@ use Rattle.bank_lines.specs.Filter.{trace_filter}
 use Rattle.block_lines.specs.Filter.{block_filter}
 use Rattle.cper_pcie.specs.Filter.{pcie_filter}
 use Rattle.line_filters.specs.Filters.{Filters, IsFilterExit, OfBoth, StopsFiltering}
+use Rattle.mce_records.specs.Printing.{IsRecordExit, PrintsText, StopsPrinting}
+use Rattle.mce_records.specs.Records.{record_output}
 use Rattle.ras_klog.specs.Klog.{klog_filter}
-use Rattle.ras_listing.specs.Reporting.{IsReportExit, ReportMoment, Reports, report_output}
+use Rattle.ras_daemon.specs.Reporting.{IsReportExit, ReportMoment, Reports, report_output}
 use Rattle.ras_daemon.specs.Help.{help_text, version_line}
 use Rattle.ras_daemon.specs.Loading.{load_output}
 use Rattle.ras_daemon.specs.declared.word.Task.{Task}
-use Rattle.ras_daemon.specs.declared.word.Task.TheVariants.{Run, Report, Load, Pcie, Klog, TraceLines, KlogLines, GhesLines, Help, Version}
+use Rattle.ras_daemon.specs.declared.word.Task.TheVariants.{Run, Report, Load, Pcie, Klog, TraceLines, KlogLines, GhesLines, MceLine, Help, Version}
 
 -- A command that only prints ends with this exit and this text. Nothing else in the model changes.
 pub record OnlyTells (exit : Exit) (text : List ℕ) (result : Exit) (before now : Told) : Type 0 where
@@ -61,6 +63,9 @@ ByTask exit (Some (KlogLines boot cap)) script left before now old new =
 ByTask exit (Some (GhesLines boot began)) script left before now old new =
     Leaves (OfBoth (Filters (block_filter boot began) exit) script left before now)
     (StopsFiltering (block_filter boot began) script before old new) before now old new
+ByTask exit (Some (MceLine boot)) script left before now old new =
+    Leaves (IfSome script (λ input. Relates (PrintsText (record_output boot input) exit) before now))
+    (StopsPrinting boot script old new) before now old new
 ByTask exit (Some Help) script left before now old new =
     Leaves (Relates (OnlyTells Done help_text exit) before now)
     (Adds (PrintMoment old help_text) old new) before now old new
@@ -89,5 +94,6 @@ MayEnd (Some (Klog boot cap)) exit = IsFilterExit exit
 MayEnd (Some (TraceLines boot)) exit = IsFilterExit exit
 MayEnd (Some (KlogLines boot cap)) exit = IsFilterExit exit
 MayEnd (Some (GhesLines boot began)) exit = IsFilterExit exit
+MayEnd (Some (MceLine boot)) exit = IsRecordExit exit
 MayEnd (Some Help) exit = (exit ≡ Done) ⊎ (exit ≡ PrintFault)
 MayEnd (Some Version) exit = (exit ≡ Done) ⊎ (exit ≡ PrintFault)

@@ -2,7 +2,7 @@
 use Rattle.std.specs.Prelude.{◌≡◌, ℕ, ◌+◌, ◌<◌, ◌⊎◌, List, ◌++◌, length, map, take, Option, Some, Ok, ⊤}
 use Rattle.std.specs.List.{flat_map}
 use Rattle.board_core.specs.Clock.{Adds, Always, Clock, LeftNow, Rests}
-use Rattle.board_core.specs.Doing.{Act, after_acts}
+use Rattle.board_core.specs.Doing.{Act, Seen, after_acts}
 use Rattle.board_core.specs.Stop.{Left}
 use Rattle.board_core.specs.Told.{Told}
 use Rattle.cper_records.specs.Readable.{filled, read_under}
@@ -105,14 +105,14 @@ pub record IsJustOpen (before : Told) (told : Option Told) (clock : Clock) : Typ
 -- what a crash at the start may have left, or what a crash leaves while the journal is opened. From then on
 -- the headline holds, whatever a crash at the start may leave. From then on, too, no file has more than 256
 -- links, if none had at the start.
-pub record Settles {X : Type 0} (told : X → Option Told) (clock : X → Clock) (start : Start) (script : List ℕ) (t : Told) (old new : X) : Type 0 where
+pub record Settles {X : Type 0} (see : X → Seen) (start : Start) (script : List ℕ) (t : Told) (old new : X) : Type 0 where
   -- the board when the journal was open
   pub opened : X
-  pub just : IsJustOpen t (told opened) (clock opened)
-  pub before : Adds (λ left. LeftNow (clock old) left ⊎ AtOpening start t.here.out left) (clock old) (clock opened)
-  pub behind : Adds (Headline (run_of start script) t.here) (clock opened) (clock new)
-  pub from : Always (clock new) (clock opened).now (Headline (run_of start script) t.here)
-  pub few : HasFewLinks t.here → Always (clock new) (clock opened).now HasFewLinks
+  pub just : IsJustOpen t (see opened).told (see opened).clock
+  pub before : Adds (λ left. LeftNow (see old).clock left ⊎ AtOpening start t.here.out left) (see old).clock (see opened).clock
+  pub behind : Adds (Headline (run_of start script) t.here) (see opened).clock (see new).clock
+  pub from : Always (see new).clock (see opened).clock.now (Headline (run_of start script) t.here)
+  pub few : HasFewLinks t.here → Always (see new).clock (see opened).clock.now HasFewLinks
 
 -- a crash left the account at the start of a run, and its record store
 pub record GivesStart (start : Start) (left : Left) : Type 0 where

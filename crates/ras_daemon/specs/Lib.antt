@@ -1,5 +1,6 @@
 pub mod Help
 pub mod Task
+pub mod Reporting
 pub mod Commands
 pub mod Script
 pub mod RunStatus

@@ -4,6 +4,7 @@ use Rattle.std.specs.Prelude.{◌≡◌, ℕ, ◌≤◌, ◌⊎◌, List, ◌++�
 use Rattle.board_core.specs.declared.board.DiskCall.{DiskCall}
 use Rattle.board_core.specs.Cause.{Faults, Kind, Rose, count_of}
 use Rattle.board_core.specs.Clock.{Adds, Always, Clock, LeftNow}
+use Rattle.board_core.specs.Doing.{Seen}
 use Rattle.board_core.specs.Device.{LeavesDevice}
 use Rattle.board_core.specs.Told.{Told}
 use Rattle.ras_journal.specs.Recovered.{HasFewLinks}
@@ -15,7 +16,7 @@ use Rattle.ras_exit.specs.StopLine.{stop_line}
 use Rattle.ras_exit.specs.Telling.{PrintsPart, Tells}
 use Rattle.ras_exit.specs.declared.exit.Exit.{Exit}
 use Rattle.ras_exit.specs.declared.exit.Exit.TheVariants.{DiskFault, NoMemory, PrintFault}
-use Rattle.ras_listing.specs.Reporting.{ReportMoment}
+use Rattle.ras_daemon.specs.Reporting.{ReportMoment}
 use Rattle.ras_run.specs.Files.{KeepsFiles, files_refusal}
 use Rattle.ras_run.specs.Places.{Start}
 use Rattle.ras_texts.specs.Orders.{standing_lines}
@@ -65,24 +66,24 @@ pub record Ran (exit : Exit) (Same : Type 0) (start : Start) (script : List ℕ)
 
 -- What crashes of the machine leave of a run, from the old board to the new one, both modelled and with a
 -- clock.
-pub record RunStops {X : Type 0} (told : X → Option Told) (clock : X → Clock) (exit : Exit) (Same : Type 0) (start : Start) (script : List ℕ) (t : Told) (old new : X) : Type 0 where
+pub record RunStops {X : Type 0} (see : X → Seen) (exit : Exit) (Same : Type 0) (start : Start) (script : List ℕ) (t : Told) (old new : X) : Type 0 where
   -- The number of calls never falls. So what the board's model says at the end is among what a crash since
   -- the start may leave.
-  pub later : (clock old).now ≤ (clock new).now
+  pub later : (see old).clock.now ≤ (see new).clock.now
   -- Provided that a crash at the start leaves this account and this record store: a crash at any point leaves
   -- the account at the start and a beginning of what this run reports, with each event that is done by what
   -- was printed. Of the record store it leaves what these events left, or a state while the next event
   -- changes it.
-  pub once : StopsRecover start (clock old) → Always (clock new) (clock old).now (Headline (run_of start script) t.here)
+  pub once : StopsRecover start (see old).clock → Always (see new).clock (see old).clock.now (Headline (run_of start script) t.here)
   -- Without that premise, this holds from the point at which the journal was open. If it never was, the
   -- source is left alone, and a crash leaves what a crash at the start may have left, or the account at the
   -- start.
   pub settled :
-      Settles told clock start script t old new
-      ⊎ NeverOpens exit Same start t.here (clock old) (clock new)
+      Settles see start script t old new
+      ⊎ NeverOpens exit Same start t.here (see old).clock (see new).clock
   -- If no file at the start has more than 256 links, neither has any file that a crash leaves, except for
   -- what a crash at the start may have left.
-  pub few : HasFewLinks t.here → Always (clock new) (clock old).now (λ left. LeftNow (clock old) left ⊎ HasFewLinks left)
+  pub few : HasFewLinks t.here → Always (see new).clock (see old).clock.now (λ left. LeftNow (see old).clock left ⊎ HasFewLinks left)
 
 -- if source and board are modelled at the end
 abbrev pub StillTell : (List ℕ → Told → Type 0) → Option (List ℕ) → Option Told → Type 0

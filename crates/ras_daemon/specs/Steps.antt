@@ -2,3 +2,4 @@
 pub mod ScriptHeadline
 pub mod Running
 pub mod Doing
+pub mod Answering

@@ -8,7 +8,7 @@ use Rattle.ras_script.specs.Number.{decimal_of, hexadecimal_of}
 use Rattle.listing_texts.specs.declared.listing.Listing.{Listing}
 use Rattle.listing_texts.specs.declared.listing.Listing.TheVariants.{Counts, Pages, Names, Modules, Metrics}
 use Rattle.ras_daemon.specs.declared.word.Task.{Task}
-use Rattle.ras_daemon.specs.declared.word.Task.TheVariants.{Run, Report, Load, Pcie, Klog, TraceLines, KlogLines, GhesLines, Help, Version}
+use Rattle.ras_daemon.specs.declared.word.Task.TheVariants.{Run, Report, Load, Pcie, Klog, TraceLines, KlogLines, GhesLines, MceLine, Help, Version}
 
 -- the listings by their words
 abbrev pub listing_of : List ℕ → Option Listing
@@ -26,9 +26,12 @@ klog_of one other =
     option_and_then (λ boot. option_map (λ cap. Klog boot cap) (hexadecimal_of other))
     (decimal_of (2 ^ 64 - 1) one)
 
--- the numbers for the lines made from a trace, and from a log
+-- the numbers for the lines made from a trace, for the line of a saved record, and for the lines of a log
 abbrev pub trace_lines_of : List ℕ → Option Task
 trace_lines_of boot = option_map (λ number. TraceLines number) (decimal_of (2 ^ 64 - 1) boot)
+
+abbrev pub mce_line_of : List ℕ → Option Task
+mce_line_of boot = option_map (λ number. MceLine number) (decimal_of (2 ^ 64 - 1) boot)
 
 abbrev pub klog_lines_of : List ℕ → List ℕ → Option Task
 klog_lines_of boot cap =
@@ -47,8 +50,8 @@ load_of word =
     option_and_then (λ n. if n == 0 then None else Some (Load n)) (decimal_of MOST_LINES word)
 
 -- The commands: `run`; `pcie`; `report` with a listing; `load` with a number; `klog` with a boot and
--- IA32_MCG_CAP; `lines trace` with a boot, `lines klog` with both, and `lines ghes` with a boot and the
--- second at which it began; `--help`; `--version`. Other arguments aren't a command.
+-- IA32_MCG_CAP; `lines trace` and `lines mce` with a boot, `lines klog` with both, and `lines ghes` with a
+-- boot and the second at which it began; `--help`; `--version`. Other arguments aren't a command.
 abbrev pub task_of : List (List ℕ) → Option Task
 task_of [] = None
 task_of (word ∷ []) =
@@ -64,6 +67,7 @@ task_of (word ∷ what ∷ []) =
 task_of (word ∷ one ∷ other ∷ []) =
     if bytes_eq word (codes "klog") then klog_of one other
     else if bytes_eq word (codes "lines") && bytes_eq one (codes "trace") then trace_lines_of other
+    else if bytes_eq word (codes "lines") && bytes_eq one (codes "mce") then mce_line_of other
     else None
 task_of (word ∷ form ∷ boot ∷ cap ∷ []) =
     if bytes_eq word (codes "lines") && bytes_eq form (codes "klog") then klog_lines_of boot cap
@@ -77,13 +81,14 @@ IsTask (Load n) = n ≤ MOST_LINES
 IsTask (GhesLines boot began) = began ≤ LAST_SECOND
 IsTask task = ⊤
 
--- What a command does to its source: `Takes` if the command reads the source, and `Same`, which says that
--- the source is as it was, if it doesn't.
-abbrev pub ReadsBy : Option Task → Type 0 → Type 0 → Type 0
-ReadsBy (Some Run) Takes Same = Takes
-ReadsBy (Some Pcie) Takes Same = Takes
-ReadsBy (Some (Klog boot cap)) Takes Same = Takes
-ReadsBy (Some (TraceLines boot)) Takes Same = Takes
-ReadsBy (Some (KlogLines boot cap)) Takes Same = Takes
-ReadsBy (Some (GhesLines boot began)) Takes Same = Takes
-ReadsBy task Takes Same = Same
+-- What a command does to its source: `Takes` if the command reads the source's lines, `Record` if it reads a
+-- saved record, and `Same`, which says that the source is as it was, if it doesn't read the source.
+abbrev pub ReadsBy : Option Task → Type 0 → Type 0 → Type 0 → Type 0
+ReadsBy (Some Run) Takes Record Same = Takes
+ReadsBy (Some Pcie) Takes Record Same = Takes
+ReadsBy (Some (Klog boot cap)) Takes Record Same = Takes
+ReadsBy (Some (TraceLines boot)) Takes Record Same = Takes
+ReadsBy (Some (KlogLines boot cap)) Takes Record Same = Takes
+ReadsBy (Some (GhesLines boot began)) Takes Record Same = Takes
+ReadsBy (Some (MceLine boot)) Takes Record Same = Record
+ReadsBy task Takes Record Same = Same

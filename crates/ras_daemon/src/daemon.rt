@@ -9,7 +9,7 @@ ghost use Rattle.ras_journal.specs.Recovered.{HasFewLinks};
 ghost use Rattle.ras_recover.specs.DiskCalls.{IsBeginning, Makes};
 ghost use Rattle.ras_run.specs.Places.{Start};
 ghost use Rattle.ras_events.specs.DoneLines.{done_count};
-ghost use Rattle.ras_daemon.specs.Ahead.{TakesBy};
+ghost use Rattle.ras_daemon.specs.Ahead.{TakesBy, TakesRecordBy};
 ghost use Rattle.ras_daemon.specs.Commands.{ByTask, MayEnd};
 ghost use Rattle.ras_daemon.specs.Headline.{OverRun, laid_with};
 ghost use Rattle.ras_daemon.specs.Promises.{Caused, IsQuiet, IsQuietBoard, OverRefused, Ran, Refuses};
@@ -24,6 +24,7 @@ ghost use Rattle.ras_daemon.specs.Task.{ReadsBy, task_of};
 use crate::ending::last_line;
 use crate::help::{help_text, version_line};
 use crate::load::load;
+use crate::reporting::report;
 use crate::running::run;
 use crate::{RasWord, Task, task_of};
 use bank_lines::{LogFilter, TraceFilter};
@@ -31,9 +32,9 @@ use block_lines::BlockFilter;
 use board_core::{Board, Source};
 use cper_pcie::PcieFilter;
 use line_filters::filter_lines;
+use mce_records::print_record;
 use ras_exit::{Exit, usage_line};
 use ras_klog::KlogFilter;
-use ras_listing::report;
 use std::alloc::Global;
 
 /// Runs the command given by `words`, reading its input from `source` and keeping the account on
@@ -48,34 +49,38 @@ pub fn rasd<S: Source, B: Board>(
     // which acts it does, in order, and how far it reads.
     ensures ran { OverRun (λ start script told.
         StillTell (Ran result (source.new ≡ source.old) start script told)
-        (S.left source.new) (B.told board.new))
-        (task_of words.now) (S.left source.old) (B.told board.old) }
+        (S.left source.new) (B.seen board.new).told)
+        (task_of words.now) (S.left source.old) (B.seen board.old).told }
 
     // What a crash of the machine at any point of a run leaves.
     ensures stops { OverRun (λ start script told.
-        RunStops B.told B.clock result (source.new ≡ source.old) start script told
+        RunStops B.seen result (source.new ≡ source.old) start script told
         board.old board.new)
-        (task_of words.now) (S.left source.old) (B.told board.old) }
+        (task_of words.now) (S.left source.old) (B.seen board.old).told }
 
     // If a journal file is damaged or too long, a run reports it, and changes neither the files nor
     // anything else.
     ensures refused { OverRefused
-        (Refuses result (source.new ≡ source.old) (B.clock board.old) (B.clock board.new))
-        (task_of words.now) (B.told board.old) (B.told board.new) }
+        (Refuses result (source.new ≡ source.old) (B.seen board.old).clock (B.seen board.new).clock)
+        (task_of words.now) (B.seen board.old).told (B.seen board.new).told }
 
     // What every other command prints, and unrecognized arguments too, by what the source and the
     // files contain.
     ensures commands { ByTask result (task_of words.now) (S.left source.old) (S.left source.new)
-        (B.told board.old) (B.told board.new) (B.clock board.old) (B.clock board.new) }
+        (B.seen board.old).told (B.seen board.new).told (B.seen board.old).clock
+        (B.seen board.new).clock }
 
     // A command that reads the source takes at most 67,108,865 bytes of it, and all of them if it
-    // ends as done. Every other command leaves the source alone.
+    // ends as done. The command that reads a saved record takes at most 129 bytes, and all of them
+    // or 129 if it ends as done. Every other command leaves the source alone.
     ensures reads { ReadsBy (task_of words.now)
-        (TakesBy result (S.left source.old) (S.left source.new)) (source.new ≡ source.old) }
+        (TakesBy result (S.left source.old) (S.left source.new))
+        (TakesRecordBy result (S.left source.old) (S.left source.new))
+        (source.new ≡ source.old) }
 
     // A command ends with a fault if and only if a call failed, and then no other call failed.
     ensures causes { Caused result (S.faults source.old) (S.faults source.new)
-        (B.faults board.old) (B.faults board.new) }
+        (B.seen board.old).faults (B.seen board.new).faults }
 
     // Each command has its own exits. Unrecognized arguments end with the usage line. Printing it,
     // `--help` and `--version` allocate nothing.
@@ -105,6 +110,7 @@ pub fn rasd<S: Source, B: Board>(
             let mut filter = BlockFilter::new(alloc, boot, began);
             filter_lines(alloc, &mut filter, source, board)
         }
+        Some(Task::MceLine { boot }) => print_record(alloc, boot, source, board),
         Some(Task::Help) => last_line(help_text(), Exit::Done, board),
         Some(Task::Version) => last_line(version_line(), Exit::Done, board),
         None => last_line(usage_line(), Exit::Usage, board),
@@ -135,10 +141,10 @@ pub fn promise_laws<S: Source, B: Board>()
     // If no file that a crash at the start may leave has more than 256 links, neither has any file
     // that a crash at any point of the run may leave.
     ensures few { (exit : Exit) (first last : S) (start : Start) (script : List ℕ) (t : Told)
-        (old new : B) → B.told old ≡ Some t
-        → RunStops B.told B.clock exit (last ≡ first) start script t old new
-        → Always (B.clock old) (B.clock old).now HasFewLinks
-        → Always (B.clock new) (B.clock old).now HasFewLinks }
+        (old new : B) → (B.seen old).told ≡ Some t
+        → RunStops B.seen exit (last ≡ first) start script t old new
+        → Always (B.seen old).clock (B.seen old).clock.now HasFewLinks
+        → Always (B.seen new).clock (B.seen old).clock.now HasFewLinks }
 
     // If no count of faults rose, a run that refuses no line is done, unless memory ran out.
     ensures complete { (exit : Exit) (first last : S) (start : Start) (script left : List ℕ)

@@ -3,7 +3,6 @@
 ghost use Rattle.std.specs.Prelude.{◌≡◌, ◌⊎◌, IfOk};
 ghost use Rattle.board_core.specs.Clock.{Adds};
 ghost use Rattle.board_core.specs.Device.{LeavesDevice};
-ghost use Rattle.board_core.specs.Doing.{looks};
 ghost use Rattle.ras_exit.specs.Endings.{IsAnswer};
 ghost use Rattle.ras_exit.specs.Telling.{PrintMoment};
 ghost use Rattle.ras_daemon.specs.Steps.Doing.{Ends, Says};
@@ -36,12 +35,13 @@ pub fn closing_line(alloc: Global, exit: Exit, account: &Account) -> Result<Vec<
 /// was cut short by a fault or lack of memory has no last line. The line for a device that was busy
 /// for too long allocates nothing, because its record is in the store and the exit has to say so.
 pub fn end_run<B: Board>(alloc: Global, exit: Exit, account: &Account, board: &mut B) -> Exit
-    ensures ends { Ends (looks B.told B.clock B.faults) exit result
+    ensures ends { Ends B.seen exit result
         (closing_line account.now.state exit) board.old board.new }
-    ensures stops { Adds (PrintMoment (B.clock board.old) (closing_line account.now.state exit))
-        (B.clock board.old) (B.clock board.new) }
-    ensures device { LeavesDevice (B.told board.old) (B.told board.new)
-        (B.clock board.old) (B.clock board.new) }
+    ensures stops { Adds (PrintMoment (B.seen board.old).clock
+        (closing_line account.now.state exit))
+        (B.seen board.old).clock (B.seen board.new).clock }
+    ensures device { LeavesDevice (B.seen board.old).told (B.seen board.new).told
+        (B.seen board.old).clock (B.seen board.new).clock }
 {
     if !exit.is_answer() {
         return exit;
@@ -60,13 +60,13 @@ pub fn end_run<B: Board>(alloc: Global, exit: Exit, account: &Account, board: &m
 /// memory didn't run out.
 pub fn last_line<B: Board>(line: &[u8], exit: Exit, board: &mut B) -> Exit
     requires { IsAnswer exit }
-    ensures says { Says (looks B.told B.clock B.faults) exit result line.now
+    ensures says { Says B.seen exit result line.now
         board.old board.new }
     ensures exits { (result ≡ exit) ⊎ (result ≡ Exit.PrintFault) }
-    ensures stops { Adds (PrintMoment (B.clock board.old) line.now) (B.clock board.old)
-        (B.clock board.new) }
-    ensures device { LeavesDevice (B.told board.old) (B.told board.new)
-        (B.clock board.old) (B.clock board.new) }
+    ensures stops { Adds (PrintMoment (B.seen board.old).clock line.now) (B.seen board.old).clock
+        (B.seen board.new).clock }
+    ensures device { LeavesDevice (B.seen board.old).told (B.seen board.new).told
+        (B.seen board.old).clock (B.seen board.new).clock }
 {
     match print(line, board) {
         Ok(()) => exit,

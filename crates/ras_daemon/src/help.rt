@@ -16,6 +16,7 @@ pub const HELP: &[u8] = b"\
     rasd lines trace BOOT < TRACE  convert a kernel trace to a script\n\
     rasd lines klog BOOT CAP < LOG convert a kernel log to a script\n\
     rasd lines ghes BOOT SEC < LOG convert the firmware's reports to a script\n\
+    rasd lines mce BOOT < RECORD   convert a saved machine check to a script\n\
     rasd klog BOOT CAP < LOG       print the machine checks of a log, decoded\n\
     rasd pcie < SCRIPT             print the PCI Express errors of a script\n\
     rasd load N                    dry run: count N made-up reports, in memory\n\

@@ -10,6 +10,7 @@ mod help;
 mod laws;
 mod lines;
 mod load;
+mod reporting;
 mod running;
 mod word;
 

@@ -1,7 +1,6 @@
 //! The lines of a script, taken in order.
 
 ghost use Rattle.std.specs.Prelude.{◌≡◌, ℕ, List, [], Some};
-ghost use Rattle.board_core.specs.Doing.{looks};
 ghost use Rattle.board_core.specs.Told.{Told};
 ghost use Rattle.line_filters.specs.Numbered.{no_lines};
 ghost use Rattle.line_filters.specs.Steps.Filtering.{exit_of};
@@ -32,15 +31,15 @@ pub fn take_lines<S: Source, B: Board>(
     board: &mut B,
 ) -> Result<(), Exit>
     requires fresh { lines.old ≡ no_lines }
-    requires ready { IsReady run.old.ledger (B.told board.old) (B.clock board.old) }
+    requires ready { IsReady run.old.ledger (B.seen board.old).told (B.seen board.old).clock }
 
     ensures comes { (start : Start) (script : List ℕ) (t : Told) → IsRunAfter start [] run.old
-        → S.left source.old ≡ Some script → B.told board.old ≡ Some t → HoldsAfter start [] t
-        → ComesLines (looks B.told B.clock B.faults) start script t result run.new
+        → S.left source.old ≡ Some script → (B.seen board.old).told ≡ Some t → HoldsAfter start [] t
+        → ComesLines B.seen start script t result run.new
         (S.left source.new) board.old board.new }
     ensures takes { TakesBy (exit_of result) (S.left source.old) (S.left source.new) }
     ensures ends { EndsLines result (S.faults source.old) (S.faults source.new)
-        (B.faults board.old) (B.faults board.new) }
+        (B.seen board.old).faults (B.seen board.new).faults }
 {
     loop {
         if !lines.next(source)? {

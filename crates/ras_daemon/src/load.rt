@@ -30,13 +30,14 @@ use std::alloc::Global;
 pub fn load<B: Board>(alloc: Global, n: u64, board: &mut B) -> Exit
     requires { n ≤ MOST_LINES }
     ensures loads { Relates (OnlyTells Exit.Done (load_output n) result)
-        (B.told board.old) (B.told board.new) }
-    ensures stops { Adds (PrintMoment (B.clock board.old) (load_output n)) (B.clock board.old)
-        (B.clock board.new) }
+        (B.seen board.old).told (B.seen board.new).told }
+    ensures stops { Adds (PrintMoment (B.seen board.old).clock (load_output n))
+        (B.seen board.old).clock
+        (B.seen board.new).clock }
     ensures exits { IsLoadExit result }
-    ensures board { BoardCause result (B.faults board.old) (B.faults board.new) }
-    ensures device { LeavesDevice (B.told board.old) (B.told board.new)
-        (B.clock board.old) (B.clock board.new) }
+    ensures board { BoardCause result (B.seen board.old).faults (B.seen board.new).faults }
+    ensures device { LeavesDevice (B.seen board.old).told (B.seen board.new).told
+        (B.seen board.old).clock (B.seen board.new).clock }
 {
     match loaded_line(alloc, n) {
         Ok(line) => last_line(&line, Exit::Done, board),

@@ -1,7 +1,6 @@
 //! A run: opens the journal and processes the script.
 
 ghost use Rattle.std.specs.Prelude.{◌≡◌, ℕ, List, [], Some};
-ghost use Rattle.board_core.specs.Doing.{looks};
 ghost use Rattle.board_core.specs.Told.{Told};
 ghost use Rattle.ras_account.specs.Accounts.{IsAccount};
 ghost use Rattle.line_filters.specs.Numbered.{no_lines};
@@ -24,22 +23,21 @@ use ras_account::Account;
 use ras_base::NoMemory;
 use ras_events::Settings;
 use ras_exit::Exit;
-use ras_ledger::Ledger;
-use ras_run::{Run, open, print_standing};
+use ras_run::{Ledger, Run, open, print_standing};
 use std::alloc::Global;
 
 /// Runs a script: opens the journal, prints the outstanding orders, processes the lines of
 /// `source`, and prints the last line. Returns how the run ended.
 pub fn run<S: Source, B: Board>(alloc: Global, source: &mut S, board: &mut B) -> Exit
-    ensures comes { OverRun (λ start script told. Comes (looks B.told B.clock B.faults)
+    ensures comes { OverRun (λ start script told. Comes B.seen
         (source.new ≡ source.old) start script result told (S.left source.new) board.old board.new)
-        (Some Task.Run) (S.left source.old) (B.told board.old) }
+        (Some Task.Run) (S.left source.old) (B.seen board.old).told }
     ensures takes { TakesBy result (S.left source.old) (S.left source.new) }
     ensures refused { OverRefused
-        (Refuses result (source.new ≡ source.old) (B.clock board.old) (B.clock board.new))
-        (Some Task.Run) (B.told board.old) (B.told board.new) }
+        (Refuses result (source.new ≡ source.old) (B.seen board.old).clock (B.seen board.new).clock)
+        (Some Task.Run) (B.seen board.old).told (B.seen board.new).told }
     ensures causes { Caused result (S.faults source.old) (S.faults source.new)
-        (B.faults board.old) (B.faults board.new) }
+        (B.seen board.old).faults (B.seen board.new).faults }
     ensures exits { IsRunExit result }
 {
     let mut lines = match NumberedLines::new(alloc) {
@@ -64,16 +62,16 @@ fn take_script<S: Source, B: Board>(
     board: &mut B,
 ) -> Exit
     requires fresh { lines.old ≡ no_lines }
-    requires ledger { IsReady ledger (B.told board.old) (B.clock board.old)
+    requires ledger { IsReady ledger (B.seen board.old).told (B.seen board.old).clock
         × IsAccount ledger.account.state }
 
     ensures comes { (start : Start) (script : List ℕ) (t : Told) → IsStart start ledger t
-        → S.left source.old ≡ Some script → B.told board.old ≡ Some t
-        → ComesScript (looks B.told B.clock B.faults) (source.new ≡ source.old) start script t
+        → S.left source.old ≡ Some script → (B.seen board.old).told ≡ Some t
+        → ComesScript B.seen (source.new ≡ source.old) start script t
         result (S.left source.new) board.old board.new }
     ensures takes { TakesBy result (S.left source.old) (S.left source.new) }
     ensures causes { Caused result (S.faults source.old) (S.faults source.new)
-        (B.faults board.old) (B.faults board.new) }
+        (B.seen board.old).faults (B.seen board.new).faults }
     ensures exits { IsRunExit result }
 {
     let mut run = Run {
@@ -93,15 +91,15 @@ fn take_from<S: Source, B: Board>(
     board: &mut B,
 ) -> Exit
     requires fresh { lines.old ≡ no_lines }
-    requires ready { IsReady run.old.ledger (B.told board.old) (B.clock board.old) }
+    requires ready { IsReady run.old.ledger (B.seen board.old).told (B.seen board.old).clock }
 
     ensures comes { (start : Start) (script : List ℕ) (t : Told) → IsRunAfter start [] run.old
-        → S.left source.old ≡ Some script → B.told board.old ≡ Some t → HoldsAfter start [] t
-        → ComesScript (looks B.told B.clock B.faults) (source.new ≡ source.old) start script t
+        → S.left source.old ≡ Some script → (B.seen board.old).told ≡ Some t → HoldsAfter start [] t
+        → ComesScript B.seen (source.new ≡ source.old) start script t
         result (S.left source.new) board.old board.new }
     ensures takes { TakesBy result (S.left source.old) (S.left source.new) }
     ensures causes { Caused result (S.faults source.old) (S.faults source.new)
-        (B.faults board.old) (B.faults board.new) }
+        (B.seen board.old).faults (B.seen board.new).faults }
     ensures exits { IsRunExit result }
 {
     if let Err(exit) = print_standing(alloc, &run.ledger.account, board) {

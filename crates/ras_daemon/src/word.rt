@@ -2,7 +2,7 @@
 
 ghost use Rattle.std.specs.Prelude.{◌≡◌, IfOk, IfSome};
 ghost use Rattle.ras_daemon.specs.Task.{IsTask, klog_lines_of, klog_of, listing_of, load_of, task_of};
-ghost use Rattle.ras_daemon.specs.Task.{ghes_lines_of, trace_lines_of};
+ghost use Rattle.ras_daemon.specs.Task.{ghes_lines_of, mce_line_of, trace_lines_of};
 
 use bank_lines::LAST_SECOND;
 use listing_texts::Listing;
@@ -86,6 +86,12 @@ pub enum Task {
         /// The second since 1970 at which the boot began.
         began: u64,
     },
+    /// Convert the record of a machine check that the kernel saved as it crashed to a line of
+    /// script.
+    MceLine {
+        /// The number of the boot.
+        boot: u64,
+    },
     /// Print the commands and statuses.
     Help,
     /// Print the program's version.
@@ -100,7 +106,8 @@ pub enum Task {
 /// - `load` with a number of reports from 1 to 50,000 in decimal digits
 /// - `klog` with the number of the boot in decimal digits and IA32_MCG_CAP in hexadecimal ones, as
 ///   a script writes them
-/// - `lines` with `trace` and the number of the boot, or with `klog` and both of these numbers
+/// - `lines` with `trace` or `mce` and the number of the boot, or with `klog` and both of these
+///   numbers
 /// - `lines` with `ghes`, the number of the boot, and the second at which it began, up to
 ///   999,999,999,999
 /// - `--help`, and `--version`
@@ -123,6 +130,10 @@ pub fn task_of(words: &[RasWord]) -> Option<Task>
         [word, form, boot]
             if word.bytes() == b"lines".as_slice() && form.bytes() == b"trace".as_slice() => {
             trace_lines_of(boot.bytes())
+        }
+        [word, form, boot]
+            if word.bytes() == b"lines".as_slice() && form.bytes() == b"mce".as_slice() => {
+            mce_line_of(boot.bytes())
         }
         [word, form, boot, cap]
             if word.bytes() == b"lines".as_slice() && form.bytes() == b"klog".as_slice() => {
@@ -162,6 +173,15 @@ fn trace_lines_of(boot: &[u8]) -> Option<Task>
     ensures { result ≡ trace_lines_of boot.now }
 {
     Some(Task::TraceLines {
+        boot: decimal(boot, u64::MAX)?,
+    })
+}
+
+// Returns the task for the record that the kernel of this boot saved.
+fn mce_line_of(boot: &[u8]) -> Option<Task>
+    ensures { result ≡ mce_line_of boot.now }
+{
+    Some(Task::MceLine {
         boot: decimal(boot, u64::MAX)?,
     })
 }

@@ -5,7 +5,7 @@ use Rattle.std.proofs.lemmas.List.Elements.{recursion_from_All}
 use Rattle.ras_facts.specs.declared.fact.Fact.{Fact as Told}
 use Rattle.ras_facts.specs.declared.entry.Entry.{Entry}
 use Rattle.ras_facts.specs.declared.entry.Entry.TheVariants.{Fact, Limit, Retire, ModuleLimit}
-use Rattle.ras_reports.specs.declared.details.Detail.{Detail}
+use Rattle.ras_facts.specs.declared.details.Detail.{Detail}
 use Rattle.ras_account.specs.Account.{State}
 use Rattle.ras_account.specs.Sightings.{sightings_in}
 use Rattle.ras_account.specs.Continued.{is_fresh_in, account_after, account_after_all, account_after_fresh, account_with_count}

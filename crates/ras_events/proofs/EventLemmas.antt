@@ -16,8 +16,8 @@ use Rattle.ras_facts.specs.declared.entry.Entry.{Entry}
 use Rattle.ras_facts.specs.declared.entry.Entry.TheVariants.{Fact as FactEntry, Limit as PageLimit, Retire, ModuleLimit}
 use Rattle.ras_facts.specs.Entries.{IsValidEntry}
 use Rattle.ras_facts.specs.Valid.{IsValidItem}
-use Rattle.ras_reports.specs.declared.details.Detail.{Detail}
-use Rattle.ras_reports.specs.declared.details.Detail.TheVariants.{Bank, Memory, Processor, X64, Other}
+use Rattle.ras_facts.specs.declared.details.Detail.{Detail}
+use Rattle.ras_facts.specs.declared.details.Detail.TheVariants.{Bank, Memory, Processor, X64, Other}
 use Rattle.ras_account.specs.Account.{State, account_of}
 use Rattle.ras_account.specs.Accounts.{IsAccount, IsModuleRow}
 use Rattle.ras_account.specs.Continued.{is_fresh_in, new_module, module_after, account_after_item, account_after_items, account_after_fresh, account_with_count, account_after, account_after_all}

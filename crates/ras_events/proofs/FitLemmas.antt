@@ -16,7 +16,7 @@ use Rattle.ras_facts.specs.declared.entry.Entry.{Entry}
 use Rattle.ras_facts.specs.declared.entry.Entry.TheVariants as entry
 use Rattle.ras_facts.specs.Entries.{IsValidEntry}
 use Rattle.ras_facts.specs.Valid.{IsValidFact}
-use Rattle.ras_reports.specs.declared.details.Report.{Report}
+use Rattle.ras_facts.specs.declared.details.Report.{Report}
 use Rattle.ras_script.specs.LineLaws.{IsEntryInRange}
 use Rattle.entry_format.specs.Spelling.{entry_bytes}
 use Rattle.entry_format.proofs.SizeLemmas.{entry_most}

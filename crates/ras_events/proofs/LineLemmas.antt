@@ -3,7 +3,7 @@ use Rattle.std.proofs.Common.{◌≡◌, ℕ, ◌+◌, Bool, if◌then◌else◌
 use Rattle.std.proofs.lemmas.List.Elements.{filter_map-append}
 use Rattle.cper_records.specs.declared.refusals.Unreadable.{Unreadable}
 use Rattle.ras_facts.specs.declared.entry.Entry.{Entry}
-use Rattle.ras_reports.specs.declared.details.Detail.{Detail}
+use Rattle.ras_facts.specs.declared.details.Detail.{Detail}
 use Rattle.ras_account.specs.declared.reserve.Tally.{Tally}
 use Rattle.ras_account.specs.Account.{State}
 use Rattle.ras_account.specs.Continued.{is_fresh_in, account_after, account_after_all}

@@ -16,9 +16,9 @@ use Rattle.ras_panic.specs.Reading.{stored_fact}
 use Rattle.ras_panic.specs.Reports.{FitsFields}
 use Rattle.ras_panic.proofs.HeldLemmas.{fact_of_held, held_is_given}
 use Rattle.ras_panic.proofs.RecordLemmas.{is_held, is_named, is_read_first}
-use Rattle.ras_reports.specs.declared.details.Detail.TheVariants as detail
-use Rattle.ras_reports.specs.declared.details.Report.{Report}
-use Rattle.ras_reports.specs.Reports.{bank_report, record_report}
+use Rattle.ras_facts.specs.declared.details.Detail.TheVariants as detail
+use Rattle.ras_facts.specs.declared.details.Report.{Report}
+use Rattle.ras_facts.specs.Reports.{bank_report, record_report}
 use Rattle.ras_events.specs.declared.made.Piece.{Piece}
 use Rattle.ras_events.specs.Making.{made_by_report, piece_of, piece_of_report, polled}
 

@@ -13,8 +13,8 @@ use Rattle.ras_facts.specs.declared.entry.Entry.{Entry}
 use Rattle.ras_facts.specs.declared.entry.Entry.TheVariants as entry
 use Rattle.ras_facts.specs.declared.fact.Fact.{Fact}
 use Rattle.ras_facts.specs.declared.name.Name.{Name}
-use Rattle.ras_reports.specs.declared.details.Detail.TheVariants as detail
-use Rattle.ras_reports.specs.declared.details.Report.{Report}
+use Rattle.ras_facts.specs.declared.details.Detail.TheVariants as detail
+use Rattle.ras_facts.specs.declared.details.Report.{Report}
 use Rattle.ras_script.specs.declared.line.ErrorReport.TheVariants.{Bank}
 use Rattle.ras_script.specs.declared.line.Line.TheVariants as asks
 use Rattle.ras_texts.specs.Reports.{entry_lines}

@@ -18,8 +18,8 @@ use Rattle.ras_panic.specs.declared.making.PanicRefused.TheVariants.{ReservedId,
 use Rattle.dimm_topology.specs.Refusals.{row_refusal}
 use Rattle.ras_facts.specs.declared.name.Name.{Name}
 use Rattle.ras_facts.specs.declared.name.Name.TheVariants as names
-use Rattle.ras_reports.specs.declared.details.Report.{Report}
-use Rattle.ras_reports.specs.Reports.{bank_report, block_report}
+use Rattle.ras_facts.specs.declared.details.Report.{Report}
+use Rattle.ras_facts.specs.Reports.{bank_report, block_report}
 use Rattle.ras_script.specs.declared.line.ErrorReport.{ErrorReport}
 use Rattle.ras_script.specs.declared.line.ErrorReport.TheVariants.{Bank, Block, Boot}
 use Rattle.ras_script.specs.declared.line.Line.{Line}

@@ -6,8 +6,8 @@ use Rattle.dimm_topology.specs.declared.row.Row.{Row}
 use Rattle.erst_store.specs.Store.{Stored}
 use Rattle.ras_facts.specs.declared.entry.Entry.{Entry}
 use Rattle.ras_facts.specs.declared.entry.Entry.TheVariants.{Fact}
-use Rattle.ras_reports.specs.declared.details.Report.{Report}
-use Rattle.ras_reports.specs.Reports.{stored_report}
+use Rattle.ras_facts.specs.declared.details.Report.{Report}
+use Rattle.ras_panic.specs.Reading.{stored_report}
 use Rattle.ras_events.specs.declared.made.Piece.{Piece}
 use Rattle.ras_events.specs.declared.made.Piece.TheVariants.{Counted, Unread}
 use Rattle.ras_events.specs.Stores.{read_stored}

@@ -11,8 +11,7 @@ ghost use Rattle.ras_events.specs.Preparing.{text_along};
 use crate::{Made, Piece};
 use ras_account::{Account, Tally};
 use ras_base::NoMemory;
-use ras_facts::Entry;
-use ras_reports::Detail;
+use ras_facts::{Detail, Entry};
 use ras_texts::{push_entry, push_repeat, push_unreadable};
 use std::alloc::Global;
 

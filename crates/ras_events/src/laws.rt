@@ -8,7 +8,7 @@ ghost use Rattle.ras_facts.specs.Facts.{status_in};
 ghost use Rattle.ras_facts.specs.declared.bank.BankReport.{BankReport};
 ghost use Rattle.ras_panic.specs.Panics.{panic_bytes};
 ghost use Rattle.ras_panic.specs.Reports.{FitsFields};
-ghost use Rattle.ras_reports.specs.Reports.{bank_report};
+ghost use Rattle.ras_facts.specs.Reports.{bank_report};
 ghost use Rattle.std.specs.List.{flat_map, fold};
 ghost use Rattle.std.specs.Result.{is_ok};
 ghost use Rattle.cper_records.specs.Readable.{filled, read_under};

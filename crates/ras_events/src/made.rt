@@ -7,8 +7,7 @@ ghost use Rattle.ras_events.specs.Making.{made_by_report, made_of_entry, piece_o
 
 use cper_records::Unreadable;
 use ras_base::NoMemory;
-use ras_facts::Entry;
-use ras_reports::{Details, Report};
+use ras_facts::{Details, Entry, Report};
 use std::alloc::Global;
 use std::marker::Model;
 

@@ -24,9 +24,8 @@ use dimm_topology::{Row, Topology, TopologyRefused};
 use erst_driver::Driver;
 use erst_interp::{ErstTableRefused, admits, read_erst};
 use ras_exit::Reason;
-use ras_facts::{BankReport, Name};
+use ras_facts::{BankReport, Name, report_of_bank, report_of_block};
 use ras_panic::panic_record;
-use ras_reports::{report_of_bank, report_of_block};
 use ras_script::{ErrorReport, Line, Table};
 use std::alloc::Global;
 

@@ -7,9 +7,10 @@ ghost use Rattle.dimm_topology.specs.Topology.{IsTopology};
 ghost use Rattle.dimm_topology.specs.declared.row.Row.{Row};
 ghost use Rattle.mca_status.specs.Registers.{valid};
 ghost use Rattle.ras_facts.specs.Facts.{bank_name, bank_label, bank_item, status_in, bank_fact};
+ghost use Rattle.ras_facts.specs.Reports.{bank_report};
 ghost use Rattle.ras_facts.specs.Valid.{IsValidItem, IsValidFact};
 
-use crate::{Fact, Item, Items, Name};
+use crate::{Detail, Details, Fact, Item, Items, Name, Report};
 use dimm_topology::{Label, Topology};
 use mca_codes::code_of;
 use mca_status::{Cap, Class, Misc, Status, class_of, usable_address, usable_page, weight_of};
@@ -126,4 +127,27 @@ pub fn fact_of_bank(
         seconds,
         items,
     }))
+}
+
+/// Returns the report of a bank: its fact by `fact_of_bank`, and its snapshot as the detail of the
+/// one item. It is `None` if and only if the bank has no error (VAL is 0), and then nothing is
+/// allocated.
+///
+/// # Errors
+///
+/// `NoMemory`: only if memory runs out.
+pub fn report_of_bank(
+    alloc: Global,
+    bank: &BankReport,
+    topology: &Topology,
+) -> Result<Option<Report>, NoMemory>
+    ensures report { IfOk result (λ report. report ≡ bank_report bank.now topology.now) }
+    ensures none { (result ≡ Ok None) ↔ IsFalse (valid (status_in bank.now)) }
+    ensures valid { IfOk result (λ report. IfSome report (λ told. IsValidFact told.fact)) }
+{
+    let Some(fact) = fact_of_bank(alloc, bank, topology)? else {
+        return Ok(None);
+    };
+    let details = Details::one(alloc, Detail::Bank(*bank))?;
+    Ok(Some(Report { fact, details }))
 }

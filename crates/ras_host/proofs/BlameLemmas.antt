@@ -38,7 +38,7 @@ still : (P : Type 0) (n n' : ℕ) → n ≤ n' → P ⊎ (0 < n) → P ⊎ (0 < 
 still P n n' later (inl p) = inl p
 still P n n' later (inr some) = inr (omega arith)
 
-blamed_later : (files : JournalFiles) (n n' : ℕ) → n ≤ n' → AreBlamed files n → AreBlamed files n'
+pub blamed_later : (files : JournalFiles) (n n' : ℕ) → n ≤ n' → AreBlamed files n → AreBlamed files n'
 blamed_later Shut n n' later is = tt
 blamed_later (Open sound) n n' later is = still (IsTrue sound.zero × IsTrue sound.one) n n' later is
 blamed_later Unread n n' later is = tt
@@ -49,6 +49,11 @@ blamed_later (Seen files sound) n n' later is = tt
 run_failed : (how : ℕ) (old new : JournalFiles) (n' g : ℕ) → (how ≡ 1 → AreReports old → ⊥) → (AreReports new → AreReports old) → AreReports new ⊎ (0 < n') → how ≡ 1 → 0 < n' + g
 run_failed how old new n' g run comes (inl reports) is = absurd (run is (comes reports))
 run_failed how old new n' g run comes (inr some) is = omega arith
+
+-- the system was asked
+pub files_asked : {T E : Type 0} (files : JournalFiles) (n n' : ℕ) (r : Result T E) → HasCause n n' r → FilesCause files files n n' r
+files_asked files n n' (Ok v) c = record { once = record { later = c.later; same = c.same; failed = tt }; cause = tt; stays = λ is. is; comes = λ is. is }
+files_asked files n n' (Err e) c = record { once = record { later = c.later; same = tt; failed = inr c.failed }; cause = inr (rose n n' c.failed); stays = λ is. is; comes = λ is. is }
 
 pub caused_files : {T E : Type 0} (how : ℕ) (old new : JournalFiles) (kept : Kept) (f : Faults) (d' n n' : ℕ) (r : Result T E) → AreCaused how old kept f n → AreBlamed new n' → FilesCause old new n n' r → HasCause f.disk d' r
     → AreCaused how new kept (record f { disk = d' }) n'

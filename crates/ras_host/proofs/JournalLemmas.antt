@@ -1,109 +1,29 @@
 -- What a call of the journal's files comes to, by what it asks of the system.
-use Rattle.std.proofs.Common.{◌≡◌, ℕ, List, length, Some, refl, sym, ap, ◌∙◌, subst, OnOk, inl, inr}
-use Rattle.std.specs.Prelude.{◌⊎◌, Bool, true, false, IsTrue, Option, None, IfSome, IfOk, Result, Ok, Err, OnErr}
+use Rattle.std.proofs.Common.{◌≡◌, ℕ, List, Some, refl, sym, ◌∙◌, subst, OnOk, inl, inr}
+use Rattle.std.specs.Prelude.{◌⊎◌, Bool, true, false, IsTrue, Option, None, IfSome, IfOk, Result, Ok, Err}
 use Rattle.std.specs.Result.{is_ok}
 use Rattle.board_core.specs.Clock.{Passes}
-use Rattle.board_core.specs.Stop.{Left, Same, InFile, file_in, with_file_in}
-use Rattle.board_core.specs.Steps.MomentLemmas.{torn_nothing}
-use Rattle.board_core.specs.Told.{Torn, overlay}
+use Rattle.board_core.specs.Stop.{Left, Same, file_in}
 use Rattle.board_core.specs.declared.board.FileNo.{FileNo}
 use Rattle.board_core.specs.declared.board.FileNo.TheVariants.{Zero, One}
-use Rattle.host_system.specs.BoardFile.{AreNamed, AreOpenable, AreOpened, IsReadable, IsUsable, KeepsFile, KeepsOthers, KeepsStore, SeesSame, SeesWritten, SeesTorn}
+use Rattle.host_system.specs.BoardFile.{AreNamed, AreOpenable, AreOpened, IsReadable, IsUsable, KeepsFile, KeepsOthers, KeepsStore, SeesSame, HasSettledStore}
 use Rattle.host_system.specs.FolderPast.{FolderPast, IfTold}
-use Rattle.host_system.specs.Steps.FolderPastLemmas.{passes_then, stands}
-use Rattle.host_system.specs.View.{HasSettledStore, HasWholeStore, clock_over, seen_now}
-use Rattle.ras_host.specs.JournalFiles.{AreHeld, AreRead, AreSound, IsOneSound, IsRead, Moves, SettlesStore, part_of, with_part}
+use Rattle.host_system.specs.View.{HasWholeStore, clock_over, seen_now}
+use Rattle.ras_host.specs.JournalFiles.{AreHeld, AreRead, AreSound, IsOneSound, IsRead, IsReady, Moves, SettlesStore, part_of, with_part}
 use Rattle.ras_host.specs.declared.journal.JournalFiles.{JournalFiles}
 use Rattle.ras_host.specs.declared.journal.JournalFiles.TheVariants.{Open, Seen, Shut, Unread}
 use Rattle.ras_host.specs.declared.reading.Pair.{Pair}
 use Rattle.ras_host.specs.declared.reading.ReadFile.{ReadFile}
 
--- ---- calls one after another
-
 -- what a board sees of a call, by what it saw before and sees now
 abbrev pub SeesBy : (Left → Left → Type 0) → FolderPast → FolderPast → Type 0
 SeesBy R old new = R (seen_now old) (seen_now new)
-
-told_after : (R : Left → Left → Type 0) (a b c : Option FolderPast) → IfTold SeesSame a b → IfTold (SeesBy R) b c
-    → IfTold (SeesBy R) a c
-told_after R None b c first second = subst (λ (o : Option FolderPast). IfTold (SeesBy R) o c) first second
-told_after R (Some x) None c first second = absurd first
-told_after R (Some x) (Some y) None first second = second
-told_after R (Some x) (Some y) (Some z) first second = subst (λ (l : Left). R l (seen_now z)) first second
-
-store_after : (a b c : Option FolderPast) → IfTold KeepsStore a b → IfTold KeepsStore b c → IfTold KeepsStore a c
-store_after None b c first second = subst (λ (o : Option FolderPast). IfTold KeepsStore o c) first second
-store_after (Some x) None c first second = absurd first
-store_after (Some x) (Some y) None first second = second
-store_after (Some x) (Some y) (Some z) first second =
-    record { settled = λ is. second.settled (first.settled is); whole = λ is. second.whole (first.whole is) }
-
--- a file is sound after two calls: it became so in the second, or in the first, or it was
-settles_both : (f g h : JournalFiles) (x y z : FolderPast) → SettlesStore f g x y → KeepsStore x y → SettlesStore g h y z
-    → KeepsStore y z → SettlesStore f h x z
-settles_both f g h x y z first before second after is = elim (second is) [
-  | inr now ↦ inr (λ whole. now (before.whole whole))
-  | inl was ↦ elim (first was) [ inl always ↦ inl always | inr then ↦ inr (λ whole. after.settled (then whole)) ]
-]
-
-settles_after : (f g h : JournalFiles) (a b c : Option FolderPast) → IfTold (SettlesStore f g) a b → IfTold KeepsStore a b
-    → IfTold (SettlesStore g h) b c → IfTold KeepsStore b c → IfTold (SettlesStore f h) a c
-settles_after f g h None b c first before second after =
-    subst (λ (o : Option FolderPast). IfTold KeepsStore o c) before after
-settles_after f g h (Some x) None c first before second after = absurd first
-settles_after f g h (Some x) (Some y) None first before second after = after
-settles_after f g h (Some x) (Some y) (Some z) first before second after =
-    settles_both f g h x y z first before second after
-
--- the files are opened, and then a call of one is made
-pub moves_after : (R : Left → Left → Type 0) (Step : Left → Left → Type 0) → ((l : Left) → Step l l)
-    → (f g h : JournalFiles) (a b c : Option FolderPast) → Moves SeesSame Same f g a b → Moves (SeesBy R) Step g h b c
-    → Moves (SeesBy R) Step f h a c
-moves_after R Step still f g h a b c first second = record {
-  sees = told_after R a b c first.sees second.sees;
-  store = store_after a b c first.store second.store;
-  settles = settles_after f g h a b c first.settles first.store second.settles second.store;
-  stops = passes_then Same Step Step (clock_over a) (clock_over b) (clock_over c)
-      (λ x y is. subst (λ (l : Left). Step x l) (sym is) (still x))
-      (λ x y z is by. subst (λ (l : Left). Step l z) is by) first.stops second.stops;
-}
-
-pub moves_same : (f g h : JournalFiles) (a b c : Option FolderPast) → Moves SeesSame Same f g a b
-    → Moves SeesSame Same g h b c → Moves SeesSame Same f h a c
-moves_same = moves_after Same Same (λ l. refl)
-
-told_same : (R : Left → Left → Type 0) → ((l : Left) → R l l) → (a : Option FolderPast) → IfTold (SeesBy R) a a
-told_same R same None = refl
-told_same R same (Some past) = same (seen_now past)
-
-store_same : (a : Option FolderPast) → IfTold KeepsStore a a
-store_same None = refl
-store_same (Some past) = record { settled = λ is. is; whole = λ is. is }
 
 settles_still : (f g : JournalFiles) (a b : Option FolderPast) → (IsOneSound g → IsOneSound f) → IfTold KeepsStore a b
     → IfTold (SettlesStore f g) a b
 settles_still f g None b was keeps = keeps
 settles_still f g (Some x) None was keeps = keeps
 settles_still f g (Some x) (Some y) was keeps = λ is. inl (was is)
-
-pub moves_still : (R : Left → Left → Type 0) (Step : Left → Left → Type 0) → ((l : Left) → R l l)
-    → ((l : Left) → Step l l) → (f : JournalFiles) (a : Option FolderPast) → Moves (SeesBy R) Step f f a a
-moves_still R Step same still f a =
-    record {
-      sees = told_same R same a;
-      store = store_same a;
-      settles = settles_still f f a a (λ is. is) (store_same a);
-      stops = stands Step (clock_over a) still;
-    }
-
--- a write that fails before it begins
-pub moves_untorn : (file : FileNo) (place count : ℕ) (f g : JournalFiles) (a b : Option FolderPast)
-    → Moves SeesSame Same f g a b → Moves (SeesTorn file place count) (InFile file (Torn place count)) f g a b
-moves_untorn file place count f g a b first =
-    moves_after (InFile file (Torn place count)) (InFile file (Torn place count))
-    (torn_nothing file place count) f g g a b b first
-    (moves_still (InFile file (Torn place count)) (InFile file (Torn place count)) (torn_nothing file place count)
-    (torn_nothing file place count) g b)
 
 -- ---- files that are open
 
@@ -208,58 +128,52 @@ still_held file sound (Some x) (Some y) held keeps now =
     subst (λ (s : Pair Bool). AreHeld (Open s) y) (same_part file sound)
     (still_sound IsUsable file (part_of file sound) sound x y (usable_kept x y) held keeps (λ is. now))
 
-pub wrote_held : (file : FileNo) (sound : Pair Bool) (g : JournalFiles) (a b : Option FolderPast) → g ≡ Open sound
-    → IfSome a (AreHeld g) → IfTold (KeepsOthers file) a b → IfSome b (IsUsable file)
-    → IfSome b (AreHeld (Open sound))
-wrote_held file sound g a b is held =
-    still_held file sound a b (subst (λ (f : JournalFiles). IfSome a (AreHeld f)) is held)
+-- ---- a file that is ready
 
--- ---- a sync, however it ended
+pub ready_usable : (file : FileNo) (f : JournalFiles) (sound : Pair Bool) (told : Option FolderPast) → f ≡ Open sound → IfSome told (AreHeld f) → IsReady file f → IfSome told (IsUsable file)
+ready_usable file f sound told is held ready =
+    by told (subst (λ (j : JournalFiles). IfSome told (AreHeld j)) is held) (subst (IsReady file) is ready)
+  where
+    of_part : (file : FileNo) (p : FolderPast) → AreSound IsUsable sound p → IsTrue (part_of file sound) → IsUsable file p
+    of_part Zero p held ready = held.zero ready
+    of_part One p held ready = held.one ready
 
-pub moves_as : (f g h : JournalFiles) (a b : Option FolderPast) → g ≡ h → Moves SeesSame Same f g a b
-    → Moves SeesSame Same f h a b
-moves_as f g h a b is first = subst (λ (j : JournalFiles). Moves SeesSame Same f j a b) is first
+    by : (told : Option FolderPast) → IfSome told (AreSound IsUsable sound) → IsTrue (part_of file sound) → IfSome told (IsUsable file)
+    by None held ready = tt
+    by (Some p) held ready = of_part file p held ready
 
--- files of which one was sound are synced
-pub moves_synced : (file : FileNo) (f g h : JournalFiles) (a b c : Option FolderPast) → IsOneSound g
-    → Moves SeesSame Same f g a b → IfTold SeesSame b c → IfTold (KeepsOthers file) b c
-    → Passes Same (clock_over b) (clock_over c) → Moves SeesSame Same f h a c
-moves_synced file f g h a b c sound first sees keeps stops =
-    moves_same f g h a b c first (moves_open file Same Same g h b c (λ is. sound) sees keeps stops)
+pub ready_sound : (file : FileNo) (f : JournalFiles) (sound : Pair Bool) → f ≡ Open sound → IsReady file f → IsOneSound f
+ready_sound file f sound is ready = subst IsOneSound (sym is) (one_sound file sound (subst (IsReady file) is ready))
 
--- after a sync that went well the file is sound
-pub sound_after : {T E : Type 0} (file : FileNo) (result : Result T E) (flag : Bool) (sound now : Pair Bool)
-    → flag ≡ is_ok result → now ≡ with_part file flag sound → OnOk result (IsTrue now.zero ⊎ IsTrue now.one)
-sound_after Zero (Ok done) flag sound now value set = inl (ap (λ (s : Pair Bool). s.zero) set ∙ value)
-sound_after One (Ok done) flag sound now value set = inr (ap (λ (s : Pair Bool). s.one) set ∙ value)
-sound_after file (Err e) flag sound now value set = tt
+pub seen_readable : (file : FileNo) (f : JournalFiles) (files : Pair ReadFile) (sound : Pair Bool) (told : Option FolderPast) → f ≡ Seen files sound → IfSome told (AreHeld f) → IsTrue (part_of file sound)
+    → IfSome told (IsReadable file)
+seen_readable file f files sound told is held flag = by told (subst (λ (j : JournalFiles). IfSome told (AreHeld j)) is held)
+  where
+    of_part : (file : FileNo) (p : FolderPast) → AreSound IsReadable sound p → IsTrue (part_of file sound) → IsReadable file p
+    of_part Zero p held flag = held.zero flag
+    of_part One p held flag = held.one flag
 
--- ---- a write, however it ended
+    by : (told : Option FolderPast) → IfSome told (AreHeld (Seen files sound)) → IfSome told (IsReadable file)
+    by None held = tt
+    by (Some p) held = of_part file p held.readable flag
 
-pub write_opened : {T E : Type 0} (file : FileNo) (place : ℕ) (bytes : List ℕ) (result : Result T E)
-    (sound : Pair Bool) (f : JournalFiles) (a b c : Option FolderPast) → Moves SeesSame Same f (Open sound) a b
-    → OnOk result (IfTold (SeesWritten file place bytes) b c) → IfTold (KeepsOthers file) b c
-    → Passes (InFile file (Torn place (length bytes))) (clock_over b) (clock_over c)
-    → OnOk result (Moves (SeesWritten file place bytes) (InFile file (Torn place (length bytes))) f (Open sound) a c)
-write_opened file place bytes (Ok x) sound f a b c first sees keeps stops =
-    moves_after (λ old new. new ≡ with_file_in file (overlay place bytes (file_in file old)) old)
-    (InFile file (Torn place (length bytes))) (torn_nothing file place (length bytes)) f (Open sound)
-    (Open sound) a b c first
-    (moves_open file (λ old new. new ≡ with_file_in file (overlay place bytes (file_in file old)) old)
-    (InFile file (Torn place (length bytes))) (Open sound) (Open sound) b c (λ is. is) sees keeps stops)
-write_opened file place bytes (Err e) sound f a b c first sees keeps stops = tt
+pub seen_sound : (file : FileNo) (f : JournalFiles) (files : Pair ReadFile) (sound : Pair Bool) → f ≡ Seen files sound → IsTrue (part_of file sound) → IsOneSound f
+seen_sound file f files sound is flag = subst IsOneSound (sym is) (one_sound file sound flag)
 
-pub write_failed : {T E : Type 0} (file : FileNo) (place count : ℕ) (result : Result T E) (sound : Pair Bool)
-    (f : JournalFiles) (a b c : Option FolderPast) → Moves SeesSame Same f (Open sound) a b
-    → OnErr result (IfTold (SeesTorn file place count) b c) → IfTold (KeepsOthers file) b c
-    → Passes (InFile file (Torn place count)) (clock_over b) (clock_over c)
-    → OnErr result (Moves (SeesTorn file place count) (InFile file (Torn place count)) f (Open sound) a c)
-write_failed file place count (Ok x) sound f a b c first sees keeps stops = tt
-write_failed file place count (Err e) sound f a b c first sees keeps stops =
-    moves_after (InFile file (Torn place count)) (InFile file (Torn place count)) (torn_nothing file place count) f
-    (Open sound) (Open sound) a b c first
-    (moves_open file (InFile file (Torn place count))
-    (InFile file (Torn place count)) (Open sound) (Open sound) b c (λ is. is) sees keeps stops)
+-- a file that is neither unready nor read is open
+pub ready_open : (file : FileNo) (f : JournalFiles) (told : Option FolderPast) → IsReady file f → ((files : Pair ReadFile) (sound : Pair Bool) → f ≡ Seen files sound → ⊥) → IfSome told (AreHeld f) → IfSome told (IsUsable file)
+ready_open file Shut told ready other held = absurd ready
+ready_open file (Open sound) told ready other held = ready_usable file (Open sound) sound told refl held ready
+ready_open file Unread told ready other held = absurd ready
+ready_open file (Seen files sound) told ready other held = absurd (other files sound refl)
+
+-- files of which one was written stay as they are held
+pub held_wrote : (file : FileNo) (f : JournalFiles) (a b : Option FolderPast) → IsReady file f → ((files : Pair ReadFile) (sound : Pair Bool) → f ≡ Seen files sound → ⊥) → IfSome a (AreHeld f) → IfTold (KeepsOthers file) a b
+    → IfSome b (IsUsable file) → IfSome b (AreHeld f)
+held_wrote file Shut a b ready other held keeps usable = absurd ready
+held_wrote file (Open sound) a b ready other held keeps usable = still_held file sound a b held keeps usable
+held_wrote file Unread a b ready other held keeps usable = absurd ready
+held_wrote file (Seen files sound) a b ready other held keeps usable = absurd (other files sound refl)
 
 -- ---- files are opened, or read
 
@@ -358,15 +272,12 @@ part_read : (file : FileNo) (files : Pair ReadFile) (p : FolderPast) → AreRead
 part_read Zero files p is = is.zero
 part_read One files p is = is.one
 
-pub file_read : (file : FileNo) (files : Pair ReadFile) (sound : Pair Bool) (g : JournalFiles) (read : ReadFile)
-    (a b : Option FolderPast) → g ≡ Seen files sound → read ≡ part_of file files → IfTold SeesSame a b
-    → IfSome b (AreHeld g) → IfSome a (λ p. IsRead read (file_in file (seen_now p)))
-file_read file files sound g read None b is part sees held = tt
-file_read file files sound g read (Some x) None is part sees held = absurd sees
-file_read file files sound g read (Some x) (Some y) is part sees held =
-    subst (λ (l : Left). IsRead read (file_in file l)) sees
-    (subst (λ (r : ReadFile). IsRead r (file_in file (seen_now y))) (sym part)
-    (part_read file files y (subst (λ (f : JournalFiles). AreHeld f y) is held).read))
+pub file_read : (file : FileNo) (files : Pair ReadFile) (sound : Pair Bool) (g : JournalFiles) (read : ReadFile) (told : Option FolderPast) → g ≡ Seen files sound → read ≡ part_of file files → IfSome told (AreHeld g)
+    → IfSome told (λ p. IsRead read (file_in file (seen_now p)))
+file_read file files sound g read None is part held = tt
+file_read file files sound g read (Some p) is part held =
+    subst (λ (r : ReadFile). IsRead r (file_in file (seen_now p))) (sym part)
+    (part_read file files p (subst (λ (f : JournalFiles). AreHeld f p) is held).read)
 
 pub file_reads : {E : Type 0} (R : ℕ → List ℕ → Type 0) (result : Result ℕ E) (read : ReadFile) (file : FileNo)
     (a : Option FolderPast) → IfSome a (λ p. IsRead read (file_in file (seen_now p)))
@@ -375,9 +286,3 @@ pub file_reads : {E : Type 0} (R : ℕ → List ℕ → Type 0) (result : Result
 file_reads R (Ok n) read file None is reads = tt
 file_reads R (Ok n) read file (Some p) is reads = reads (file_in file (seen_now p)) is
 file_reads R (Err e) read file a is reads = tt
-
-pub file_length : (read : ReadFile) (file : FileNo) (a : Option FolderPast)
-    → IfSome a (λ p. IsRead read (file_in file (seen_now p)))
-    → IfSome a (λ p. read.length ≡ length (file_in file (seen_now p)))
-file_length read file None is = tt
-file_length read file (Some p) is = is.size

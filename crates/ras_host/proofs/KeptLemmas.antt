@@ -1,11 +1,11 @@
 -- The device that is kept and the folder go together, however a call on it ended.
 use Rattle.std.proofs.Common.{◌≡◌, ℕ, ◌≤◌, List, [], length, take, Some, refl, sym, ap, subst, ◌∙◌, arith, inl, inr}
-use Rattle.std.specs.Prelude.{◌⊎◌, ◌≢◌, Bool, true, false, ◌&&◌, nat_eq, ◌==◌, if◌then◌else◌, Option, None, IfSome, IfOk, Result, Ok, Err, OnOk, OnErr}
+use Rattle.std.specs.Prelude.{◌⊎◌, ◌≢◌, Bool, true, false, ◌&&◌, nat_eq, ◌==◌, if◌then◌else◌, Option, None, IfSome, IfOk, Result, Ok, Err, IsErr, OnOk, OnErr}
 use Rattle.std.specs.Bool.{Decides}
 use Rattle.std.specs.Cmp.{unsigned_Decides}
 use Rattle.std.specs.Cmp.Lexicographic.{pointwise, pointwise_decides, bytes_decides}
 use Rattle.std.specs.Option.{option_map}
-use Rattle.std.specs.Result.{result_or, result_unwrap_or}
+use Rattle.std.specs.Result.{is_err, result_or, result_unwrap_or}
 use Rattle.std.proofs.lemmas.List.{take_all}
 use Rattle.std.proofs.lemmas.Result.{on_ok_weaker, on_err_weaker}
 use Rattle.board_core.specs.Clock.{Passes}
@@ -25,18 +25,19 @@ use Rattle.erst_store.specs.StoreReading.{file_at, store_at}
 use Rattle.erst_store.specs.declared.reading.StoreRefused.{StoreRefused}
 use Rattle.erst_store.specs.Steps.KeptLemmas.{IsDevice-new}
 use Rattle.erst_store.specs.Steps.StoreLemmas.{IsStore-nil}
-use Rattle.host_system.specs.BoardFile.{KeepsFile}
+use Rattle.host_system.specs.BoardFile.{KeepsFile, HasSettledStore, with_store}
 use Rattle.host_system.specs.FolderPast.{FolderPast, IfTold, bytes_named, bytes_or, length_told}
-use Rattle.host_system.specs.StoreFile.{HasReplaced, KeepsWhole}
-use Rattle.host_system.specs.View.{HasSettledStore, HasWholeStore, MayBeRead, MayBegin, clock_over, seen_now, store_in, store_or, with_store}
+use Rattle.host_system.specs.StoreFile.{HasReplaced, KeepsWhole, Replaces}
+use Rattle.host_system.specs.View.{HasWholeStore, MayBeRead, MayBegin, clock_over, seen_now, store_in}
 use Rattle.host_system.specs.Steps.FolderPastLemmas.{stands}
 use Rattle.host_system.specs.declared.system.FileName.TheVariants.{Store}
 use Rattle.ras_host.specs.JournalFiles.{AreHeld, files_for}
-use Rattle.ras_host.specs.Steps.KeptDevice.{Acts, BecomesBy, IsInStep, IsSaved, IsUsed, Keeps, KeepsOrLoses, MayTurn, Settles, Turned, Turns, device_in, is_same_record, is_same_store, volatile_in}
+use Rattle.ras_host.specs.Steps.KeptDevice.{Acts, BecomesBy, IsChange, IsInStep, IsSaved, IsUsed, Keeps, KeepsOrLoses, MayTurn, Settles, StaysOrLoses, Turned, Turns, device_in, is_same_record, is_same_store, volatile_in}
 use Rattle.ras_host.specs.Steps.Settled.{IsSettledBy}
 use Rattle.ras_host.specs.Steps.Written.{Writes}
 use Rattle.ras_host.specs.declared.journal.JournalFiles.{JournalFiles}
 use Rattle.ras_host.specs.declared.journal.JournalFiles.TheVariants.{Shut, Unread as NotRead}
+use Rattle.ras_host.specs.declared.kept.Change.{Change}
 use Rattle.ras_host.specs.declared.kept.Kept.{Kept}
 use Rattle.ras_host.specs.declared.kept.Kept.TheVariants.{Unread, Here, Lost, Unreadable}
 use Rattle.ras_host.specs.declared.saved.Saved.{Saved}
@@ -214,7 +215,8 @@ acts_any step was old new (Err e) before after in_step taken used same ok err =
 
 -- the bytes of a store's file are read as the store
 pub bytes_again : ((records : List Stored) → IsStore records → file_at (store_bytes records) ≡ Ok records) → (bytes : List ℕ) (store : List Stored) → IsStore store → bytes ≡ store_bytes store → store_in (Some bytes) ≡ store
-bytes_again again bytes store kept is = ap (λ (b : List ℕ). store_or (file_at b)) is ∙ ap store_or (again store kept)
+bytes_again again bytes store kept is =
+    ap (λ (b : List ℕ). result_unwrap_or (file_at b) []) is ∙ ap (λ (r : Result (List Stored) StoreRefused). result_unwrap_or r []) (again store kept)
 
 -- the file has this store once that went well
 record Wrote {T E : Type 0} (store : List Stored) (result : Result T E) (p : FolderPast) (after : Option FolderPast) : Type 0 where
@@ -410,6 +412,58 @@ turned_unwritten {T = T} {E = E} step saved before made new e (Some p) after sam
     (turned_lost step saved before made new e p (Some p) is was made_is kept lost (inl refl) (λ file. same_file file p) is.whole
     (stands (InStore (Becomes made.store)) (clock_over (Some p)) (λ left. record { store = left.store; step = inl refl; rest = refl })))
 
+-- a change was to come into the file
+pub turned_saved : {T E : Type 0} (change : Change) (new : Kept) (result : Result T E) (told after : Option FolderPast) → ((records : List Stored) → IsStore records → file_at (store_bytes records) ≡ Ok records)
+    → KeepsOrLoses result change.before change.made new → Writes change.had.items change.made.file.items result told after
+    → (step : Device → Device) (saved : Saved) → IsChange step saved change → IfSome told (IsInStep (Here saved)) → Turned step (Here saved) new result told after
+turned_saved change new result told after again keeps writes step saved is in_step =
+    turned_wrote step saved change.made change.had.items change.before new result told after again in_step is.before is.made is.device keeps is.had writes
+
+-- the file was replaced, or that failed
+pub replaces_ok : {T E F : Type 0} (bytes : List ℕ) (result : Result T E) (x : T) (old new : Option FolderPast) → is_err result ≡ false → Replaces bytes result old new → Replaces {E = F} bytes (Ok x) old new
+replaces_ok bytes (Ok y) x old new is r = record { whole = r.whole; files = r.files; ok = r.ok; err = tt; stops = r.stops }
+replaces_ok bytes (Err e) x old new is r = absurd cc
+
+pub replaces_err : {T U E F : Type 0} (bytes : List ℕ) (result : Result T E) (e : F) (old new : Option FolderPast) → is_err result ≡ true → Replaces bytes result old new → Replaces {T = U} bytes (Err e) old new
+replaces_err bytes (Ok y) e old new is r = absurd cc
+replaces_err bytes (Err f) e old new is r = record { whole = r.whole; files = r.files; ok = tt; err = r.err; stops = r.stops }
+
+pub replaces_same : {T E : Type 0} (bytes same : List ℕ) (result : Result T E) (old new : Option FolderPast) → bytes ≡ same → Replaces bytes result old new → Replaces same result old new
+replaces_same bytes same result old new is r = subst (λ (b : List ℕ). Replaces b result old new) is r
+
+-- the device that was taken out is put back
+pub put_back_stays : (step : Device → Device) (saved back : Saved) (new : Kept) → new ≡ Here back → IsDevice back.device → back.device ≡ saved.device → StaysOrLoses step saved new
+put_back_stays step saved back new here device same = inl (record { saved = back; kept = here; after = same; store = refl; device = device })
+
+-- no change was made, or it was lost
+device_here : (saved : Saved) (told : Option FolderPast) → IfSome told (IsInStep (Here saved)) → IfSome told (λ p. saved.device ≡ device_in (Here saved) p)
+device_here saved None is = tt
+device_here saved (Some p) is = ap (λ (s : List Stored). device_with s (volatile_of saved.device)) is.over
+
+pub turned_failed : {T E : Type 0} (step : Device → Device) (saved : Saved) (new : Kept) (e : E) (told after : Option FolderPast) → after ≡ told → IfSome told (IsInStep (Here saved)) → StaysOrLoses step saved new
+    → Turned {T = T} step (Here saved) new (Err e) told after
+turned_failed {T = T} {E = E} step saved new e told after same is (inl acts) =
+    acts_any {T = T} {E = E} step saved.device (Here saved) new (Err e) told after is (device_here saved told is) refl same tt acts
+turned_failed step saved new e told after same is (inr lost) =
+    turned_unwritten step saved lost.before lost.made new e told after same is lost.was lost.same lost.device lost.lost
+
+pub turned_ended : {T E : Type 0} (step : Device → Device) (saved : Saved) (new : Kept) (result : Result T E) (told after : Option FolderPast) → IsErr result → after ≡ told → IfSome told (IsInStep (Here saved)) → StaysOrLoses step saved new
+    → Turned step (Here saved) new result told after
+turned_ended step saved new (Ok x) told after failed same is ends = absurd (not_err failed)
+  where
+    not_err : false ≡ true → ⊥
+    not_err e = cc
+turned_ended {T = T} step saved new (Err e) told after failed same is ends = turned_failed {T = T} step saved new e told after same is ends
+
+-- the device that was taken out and the folder go together
+pub in_step_taken : (saved : Saved) (old : Kept) (told : Option FolderPast) → IfSome told (IsInStep old) → IfSome told (λ p. saved.device ≡ device_in old p) → IfSome told (IsInStep (Here saved))
+in_step_taken saved old None is taken = tt
+in_step_taken saved old (Some p) is taken = record {
+  over = ap (λ (d : Device). d.store) taken;
+  device = subst IsDevice (sym (taken_is saved old p taken)) is.device;
+  whole = is.whole;
+}
+
 pub turned_or : {T E F : Type 0} (step : Device → Device) (old new : Kept) (result : Result T E) (f : F) (before after : Option FolderPast) → Turned step old new result before after → Turned step old new (result_or result (Err f)) before after
 turned_or step old new (Ok x) f before after turned = record { ok = turned.ok; err = tt; stops = turned.stops; in_step = turned.in_step; saved = turned.saved }
 turned_or step old new (Err e) f before after turned = record { ok = tt; err = turned.err; stops = turned.stops; in_step = turned.in_step; saved = turned.saved }
@@ -419,13 +473,9 @@ put_is id bytes d made is free = is ∙ ap (λ (r : Option PutRefused). unless_r
 
 -- ---- a beginning
 
-unwrapped : (r : Result (List Stored) StoreRefused) → result_unwrap_or r [] ≡ store_or r
-unwrapped (Ok records) = refl
-unwrapped (Err refused) = refl
-
 pub store_kept : (AreBytes : List ℕ → Type 0) → ((bytes : List ℕ) → AreBytes bytes → IsStore (store_at bytes)) → (o : Option (List ℕ)) → AreBytes (bytes_or o) → IsStore (store_in o)
 store_kept AreBytes law None are = IsStore-nil
-store_kept AreBytes law (Some bytes) are = subst IsStore (unwrapped (file_at bytes)) (law bytes are)
+store_kept AreBytes law (Some bytes) are = law bytes are
 
 pub in_step_begun : ((p : FolderPast) → MayBegin p → IsStore (seen_now p).store) → (told : Option FolderPast) → IfSome told MayBegin → IfSome told (IsInStep Unread)
 in_step_begun law None may = tt

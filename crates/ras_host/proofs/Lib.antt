@@ -3,3 +3,4 @@ pub mod JournalLemmas
 pub mod KeptLemmas
 mod ReadLemmas
 pub mod ToldLemmas
+mod DiskCallLemmas

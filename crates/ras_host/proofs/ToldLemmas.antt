@@ -1,13 +1,14 @@
 -- What a board over a system tells after a call, by what it told before. Of the board here are what
 -- the system tells, the device that is kept, and what is listed.
-use Rattle.std.proofs.Common.{◌≡◌, ℕ, List, length, [], ◌∷◌, ◌++◌, Some, refl, sym, ap, subst, ◌∙◌, inl, inr}
+use Rattle.std.proofs.Common.{◌≡◌, ℕ, List, [], ◌∷◌, ◌++◌, Some, refl, sym, ap, subst, ◌∙◌, inl, inr}
 use Rattle.std.specs.Prelude.{Option, None, IfSome, IfOk, Result, Ok, Err, OnOk, OnErr, IsErr}
 use Rattle.std.specs.Option.{option_map}
 use Rattle.std.specs.Result.{result_unwrap_or}
-use Rattle.board_core.specs.Cause.{put_failure}
-use Rattle.board_core.specs.Clock.{Passes, PassesAtRefusal, StoreIsLeft}
-use Rattle.board_core.specs.Stop.{Left, InFile, InStore, Same, file_in, with_file_in}
-use Rattle.board_core.specs.Told.{Told, Torn, Relates, Steps, StoreBy, MayListAccess, MayAct, FailsAccess, KeepsAtRefusal, device_of, on_device, overlay, with_access}
+use Rattle.board_core.specs.Cause.{FailsAs, device_call, put_failure, with_count}
+use Rattle.board_core.specs.Clock.{Passes, StoreIsLeft}
+use Rattle.board_core.specs.Doing.{PutMade, Seen as SeenBoard}
+use Rattle.board_core.specs.Stop.{Left, InStore, Same, file_in, with_file_in}
+use Rattle.board_core.specs.Told.{Told, Relates, Steps, StoreBy, MayListAccess, MayAct, FailsAccess, after_put, device_of, on_device, overlay, register_in, with_access}
 use Rattle.board_core.specs.declared.board.Access.{Access}
 use Rattle.board_core.specs.declared.board.Access.TheVariants.{Read}
 use Rattle.board_core.specs.declared.board.Reg.{Reg}
@@ -19,9 +20,10 @@ use Rattle.board_core.specs.declared.board.FileNo.TheVariants.{Zero, One}
 use Rattle.erst_store.specs.Device.{Device, Volatile, device_with, volatile_of}
 use Rattle.erst_store.specs.DeviceLaws.{IsDevice}
 use Rattle.erst_store.specs.Store.{Stored}
-use Rattle.host_system.specs.BoardFile.{KeepsFile, KeepsOthers, KeepsStore, SeesBegun, SeesPrinted, SeesTorn, SeesWritten}
+use Rattle.host_system.specs.BoardFile.{KeepsFile, KeepsOthers, KeepsStore, HasSettledStore}
+use Rattle.host_system.specs.Steps.Calls.{SeesBegun, SeesPrinted, WritesFile}
 use Rattle.host_system.specs.FolderPast.{FolderPast, IfTold}
-use Rattle.host_system.specs.View.{HasSettledStore, HasWholeStore, clock_over, seen_now, told_over}
+use Rattle.host_system.specs.View.{HasWholeStore, clock_over, seen_now, told_over}
 use Rattle.host_system.specs.Steps.FolderPastLemmas.{stands}
 use Rattle.host_system.specs.Steps.LawLemmas.{store_left}
 use Rattle.ras_host.specs.JournalFiles.{AreHeld, IsOneSound, IsRead, Moves}
@@ -311,38 +313,30 @@ settled_printed files kept (Some p) (Some q) keeps is = λ sound saved. keeps.st
 
 -- ---- a write
 
-pub write_stops : {T E : Type 0} (file : FileNo) (place count : ℕ) (Sees Fails : FolderPast → FolderPast → Type 0)
-    (result : Result T E) (f g : JournalFiles) (before after : Option FolderPast)
-    → OnOk result (Moves Sees (InFile file (Torn place count)) f g before after)
-    → OnErr result (Moves Fails (InFile file (Torn place count)) f g before after)
-    → Passes (InFile file (Torn place count)) (clock_over before) (clock_over after)
-write_stops file place count Sees Fails (Ok x) f g before after ok err = ok.stops
-write_stops file place count Sees Fails (Err e) f g before after ok err = err.stops
-
 same_store : (file : FileNo) (bytes : List ℕ) (old new : Left) → new ≡ with_file_in file bytes old → new.store ≡ old.store
 same_store Zero bytes old new is = ap (λ (l : Left). l.store) is
 same_store One bytes old new is = ap (λ (l : Left). l.store) is
 
-pub in_step_wrote : {T E : Type 0} (file : FileNo) (place : ℕ) (bytes : List ℕ) (Step : Left → Left → Type 0) (result : Result T E)
-    (f g : JournalFiles) (kept : Kept) (before after : Option FolderPast)
-    → OnOk result (Moves (SeesWritten file place bytes) Step f g before after)
-    → OnErr result (Moves (SeesTorn file place (length bytes)) Step f g before after)
-    → IfSome before (IsInStep kept) → IfSome after (IsInStep kept)
-in_step_wrote file place bytes Step (Ok x) f g kept before after ok err is =
-    in_step_moved Step (SeesWritten file place bytes) f g kept before after ok
-    (λ p q sees. same_store file (overlay place bytes (file_in file (seen_now p))) (seen_now p) (seen_now q) sees) is
-in_step_wrote file place bytes Step (Err e) f g kept before after ok err is =
-    in_step_moved Step (SeesTorn file place (length bytes)) f g kept before after err
-    (λ p q sees. same_store file sees.bytes (seen_now p) (seen_now q) sees.rest) is
+wrote_store : {T E : Type 0} (file : FileNo) (place : ℕ) (bytes : List ℕ) (result : Result T E) (p q : FolderPast) → WritesFile file place bytes result (Some p) (Some q) → (seen_now q).store ≡ (seen_now p).store
+wrote_store file place bytes (Ok x) p q w = same_store file (overlay place bytes (file_in file (seen_now p))) (seen_now p) (seen_now q) w.told
+wrote_store file place bytes (Err e) p q w = same_store file w.failed.bytes (seen_now p) (seen_now q) w.failed.rest
 
-pub settled_wrote : {T E : Type 0} (Sees Fails : FolderPast → FolderPast → Type 0) (Step : Left → Left → Type 0) (result : Result T E)
-    (f g : JournalFiles) (kept : Kept) (before after : Option FolderPast)
-    → OnOk result (Moves Sees Step f g before after) → OnErr result (Moves Fails Step f g before after)
-    → IfSome before (IsInStep kept) → IfSome before (IsSettledBy f kept) → IfSome after (IsSettledBy g kept)
-settled_wrote Sees Fails Step (Ok x) f g kept before after ok err in_step is = settled_moved Sees Step f g kept before after ok in_step is
-settled_wrote Sees Fails Step (Err e) f g kept before after ok err in_step is = settled_moved Fails Step f g kept before after err in_step is
+pub in_step_wrote : {T E : Type 0} (file : FileNo) (place : ℕ) (bytes : List ℕ) (result : Result T E) (kept : Kept) (before after : Option FolderPast) → WritesFile file place bytes result before after
+    → IfSome before (IsInStep kept) → IfSome after (IsInStep kept)
+in_step_wrote file place bytes result kept None after w is = subst (λ (o : Option FolderPast). IfSome o (IsInStep kept)) (sym w.keeps) tt
+in_step_wrote file place bytes result kept (Some p) None w is = tt
+in_step_wrote file place bytes result kept (Some p) (Some q) w is = in_step_store kept p q (wrote_store file place bytes result p q w) (w.keeps.whole is.whole) is
+
+pub settled_wrote : (file : FileNo) (files : JournalFiles) (kept : Kept) (before after : Option FolderPast) → IfTold (KeepsOthers file) before after → IfSome before (IsSettledBy files kept) → IfSome after (IsSettledBy files kept)
+settled_wrote file files kept None after keeps is = subst (λ (o : Option FolderPast). IfSome o (IsSettledBy files kept)) (sym keeps) tt
+settled_wrote file files kept (Some p) None keeps is = tt
+settled_wrote file files kept (Some p) (Some q) keeps is = λ sound saved. keeps.settled (is sound saved)
 
 -- ---- a call however it ended
+
+pub on_any_ok : {T E : Type 0} (P : Type 0) (result : Result T E) → P → OnOk result P
+on_any_ok P (Ok x) holds = holds
+on_any_ok P (Err e) holds = tt
 
 pub on_ok : {T E F : Type 0} (P Q : Type 0) (answer : Result T E) (result : Result T F) → IfOk answer (λ value. result ≡ Ok value) → OnErr answer (IsErr result) → OnOk answer P → (P → Q) → OnOk result Q
 on_ok P Q (Ok x) (Ok y) ok err holds so = so holds
@@ -367,12 +361,14 @@ if_ok P Q (Err e) (Err f) ok err holds so = tt
 
 -- ---- a register is read: what is listed is its number, or 0 if that failed
 
-pub read_ok : {E F : Type 0} (reg : Reg) (old new : Option Told) (answer : Result ℕ E) (result : Result ℕ F) (value : ℕ) → IfOk answer (λ n. result ≡ Ok n) → OnErr answer (IsErr result) → value ≡ result_unwrap_or answer 0
-    → Steps (with_access (Read reg value)) old new → IfOk result (λ n. Steps (with_access (Read reg n)) old new)
-read_ok reg old new (Ok x) (Ok y) value ok err is steps = subst (λ (n : ℕ). Steps (with_access (Read reg n)) old new) (is ∙ ok_same x y ok) steps
-read_ok reg old new (Ok x) (Err e) value ok err is steps = tt
-read_ok reg old new (Err e) (Ok y) value ok err is steps = absurd cc
-read_ok reg old new (Err e) (Err f) value ok err is steps = tt
+pub read_told : {E F : Type 0} (reg : Reg) (old new : Option Told) (answer : Result ℕ E) (result : Result ℕ F) (value : ℕ) → IfOk answer (λ n. result ≡ Ok n) → OnErr answer (IsErr result) → value ≡ result_unwrap_or answer 0
+    → IfOk result (λ n. IfSome old (λ t. n ≡ register_in reg (device_of t))) → Steps (with_access (Read reg value)) old new
+    → OnOk result (Steps (λ t. with_access (Read reg (register_in reg (device_of t))) t) old new)
+read_told reg None new (Ok x) (Ok y) value ok err is reads steps = steps
+read_told reg (Some t) new (Ok x) (Ok y) value ok err is reads steps = subst (λ (n : ℕ). new ≡ Some (with_access (Read reg n) t)) (is ∙ (ok_same x y ok ∙ reads)) steps
+read_told reg old new (Ok x) (Err e) value ok err is reads steps = tt
+read_told reg old new (Err e) (Ok y) value ok err is reads steps = absurd cc
+read_told reg old new (Err e) (Err f) value ok err is reads steps = tt
 
 pub read_err : {E F : Type 0} (reg : Reg) (old new : Option Told) (answer : Result ℕ E) (result : Result ℕ F) (value : ℕ) → IfOk answer (λ n. result ≡ Ok n) → OnErr answer (IsErr result) → value ≡ result_unwrap_or answer 0
     → Steps (with_access (Read reg value)) old new → OnErr result (Relates (MayListAccess (Read reg 0)) old new)
@@ -381,18 +377,28 @@ read_err reg old new (Ok x) (Err e) value ok err is steps = absurd cc
 read_err reg old new (Err e) (Ok y) value ok err is steps = tt
 read_err reg old new (Err e) (Err f) value ok err is steps = relates_listed (Read reg 0) old new (subst (λ (n : ℕ). Steps (with_access (Read reg n)) old new) is steps)
 
--- ---- a put that is refused
+-- ---- a put, however it ended
 
-pub keeps_refused : (result : Result (Unit {0}) BoardPut) (before after : Option FolderPast) (old new : Kept) (calls : List DiskCall) (accesses : List Access) → IfRefused result (Stays old new before after)
-    → KeepsAtRefusal result (tells before old calls accesses) (tells after new calls accesses)
-keeps_refused (Ok done) before after old new calls accesses is = tt
-keeps_refused (Err (Refused cause)) before after old new calls accesses is = kept_told before after old new calls accesses is
-keeps_refused (Err Failed) before after old new calls accesses is = tt
+pub told_refused : (result : Result (Unit {0}) BoardPut) (before after : Option FolderPast) (old new : Kept) (calls : List DiskCall) (accesses : List Access) → IfRefused result (Stays old new before after)
+    → IfRefused result (tells after new calls accesses ≡ tells before old calls accesses)
+told_refused (Ok done) before after old new calls accesses is = tt
+told_refused (Err (Refused cause)) before after old new calls accesses is = kept_told before after old new calls accesses is
+told_refused (Err Failed) before after old new calls accesses is = tt
 
-pub stops_refused : (result : Result (Unit {0}) BoardPut) (before after : Option FolderPast) (old new : Kept) → IfRefused result (Stays old new before after) → PassesAtRefusal result (clock_over before) (clock_over after)
+pub stops_refused : (result : Result (Unit {0}) BoardPut) (before after : Option FolderPast) (old new : Kept) → IfRefused result (Stays old new before after) → IfRefused result (Passes Same (clock_over before) (clock_over after))
 stops_refused (Ok done) before after old new is = tt
 stops_refused (Err (Refused cause)) before after old new is = same_stops before after is.told
 stops_refused (Err Failed) before after old new is = tt
+
+pub put_made : (id : ℕ) (bytes : List ℕ) (result : Result (Unit {0}) BoardPut) (old new : SeenBoard) → OnOk result (Steps (on_device (after_put id bytes)) old.told new.told)
+    → OnErr result (Relates (MayAct (after_put id bytes)) old.told new.told) → IfRefused result (new.told ≡ old.told)
+    → Passes (InStore (StoreBy (after_put id bytes) old.told)) old.clock new.clock → IfRefused result (Passes Same old.clock new.clock)
+    → OnOk result (StoreIsLeft old.told old.clock → StoreIsLeft new.told new.clock) → FailsAs device_call old.faults new.faults (put_failure result)
+    → PutMade id bytes result old new
+put_made id bytes (Ok done) old new told failed same stops still settles cause = record { told = told; failed = tt; stops = stops; settles = settles; cause = cause }
+put_made id bytes (Err (Refused why)) old new told failed same stops still settles cause =
+    record { told = same; stops = still; faults = cause.others ∙ ap (λ (n : ℕ). with_count device_call n old.faults) cause.own.same }
+put_made id bytes (Err Failed) old new told failed same stops still settles cause = record { told = tt; failed = failed; stops = stops; settles = tt; cause = cause }
 
 -- the device that is kept is one
 pub device_kept : (kept : Kept) (told : Option FolderPast) → IfSome told (IsInStep kept) → IfSome told (λ p. IsDevice (device_in kept p))

@@ -4,9 +4,9 @@ use Rattle.board_core.specs.Clock.{Passes}
 use Rattle.board_core.specs.Stop.{Left}
 use Rattle.board_core.specs.declared.board.FileNo.{FileNo}
 use Rattle.board_core.specs.declared.board.FileNo.TheVariants.{Zero, One}
-use Rattle.host_system.specs.BoardFile.{AreOpenable, IsReadable, IsUsable, KeepsStore}
+use Rattle.host_system.specs.BoardFile.{AreOpenable, IsReadable, IsUsable, KeepsStore, HasSettledStore}
 use Rattle.host_system.specs.FolderPast.{FolderPast, IfTold}
-use Rattle.host_system.specs.View.{HasSettledStore, HasWholeStore, clock_over, seen_now}
+use Rattle.host_system.specs.View.{HasWholeStore, clock_over, seen_now}
 use Rattle.ras_host.specs.declared.journal.JournalFiles.{JournalFiles}
 use Rattle.ras_host.specs.declared.journal.JournalFiles.TheVariants.{Shut, Open, Unread, Seen}
 use Rattle.ras_host.specs.declared.reading.Pair.{Pair}
@@ -56,6 +56,13 @@ AreHeld Shut past = AreOpenable past
 AreHeld (Open sound) past = AreSound IsUsable sound past
 AreHeld Unread past = AreOpenable past
 AreHeld (Seen files sound) past = AreSeen files sound past
+
+-- A file may be used: it is open and sound, or was read.
+abbrev pub IsReady : FileNo → JournalFiles → Type 0
+IsReady file Shut = ⊥
+IsReady file (Open sound) = IsTrue (part_of file sound)
+IsReady file Unread = ⊥
+IsReady file (Seen files sound) = Unit {0}
 
 -- A file is sound. No file is before all names of the folder are durable.
 abbrev pub IsOneSound : JournalFiles → Type 0

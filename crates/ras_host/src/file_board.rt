@@ -1,11 +1,13 @@
 //! The working folder's files and standard output as a board.
-ghost use Rattle.std.specs.Prelude.{◌≡◌, [], IfSome};
-ghost use Rattle.board_core.specs.Clock.{LeftNow};
-ghost use Rattle.board_core.specs.Stop.{Left};
+ghost use Rattle.std.specs.Prelude.{◌≡◌, [], IfSome, OnOk};
+ghost use Rattle.board_core.specs.Cause.{FailsAs, disk_call};
+ghost use Rattle.board_core.specs.Clock.{Passes};
+ghost use Rattle.board_core.specs.Stop.{Same};
+ghost use Rattle.board_core.specs.Told.{Steps, with_call};
 ghost use Rattle.host_system.specs.View.{MayBegin};
-ghost use Rattle.ras_host.specs.Steps.Telling.{clock_of, told_of};
+ghost use Rattle.ras_host.specs.Steps.Telling.{clock_of, seen_of, told_of};
 ghost use Rattle.ras_host.specs.Blame.{AreCaused};
-ghost use Rattle.ras_host.specs.JournalFiles.{files_for};
+ghost use Rattle.ras_host.specs.JournalFiles.{IsReady, files_for};
 ghost use Rattle.ras_host.specs.Steps.BoardLaws.{board_told_left, board_text_left, board_earlier_left};
 
 use crate::faults::count_put;
@@ -15,7 +17,7 @@ use crate::listed::{list_access, list_disk_call};
 use crate::uses::Use;
 use board_core::{Access, Board, BoardPut, DiskCall, Failed, FileNo, Reg};
 use erst_store::file_laws;
-use host_system::{Notes, System, counted, print};
+use host_system::{FileName, Notes, System, counted};
 use std::alloc::Global;
 use std::marker::{Model, PhantomData};
 
@@ -110,12 +112,24 @@ impl<S: System + Drop, U: Use> FileBoard<S, U> {
     }
 }
 
+impl<S: System + Drop, U: Use> FileBoard<S, U> {
+    // Lists a disk call, and opens or reads the journal's files, unless that was done. Fails if this
+    // file may not be used, which is the call's fault.
+    fn begin(&mut self, file: FileNo, call: DiskCall) -> Result<(), Failed>
+        ensures ready { OnOk result (IsReady file self.new.files) }
+        ensures kept { self.new.kept ≡ self.old.kept }
+        ensures told { Steps (with_call call) (told_of self.old) (told_of self.new) }
+        ensures stops { Passes Same (clock_of self.old) (clock_of self.new) }
+        ensures cause { FailsAs disk_call self.old.faults self.new.faults result }
+    {
+        list_disk_call(call, &mut self.disk_calls);
+        let answer = self.files.ready(self.alloc, file, &mut self.system);
+        counted(answer, &mut self.disk_faults)
+    }
+}
+
 impl<S: System + Drop, U: Use> Board for FileBoard<S, U> {
-    ghost told = { λ b. told_of b };
-
-    ghost clock = { λ b. clock_of b };
-
-    ghost faults = { λ b. b.faults };
+    ghost seen = { λ b. seen_of b };
 
     ghost told_may_be_left = { λ b t told. board_told_left b t told };
 
@@ -124,39 +138,34 @@ impl<S: System + Drop, U: Use> Board for FileBoard<S, U> {
     ghost counts_earlier = { λ b s t left within may. board_earlier_left b s t left within may };
 
     fn size(&mut self, file: FileNo) -> Result<u64, Failed> {
-        let answer = self.files.size(self.alloc, file, &mut self.system);
-        list_disk_call(DiskCall::Size(file), &mut self.disk_calls);
+        self.begin(file, DiskCall::Size(file))?;
+        let answer = self.files.size(file, &mut self.system);
         counted(answer, &mut self.disk_faults)
     }
 
     fn read_at(&mut self, file: FileNo, place: u64, buf: &mut [u8]) -> Result<usize, Failed> {
-        let call = DiskCall::ReadAt(file, place, buf.len() as u64);
-        let answer = self
-            .files
-            .read_at(self.alloc, file, place, buf, &mut self.system);
-        list_disk_call(call, &mut self.disk_calls);
+        self.begin(file, DiskCall::ReadAt(file, place, buf.len() as u64))?;
+        let answer = self.files.read_at(file, place, buf, &mut self.system);
         counted(answer, &mut self.disk_faults)
     }
 
     fn write_at(&mut self, file: FileNo, place: u64, bytes: &[u8]) -> Result<(), Failed> {
-        let answer = self
-            .files
-            .write_at(self.alloc, file, place, bytes, &mut self.system);
-        list_disk_call(
-            DiskCall::WriteAt(file, place, bytes.len() as u64),
-            &mut self.disk_calls,
-        );
+        self.begin(file, DiskCall::WriteAt(file, place, bytes.len() as u64))?;
+        if let JournalFiles::Seen(..) = self.files {
+            return counted(Err(Failed), &mut self.disk_faults);
+        }
+        let answer = self.system.write_at(FileName::Journal(file), place, bytes);
         counted(answer, &mut self.disk_faults)
     }
 
     // After a change of the store that may not have reached its file, it isn't known which store
     // the disk has. A sync that succeeds would say that it is.
     fn sync(&mut self, file: FileNo) -> Result<(), Failed> {
-        list_disk_call(DiskCall::Sync(file), &mut self.disk_calls);
         if !self.kept.is_saved() {
             return counted(Err(Failed), &mut self.disk_faults);
         }
-        let answer = self.files.sync(self.alloc, file, &mut self.system);
+        self.begin(file, DiskCall::Sync(file))?;
+        let answer = self.files.sync(file, &mut self.system);
         counted(answer, &mut self.disk_faults)
     }
 
@@ -201,6 +210,6 @@ impl<S: System + Drop, U: Use> Board for FileBoard<S, U> {
     }
 
     fn print(&mut self, bytes: &[u8]) -> Result<(), Failed> {
-        counted(print(bytes, &mut self.system), &mut self.print_faults)
+        counted(self.system.print(bytes), &mut self.print_faults)
     }
 }

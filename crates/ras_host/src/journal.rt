@@ -1,18 +1,18 @@
 //! The journal's files, `rasd.0` and `rasd.1`.
-ghost use Rattle.std.specs.Prelude.{◌≡◌, ◌≤◌, length, IfSome, IfOk, OnOk, OnErr};
+ghost use Rattle.std.specs.Prelude.{◌≡◌, ◌<◌, ◌≤◌, ◌⊎◌, length, IfSome, IfOk, OnOk, OnErr};
+ghost use Rattle.board_core.specs.Cause.{HasCause};
 ghost use Rattle.board_core.specs.Clock.{IsSynced};
-ghost use Rattle.board_core.specs.Stop.{Same, InFile, file_in};
-ghost use Rattle.board_core.specs.Told.{ReadsBytes, Torn};
-ghost use Rattle.host_system.specs.BoardFile.{SeesSame, SeesWritten, SeesTorn};
+ghost use Rattle.board_core.specs.Stop.{Same, file_in};
+ghost use Rattle.board_core.specs.Told.{ReadsBytes};
+ghost use Rattle.host_system.specs.BoardFile.{SeesSame};
 ghost use Rattle.host_system.specs.View.{clock_over, seen_now};
-ghost use Rattle.ras_host.specs.Blame.{AreBlamed, AreUsed, FilesCause};
-ghost use Rattle.ras_host.specs.JournalFiles.{AreHeld, IsOneSound, Moves, files_for};
+ghost use Rattle.ras_host.specs.Blame.{AreBlamed, AreReports, AreUsed, FilesCause};
+ghost use Rattle.ras_host.specs.JournalFiles.{AreHeld, IsOneSound, IsReady, Moves, files_for};
+ghost use Rattle.ras_host.specs.Steps.Once.{CountsOnce};
 
 use crate::reading::{Pair, ReadFile, read_journal};
 use board_core::{Failed, FileNo};
-use host_system::{
-    System, file_size, open_files, read_file, sync_file, sync_names, sync_seen, write_file,
-};
+use host_system::{FileName, System, open_files, read_file};
 use std::alloc::Global;
 
 /// The journal's files, both of which are opened or read at the first use of either. A file of
@@ -44,120 +44,92 @@ impl JournalFiles {
         }
     }
 
-    /// Returns the length of a file in bytes.
+    /// Opens or reads both files, unless that was done, and returns `Ok` if this file may be used.
     ///
     /// # Errors
     ///
     /// `Failed`: in a run, only if a call of the system failed, this time or before.
-    pub fn size<S: System>(
+    pub fn ready<S: System>(
         &mut self,
         alloc: Global,
         file: FileNo,
         system: &mut S,
-    ) -> Result<u64, Failed>
+    ) -> Result<(), Failed>
         requires held { IfSome (S.told system.old) (AreHeld self.old) }
         requires blamed { AreBlamed self.old (S.faults system.old) }
         ensures moves { Moves SeesSame Same self.old self.new (S.told system.old)
             (S.told system.new) }
         ensures held { IfSome (S.told system.new) (AreHeld self.new) }
-        ensures length { IfOk result (λ n. IfSome (S.told system.old)
-            (λ p. n ≡ length (file_in file (seen_now p)))) }
+        ensures ready { OnOk result (IsReady file self.new) }
         ensures blamed { AreBlamed self.new (S.faults system.new) }
         ensures cause { FilesCause self.old self.new (S.faults system.old) (S.faults system.new)
             result }
     {
         self.open(alloc, system)?;
         match self {
-            JournalFiles::Open(sound) if *sound.of(file) => file_size(file, system),
-            JournalFiles::Seen(files, _) => Ok(files.of(file).length),
-            _ => Err(Failed),
+            JournalFiles::Open(sound) if !*sound.of(file) => Err(Failed),
+            _ => Ok(()),
         }
     }
 
-    /// Reads from the offset `place` on until the buffer is full or the file ends, and returns the
-    /// number of bytes read.
+    /// Returns the length in bytes of a file that is ready.
     ///
     /// # Errors
     ///
-    /// `Failed`: in a run, only if a call of the system failed, this time or before. A report also
-    /// fails past what it read of a file that is too long.
+    /// `Failed`: only if a call of the system failed, which is counted.
+    pub fn size<S: System>(&self, file: FileNo, system: &mut S) -> Result<u64, Failed>
+        requires held { IfSome (S.told system.old) (AreHeld self.now) }
+        requires ready { IsReady file self.now }
+        ensures length { IfOk result (λ n. IfSome (S.told system.old)
+            (λ p. n ≡ length (file_in file (seen_now p)))) }
+        ensures told { S.told system.new ≡ S.told system.old }
+        ensures cause { HasCause (S.faults system.old) (S.faults system.new) result }
+    {
+        if let JournalFiles::Seen(files, _) = self {
+            return Ok(files.of(file).length);
+        }
+        let found = system.find(FileName::Journal(file))?;
+        Ok(found.unwrap_or(0))
+    }
+
+    /// Reads from the offset `place` of a file that is ready until the buffer is full or the file
+    /// ends, and returns the number of bytes read.
+    ///
+    /// # Errors
+    ///
+    /// `Failed`: in a run, only if a call of the system failed, which is counted. A report fails
+    /// past what it read of a file that is too long.
     pub fn read_at<S: System>(
-        &mut self,
-        alloc: Global,
+        &self,
         file: FileNo,
         place: u64,
         buf: &mut [u8],
         system: &mut S,
     ) -> Result<usize, Failed>
-        requires held { IfSome (S.told system.old) (AreHeld self.old) }
-        requires blamed { AreBlamed self.old (S.faults system.old) }
-        ensures moves { Moves SeesSame Same self.old self.new (S.told system.old)
-            (S.told system.new) }
-        ensures held { IfSome (S.told system.new) (AreHeld self.new) }
+        requires held { IfSome (S.told system.old) (AreHeld self.now) }
+        requires ready { IsReady file self.now }
         ensures within { IfOk result (λ n. n ≤ length buf.old) }
         ensures read { IfOk result (λ n. IfSome (S.told system.old)
             (λ p. ReadsBytes place n buf.new (file_in file (seen_now p)))) }
-        ensures blamed { AreBlamed self.new (S.faults system.new) }
-        ensures cause { FilesCause self.old self.new (S.faults system.old) (S.faults system.new)
-            result }
+        ensures told { S.told system.new ≡ S.told system.old }
+        ensures once { CountsOnce (S.faults system.old) (S.faults system.new) result }
+        ensures cause { OnErr result (AreReports self.now ⊎ (0 < S.faults system.new)) }
     {
-        self.open(alloc, system)?;
         match self {
-            JournalFiles::Open(sound) if *sound.of(file) => read_file(file, place, buf, system),
             JournalFiles::Seen(files, _) => files.of(file).read_at(place, buf),
-            _ => Err(Failed),
+            _ => read_file(file, place, buf, system),
         }
     }
 
-    /// Writes bytes at the offset `place`, which may not be past the file's end.
+    /// Makes a file that is ready durable.
     ///
     /// # Errors
     ///
-    /// `Failed`: in a run, only if a call of the system failed, this time or before. A report
-    /// always fails, and writes nothing.
-    pub fn write_at<S: System>(
-        &mut self,
-        alloc: Global,
-        file: FileNo,
-        place: u64,
-        bytes: &[u8],
-        system: &mut S,
-    ) -> Result<(), Failed>
-        requires held { IfSome (S.told system.old) (AreHeld self.old) }
-        requires blamed { AreBlamed self.old (S.faults system.old) }
-        requires within { IfSome (S.told system.old)
-            (λ p. place ≤ length (file_in file (seen_now p))) }
-        ensures wrote { OnOk result (Moves (SeesWritten file place bytes.now)
-            (InFile file (Torn place (length bytes.now))) self.old self.new
-            (S.told system.old) (S.told system.new)) }
-        ensures failed { OnErr result (Moves (SeesTorn file place (length bytes.now))
-            (InFile file (Torn place (length bytes.now))) self.old self.new
-            (S.told system.old) (S.told system.new)) }
-        ensures held { IfSome (S.told system.new) (AreHeld self.new) }
-        ensures blamed { AreBlamed self.new (S.faults system.new) }
-        ensures cause { FilesCause self.old self.new (S.faults system.old) (S.faults system.new)
-            result }
-    {
-        self.open(alloc, system)?;
-        match self {
-            JournalFiles::Open(sound) if *sound.of(file) => write_file(file, place, bytes, system),
-            _ => Err(Failed),
-        }
-    }
-
-    /// Makes a file durable.
-    ///
-    /// # Errors
-    ///
-    /// `Failed`: in a run, only if a call of the system failed, this time or before. The file isn't
+    /// `Failed`: in a run, only if a call of the system failed, which is counted. The file isn't
     /// used again afterwards.
-    pub fn sync<S: System>(
-        &mut self,
-        alloc: Global,
-        file: FileNo,
-        system: &mut S,
-    ) -> Result<(), Failed>
+    pub fn sync<S: System>(&mut self, file: FileNo, system: &mut S) -> Result<(), Failed>
         requires held { IfSome (S.told system.old) (AreHeld self.old) }
+        requires ready { IsReady file self.old }
         requires blamed { AreBlamed self.old (S.faults system.old) }
         ensures moves { Moves SeesSame Same self.old self.new (S.told system.old)
             (S.told system.new) }
@@ -169,15 +141,14 @@ impl JournalFiles {
         ensures cause { FilesCause self.old self.new (S.faults system.old) (S.faults system.new)
             result }
     {
-        self.open(alloc, system)?;
         match self {
-            JournalFiles::Open(sound) if *sound.of(file) => {
-                let answer = sync_file(file, system);
+            JournalFiles::Open(sound) => {
+                let answer = system.sync(FileName::Journal(file));
                 sound.set(file, answer.is_ok());
                 answer
             }
             JournalFiles::Seen(_, sound) if *sound.of(file) => {
-                let answer = sync_seen(file, system);
+                let answer = system.sync_read(file);
                 sound.set(file, answer.is_ok());
                 answer
             }
@@ -206,7 +177,7 @@ impl JournalFiles {
             }
             JournalFiles::Unread => {
                 let files = read_journal(alloc, system)?;
-                let answer = sync_names(system);
+                let answer = system.sync_names();
                 let is_sound = answer.is_ok();
                 *self = JournalFiles::Seen(files, both(is_sound));
                 answer

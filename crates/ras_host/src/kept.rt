@@ -6,15 +6,14 @@ ghost use Rattle.erst_store.specs.Actions.{range_length};
 ghost use Rattle.erst_store.specs.Device.{Device, act, with_put};
 ghost use Rattle.erst_store.specs.DeviceLaws.{IsDevice, MayChange};
 ghost use Rattle.erst_store.specs.Store.{AnswersRefusal, refusal_of};
-ghost use Rattle.host_system.specs.View.{HasWholeStore, seen_now};
+ghost use Rattle.host_system.specs.View.{seen_now};
 ghost use Rattle.ras_host.specs.Steps.Once.{CountsOnce};
-ghost use Rattle.ras_host.specs.Steps.KeptDevice.{Acts, Does, IfRefused, IsHere, IsInStep, IsSaved, IsThere, IsUsed, Keeps, KeepsOrLoses, Looks, Puts, Stays, Turned, after_answer, device_in};
-ghost use Rattle.ras_host.specs.Steps.Written.{Writes};
+ghost use Rattle.ras_host.specs.Steps.KeptDevice.{Acts, Does, IfRefused, IsChange, IsHere, IsInStep, IsSaved, IsThere, IsUsed, Keeps, Looks, Puts, Stays, StaysOrLoses, Turned, after_answer, device_in};
 
-use crate::saved::{RECORD_HEADING, Saved, write_store};
+use crate::saved::{RECORD_HEADING, Saved};
 use board_core::{BoardPut, Failed, Reg};
 use erst_store::{Dev, PutRefused, file_laws};
-use host_system::System;
+use host_system::{System, replace_store};
 use std::alloc::Global;
 use std::mem::replace;
 
@@ -31,6 +30,15 @@ pub enum Kept {
     Lost { before: Dev, after: Dev },
     /// The store's file couldn't be read.
     Unreadable,
+}
+
+/// A change of the device whose store isn't in its file yet: the device from before, over an empty
+/// store, the device from after, and the bytes that the file has.
+#[derive(Drop)]
+struct Change {
+    before: Dev,
+    made: Saved,
+    had: Vec<u8>,
 }
 
 impl Kept {
@@ -111,7 +119,10 @@ impl Kept {
     {
         let saved = self.take(alloc, system)?;
         match reg {
-            Reg::Action if saved.device.may_change(value) => self.act(alloc, saved, value, system),
+            Reg::Action if saved.device.may_change(value) => {
+                let change = self.act(alloc, saved, value)?;
+                self.save(change, system)
+            }
             Reg::Action => self.act_alone(saved, value),
             Reg::Value => {
                 self.write_value(saved, value);
@@ -139,21 +150,11 @@ impl Kept {
         answer.or(Err(Failed))
     }
 
-    // Does an action that may change the store, and writes the store to its file.
-    fn act<S: System>(
-        &mut self,
-        alloc: Global,
-        saved: Saved,
-        action: u64,
-        system: &mut S,
-    ) -> Result<(), Failed>
-        requires { IfSome (S.told system.old) (IsInStep (Kept.Here saved)) }
-        ensures turned { Turned (act action) (Kept.Here saved) self.new result
-            (S.told system.old) (S.told system.new) }
-        ensures here { OnOk result (IsHere self.new (act action saved.device)) }
-        ensures once { CountsOnce (S.faults system.old) (S.faults system.new) result }
+    // Does an action that may change the store, whose bytes aren't in the file then.
+    fn act(&mut self, alloc: Global, saved: Saved, action: u64) -> Result<Change, Failed>
+        ensures ok { IfOk result (λ change. IsChange (act action) saved change) }
+        ensures err { OnErr result (StaysOrLoses (act action) saved self.new) }
     {
-        file_laws();
         let Ok(before) = saved.device.without_store(alloc) else {
             self.put_back(saved);
             return Err(Failed);
@@ -174,32 +175,37 @@ impl Kept {
             device,
             file: bytes,
         };
-        self.save(before, made, &file, system)
+        Ok(Change {
+            before,
+            made,
+            had: file,
+        })
     }
 
-    // Stores a device once the bytes of its store are in the file, which has other bytes until
-    // then. If that fails, the device is lost, together with the device from before.
-    fn save<S: System>(
-        &mut self,
-        before: Dev,
-        saved: Saved,
-        had: &[u8],
-        system: &mut S,
-    ) -> Result<(), Failed>
-        requires { IfSome (S.told system.old) HasWholeStore }
-        ensures writes { Writes had.now saved.file.items result (S.told system.old)
+    // Keeps a changed device once the store's file has the bytes of its store. If that fails, the
+    // device is lost, together with the device from before.
+    fn save<S: System>(&mut self, change: Change, system: &mut S) -> Result<(), Failed>
+        ensures turned { (step : Device → Device) (saved : Saved) → IsChange step saved change
+            → IfSome (S.told system.old) (IsInStep (Kept.Here saved))
+            → Turned step (Kept.Here saved) self.new result (S.told system.old)
             (S.told system.new) }
-        ensures kept { KeepsOrLoses result before saved self.new }
+        ensures here { OnOk result (self.new ≡ Kept.Here change.made) }
         ensures once { CountsOnce (S.faults system.old) (S.faults system.new) result }
     {
-        if write_store(had, &saved.file, system).is_err() {
+        file_laws();
+        let Change { before, made, had } = change;
+        if made.file.as_slice() == had.as_slice() {
+            *self = Kept::Here(made);
+            return Ok(());
+        }
+        if replace_store(&made.file, system).is_err() {
             *self = Kept::Lost {
                 before,
-                after: saved.device,
+                after: made.device,
             };
             return Err(Failed);
         }
-        *self = Kept::Here(saved);
+        *self = Kept::Here(made);
         Ok(())
     }
 
@@ -296,7 +302,6 @@ impl Kept {
             (S.told system.new)) }
         ensures once { CountsOnce (S.faults system.old) (S.faults system.new) (put_failure result) }
     {
-        file_laws();
         let Saved { mut device, file } = saved;
         let (before, mut new) = match put_alone(alloc, id, bytes, &mut device) {
             Ok(made) => made,
@@ -312,9 +317,12 @@ impl Kept {
             };
             return Err(BoardPut::Failed);
         };
-        let made = Saved { device, file: new };
-        self.save(before, made, &file, system)
-            .or(Err(BoardPut::Failed))
+        let change = Change {
+            before,
+            made: Saved { device, file: new },
+            had: file,
+        };
+        self.save(change, system).or(Err(BoardPut::Failed))
     }
 }
 

@@ -1,16 +1,15 @@
 //! The record store of the working folder, and a device over it.
-ghost use Rattle.std.specs.Prelude.{◌≡◌, OnOk, OnErr, IfOk, IfSome};
+ghost use Rattle.std.specs.Prelude.{◌≡◌, IfOk, IfSome};
 ghost use Rattle.std.specs.Option.{option_map};
 ghost use Rattle.erst_store.specs.Device.{new_device};
 ghost use Rattle.erst_store.specs.StoreFile.{store_bytes};
 ghost use Rattle.host_system.specs.FolderPast.{bytes_named};
 ghost use Rattle.host_system.specs.View.{HasWholeStore, seen_now, store_in};
 ghost use Rattle.ras_host.specs.Steps.Once.{CountsOnce};
-ghost use Rattle.ras_host.specs.Steps.Written.{Writes};
 
 use board_core::Failed;
 use erst_store::{Dev, MOST_BYTES, MOST_RECORDS, Store};
-use host_system::{FileName, System, replace_store};
+use host_system::{FileName, System};
 use std::alloc::Global;
 
 /// The number of bytes before a record's bytes in the store's file: its identifier and its length.
@@ -79,20 +78,4 @@ fn store_from(alloc: Global, found: Option<Vec<u8>>) -> Result<Store, Failed>
         Some(bytes) => Store::from_bytes(alloc, &bytes).or(Err(Failed)),
         None => Ok(Store::new(alloc)),
     }
-}
-
-/// Replaces the record store's file by a file of these bytes, unless it has them already.
-///
-/// # Errors
-///
-/// `Failed`: only if a call of the system failed, which is counted.
-pub fn write_store<S: System>(had: &[u8], bytes: &[u8], system: &mut S) -> Result<(), Failed>
-    requires { IfSome (S.told system.old) HasWholeStore }
-    ensures writes { Writes had.now bytes.now result (S.told system.old) (S.told system.new) }
-    ensures once { CountsOnce (S.faults system.old) (S.faults system.new) result }
-{
-    if bytes == had {
-        return Ok(());
-    }
-    replace_store(bytes, system)
 }

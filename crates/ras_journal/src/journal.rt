@@ -1,6 +1,6 @@
 //! A journal, and appending to it.
 ghost use Rattle.std.specs.Prelude.{◌≡◌, ◌+◌, ◌<◌, ◌≤◌, false, length, nat_lt, true, IfSome};
-ghost use Rattle.board_core.specs.Doing.{Does, looks};
+ghost use Rattle.board_core.specs.Doing.{Does};
 ghost use Rattle.board_core.specs.Told.{file_of};
 ghost use Rattle.entry_format.specs.declared.version.Version.TheVariants.{Two};
 ghost use Rattle.ras_journal.specs.Appending.{IsFullBy, MovesOn, append_acts, append_end};
@@ -83,10 +83,10 @@ impl Journal {
     pub fn append<B: Board>(&mut self, link: &Link, board: &mut B) -> Result<(), AppendRefused>
         requires usable { self.old.failed ≡ false }
         requires version { self.old.standing.version ≡ Two }
-        requires gate { IfSome (B.told board.old)
+        requires gate { IfSome (B.seen board.old).told
             (λ t. self.old.standing.length < length (file_of self.old.standing.file t)) }
 
-        ensures does { Does (looks B.told B.clock B.faults) (append_acts self.old.standing link.now)
+        ensures does { Does B.seen (append_acts self.old.standing link.now)
             (append_end result) board.old board.new }
         ensures journal { MovesOn result (standing_with self.old.standing link.now)
             self.old self.new }

@@ -106,6 +106,10 @@ after_marker [] = None
 after_marker (b ∷ line) =
     if starts_with nat_eq (b ∷ line) marker then Some (drop (length marker) (b ∷ line)) else after_marker line
 
+-- what follows the first prefix of a line
+abbrev pub klog_line_after : List ℕ → KlogLine
+klog_line_after text = unwrap_or (told_by_words (parts_of text)) Other
+
 -- a line of a kernel log: only what follows its first prefix matters
 abbrev pub klog_line_of : List ℕ → KlogLine
 klog_line_of bytes = unwrap_or (read_then (after_marker bytes) (λ text. told_by_words (parts_of text))) Other

@@ -5,7 +5,7 @@ use Rattle.ras_base.specs.Text.{line_with}
 use Rattle.mca_status.specs.Registers.{valid}
 use Rattle.ras_facts.specs.declared.bank.BankReport.{BankReport}
 use Rattle.ras_facts.specs.Facts.{status_in}
-use Rattle.ras_reports.specs.Reports.{bank_report}
+use Rattle.ras_facts.specs.Reports.{bank_report}
 use Rattle.ras_texts.specs.Reports.{report_lines}
 use Rattle.ras_klog.specs.declared.state.KlogOut.{KlogOut}
 use Rattle.ras_klog.specs.declared.state.KlogOut.TheVariants.{Nothing, Whole, Partial}

@@ -104,6 +104,10 @@ impl LineFilter for KlogFilter {
             told => told,
         };
         let out = self.state.step(told, self.boot, self.cap);
+        if let KlogOut::Nothing = out {
+            self.taken += 1;
+            return Ok(());
+        }
         match push_out(alloc, text, &out) {
             Ok(()) => {
                 self.taken += 1;

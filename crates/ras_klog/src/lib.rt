@@ -14,5 +14,5 @@ mod words;
 
 pub use filter::KlogFilter;
 pub use laws::klog_is_told_by_groups;
-pub use line::{KlogLine, klog_line};
+pub use line::{KlogLine, klog_line, klog_line_after};
 pub use state::{KlogOut, KlogState};

@@ -1,13 +1,13 @@
 //! What a line of a kernel log says.
 
-ghost use Rattle.std.specs.Prelude.{◌≡◌, ◌-◌, ◌≤◌, ◌↔◌, length, IfSome, IsTrue};
+ghost use Rattle.std.specs.Prelude.{◌≡◌, ◌==◌, ◌-◌, ◌≤◌, ◌↔◌, length, not, true, IfSome, IsTrue};
+ghost use Rattle.std.specs.List.{list_all};
 ghost use Rattle.std.specs.Option.{option_map};
 ghost use Rattle.memchr.specs.Find.{FindsNeedle, OccursAt};
-ghost use Rattle.ras_klog.specs.Reading.{after_marker, bank_of, check_of, colon_number, is_vendor_and_model, klog_line_of, marker, named, parts_of, processor_line_of, start_line_of, told_by_words, tsc_of};
+ghost use Rattle.ras_klog.specs.Reading.{after_marker, bank_of, check_of, colon_number, is_vendor_and_model, klog_line_after, klog_line_of, marker, named, parts_of, processor_line_of, start_line_of, told_by_words, tsc_of};
 ghost use Rattle.ras_klog.specs.Steps.Words.{words_in};
 
 use crate::words::Words;
-use memchr::memchr;
 use ras_script::{decimal, hexadecimal, position_of};
 
 /// What a line of a kernel log says.
@@ -59,9 +59,17 @@ pub fn klog_line(bytes: &[u8]) -> KlogLine
     ensures { result ≡ klog_line_of bytes.now }
 {
     match after_marker(bytes) {
-        Some(text) => told_by(text).unwrap_or(KlogLine::Other),
+        Some(text) => klog_line_after(text),
         None => KlogLine::Other,
     }
+}
+
+/// Returns what a line of a kernel log says, by what follows its first `[Hardware Error]: `.
+/// Allocates nothing.
+pub fn klog_line_after(text: &[u8]) -> KlogLine
+    ensures { result ≡ klog_line_after text.now }
+{
+    told_by(text).unwrap_or(KlogLine::Other)
 }
 
 // What follows the first prefix of a line, if it has one.
@@ -81,7 +89,7 @@ fn marker_in(line: &[u8]) -> Option<usize>
     ensures { FindsNeedle line.now marker 0 result }
 {
     let mut from = 0;
-    while let Some(passed) = memchr(b'H', &line[from..]) {
+    while let Some(passed) = position_of(b'H', &line[from..]) {
         let second = from + passed;
         if has_marker_round(line, second) {
             return Some(second - 1);
@@ -104,12 +112,11 @@ fn told_by(text: &[u8]) -> Option<KlogLine>
     ensures { result ≡ told_by_words (parts_of text.now) }
 {
     let mut words = Words::new(text);
-    let kind = words.next();
-    if kind == b"CPU".as_slice() {
+    if words.takes(b"CPU") {
         start_line_of(&mut words)
-    } else if kind == b"TSC".as_slice() {
+    } else if words.takes(b"TSC") {
         tsc_of(&mut words)
-    } else if kind == b"PROCESSOR".as_slice() {
+    } else if words.takes(b"PROCESSOR") {
         processor_line_of(&mut words)
     } else {
         None
@@ -122,7 +129,7 @@ fn start_line_of(words: &mut Words<'_>) -> Option<KlogLine>
     ensures { result ≡ start_line_of (words_in words.old) }
 {
     let cpu = colon_number(words.next(), u64::from(u16::MAX))? as u16;
-    if words.next() != b"Machine".as_slice() {
+    if !words.takes(b"Machine") {
         return None;
     }
     check_of(cpu, words)
@@ -133,11 +140,10 @@ fn start_line_of(words: &mut Words<'_>) -> Option<KlogLine>
 fn check_of(cpu: u16, words: &mut Words<'_>) -> Option<KlogLine>
     ensures { result ≡ check_of cpu (words_in words.old) }
 {
-    let check = words.next();
-    if check == b"Check:".as_slice() {
+    if words.takes(b"Check:") {
         return bank_of(cpu, words);
     }
-    if check != b"Check".as_slice() || words.next() != b"Exception:".as_slice() {
+    if !words.takes(b"Check") || !words.takes(b"Exception:") {
         return None;
     }
     bank_of(cpu, words)
@@ -149,7 +155,7 @@ fn bank_of(cpu: u16, words: &mut Words<'_>) -> Option<KlogLine>
     ensures { result ≡ bank_of cpu (words_in words.old) }
 {
     let mcg = hexadecimal(words.next())?;
-    if words.next() != b"Bank".as_slice() {
+    if !words.takes(b"Bank") {
         return None;
     }
     let bank = colon_number(words.next(), u64::from(u8::MAX))? as u8;
@@ -178,13 +184,15 @@ fn tsc_of(words: &mut Words<'_>) -> Option<KlogLine>
 }
 
 // A hexadecimal number after its name. If they can't be read the number is 0, and no word is used.
+#[inline(always)]
 #[tactic(auto, unfolding(crate::specs::Reading::named))]
 fn named(name: &[u8], words: &mut Words<'_>) -> u64
+    requires { list_all (λ b. not (b == 32)) name.now ≡ true }
     ensures value { result ≡ (named name.now (words_in words.old)).0 }
     ensures rest { words_in words.new ≡ (named name.now (words_in words.old)).1 }
 {
     let mut ahead = *words;
-    if ahead.next() != name {
+    if !ahead.takes(name) {
         return 0;
     }
     match hexadecimal(ahead.next()) {
@@ -201,7 +209,7 @@ fn named(name: &[u8], words: &mut Words<'_>) -> u64
 fn processor_line_of(words: &mut Words<'_>) -> Option<KlogLine>
     ensures { result ≡ processor_line_of (words_in words.old) }
 {
-    if !is_vendor_and_model(words.next()) || words.next() != b"TIME".as_slice() {
+    if !is_vendor_and_model(words.next()) || !words.takes(b"TIME") {
         return None;
     }
     let seconds = decimal(words.next(), u64::MAX)?;

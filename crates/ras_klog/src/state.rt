@@ -2,6 +2,7 @@
 
 ghost use Rattle.std.specs.Prelude.{◌≡◌, ℕ, List};
 ghost use Rattle.ras_klog.specs.declared.line.KlogLine.{KlogLine};
+ghost use Rattle.ras_klog.specs.declared.line.KlogLine.TheVariants.{Tsc, Processor};
 ghost use Rattle.ras_klog.specs.Groups.{told_of_groups, without_open};
 ghost use Rattle.ras_klog.specs.Stages.{at_start, has_place, stage_after, out_at, out_at_end, outs_along, outs_to_end};
 
@@ -87,32 +88,72 @@ impl KlogState {
         ensures out { result ≡ out_at boot cap self.old line }
         ensures stage { self.new ≡ stage_after self.old line }
     {
-        let out = match (self.stage, line) {
-            (stage, KlogLine::Start { .. }) => unfinished(stage),
-            (
-                Stage::Timed {
-                    head,
-                    tsc,
-                    addr,
-                    misc,
-                },
-                KlogLine::Processor { seconds },
-            ) => KlogOut::Whole(BankReport {
-                boot,
-                seconds,
-                cpu: head.cpu,
-                bank: head.bank,
+        match line {
+            KlogLine::Start {
+                cpu,
+                mcg,
+                bank,
+                status,
+            } => {
+                let out = unfinished(self.stage);
+                self.stage = Stage::Begun(Head {
+                    cpu,
+                    mcg,
+                    bank,
+                    status,
+                });
+                out
+            }
+            KlogLine::Tsc { tsc, addr, misc } => {
+                self.take_counter(tsc, addr, misc);
+                KlogOut::Nothing
+            }
+            KlogLine::Processor { seconds } => self.complete(seconds, boot, cap),
+            KlogLine::Other => KlogOut::Nothing,
+        }
+    }
+
+    // Takes a counter and the registers after it, if the report that was begun has none yet.
+    fn take_counter(&mut self, tsc: u64, addr: u64, misc: u64)
+        ensures { self.new ≡ stage_after self.old (Tsc tsc addr misc) }
+    {
+        if let Stage::Begun(head) = self.stage {
+            self.stage = Stage::Timed {
+                head,
                 tsc,
-                cap,
-                mcg: head.mcg,
-                status: head.status,
                 addr,
                 misc,
-            }),
-            _ => KlogOut::Nothing,
+            };
+        }
+    }
+
+    // Returns the report that was begun, complete with its time, if it has its counter.
+    fn complete(&mut self, seconds: u64, boot: u64, cap: u64) -> KlogOut
+        ensures out { result ≡ out_at boot cap self.old (Processor seconds) }
+        ensures stage { self.new ≡ stage_after self.old (Processor seconds) }
+    {
+        let Stage::Timed {
+            head,
+            tsc,
+            addr,
+            misc,
+        } = self.stage
+        else {
+            return KlogOut::Nothing;
         };
-        self.stage = next_stage(self.stage, line);
-        out
+        self.stage = Stage::Idle;
+        KlogOut::Whole(BankReport {
+            boot,
+            seconds,
+            cpu: head.cpu,
+            bank: head.bank,
+            tsc,
+            cap,
+            mcg: head.mcg,
+            status: head.status,
+            addr,
+            misc,
+        })
     }
 
     /// Returns whether `step` would use a line: any `Start`, a `Tsc` right after one, and a
@@ -136,36 +177,6 @@ impl KlogState {
         let out = unfinished(self.stage);
         self.stage = Stage::Idle;
         out
-    }
-}
-
-// The stage after a line.
-fn next_stage(stage: Stage, line: KlogLine) -> Stage
-    ensures { result ≡ stage_after stage line }
-{
-    match (stage, line) {
-        (
-            _,
-            KlogLine::Start {
-                cpu,
-                mcg,
-                bank,
-                status,
-            },
-        ) => Stage::Begun(Head {
-            cpu,
-            mcg,
-            bank,
-            status,
-        }),
-        (Stage::Begun(head), KlogLine::Tsc { tsc, addr, misc }) => Stage::Timed {
-            head,
-            tsc,
-            addr,
-            misc,
-        },
-        (Stage::Timed { .. }, KlogLine::Processor { .. }) => Stage::Idle,
-        (stage, _) => stage,
     }
 }
 

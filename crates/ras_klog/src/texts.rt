@@ -6,8 +6,7 @@ ghost use Rattle.ras_klog.specs.Texts.{bank_text, klog_counts_line, out_text, pa
 use crate::KlogOut;
 use dimm_topology::Topology;
 use ras_base::{NoMemory, push_number};
-use ras_facts::BankReport;
-use ras_reports::report_of_bank;
+use ras_facts::{BankReport, report_of_bank};
 use ras_texts::push_report;
 use std::alloc::Global;
 

@@ -1,7 +1,8 @@
 //! The words of a text, in turn.
 
-ghost use Rattle.std.specs.Prelude.{◌≡◌, ◌==◌, [], ◌∷◌, drop, slice_index_or};
-ghost use Rattle.std.specs.List.{list_all};
+ghost use Rattle.std.specs.Prelude.{◌≡◌, ◌==◌, [], ◌∷◌, ◌++◌, drop, nat_eq, not, slice_index_or, true, false, MatchOption, if◌then◌else◌};
+ghost use Rattle.std.specs.List.{list_all, starts_with};
+ghost use Rattle.std.specs.Str.{bytes_eq};
 ghost use Rattle.std.specs.Option.{option_map_or};
 ghost use Rattle.ras_klog.specs.Reading.{parts_of, is_empty};
 ghost use Rattle.ras_klog.specs.Steps.Words.{words_in};
@@ -35,6 +36,33 @@ impl<'a> Words<'a> {
         word
     }
 
+    // Takes the next word if it is this one, and returns whether it is. The word has no space, so none
+    // is looked for; the call is inlined, so that the word's bytes are compared one by one.
+    #[inline(always)]
+    #[tactic(auto, using(crate::proofs::LineLemmas::no_word, crate::proofs::LineLemmas::ended_word, crate::proofs::LineLemmas::spaced_word, crate::proofs::LineLemmas::longer_word, crate::proofs::LineLemmas::same_word))]
+    pub(crate) fn takes(&mut self, name: &[u8]) -> bool
+        requires { list_all (λ b. not (b == 32)) name.now ≡ true }
+        ensures is { result ≡ bytes_eq (slice_index_or (words_in self.old) 0 []) name.now }
+        ensures words { words_in self.new
+            ≡ if result then drop 1 (words_in self.old) else words_in self.old }
+    {
+        let Some(text) = self.rest else {
+            return name.is_empty();
+        };
+        let Some(behind) = after_name(name, text) else {
+            return false;
+        };
+        if behind.is_empty() {
+            self.rest = None;
+            return true;
+        }
+        if behind[0] != b' ' {
+            return false;
+        }
+        self.rest = Some(&behind[1..]);
+        true
+    }
+
     // Whether nothing is left but spaces.
     #[tactic(auto, using(crate::proofs::LineLemmas::empty_parts))]
     pub(crate) fn are_empty(&self) -> bool
@@ -45,6 +73,24 @@ impl<'a> Words<'a> {
             None => true,
         }
     }
+}
+
+// What follows a name that a text begins with.
+#[inline(always)]
+#[tactic(auto, using(crate::proofs::LineLemmas::name_step, crate::proofs::LineLemmas::name_differs, crate::proofs::LineLemmas::name_whole))]
+fn after_name<'a>(name: &[u8], text: &'a [u8]) -> Option<&'a [u8]>
+    ensures { MatchOption result (starts_with nat_eq text.now name.now ≡ false)
+        (λ rest. text.now ≡ name.now ++ rest.now) }
+{
+    if text.len() < name.len() {
+        return None;
+    }
+    for place in 0..name.len() {
+        if text[place] != name[place] {
+            return None;
+        }
+    }
+    Some(&text[name.len()..])
 }
 
 // The first word of a text, and what follows the space after it.

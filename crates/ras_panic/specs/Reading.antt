@@ -11,7 +11,9 @@ use Rattle.cper_records.specs.Descriptors.{section_guid, section_bytes}
 use Rattle.dimm_topology.specs.declared.row.Row.{Row}
 use Rattle.ras_facts.specs.Facts.{status_in, bank_fact, bank_name}
 use Rattle.ras_facts.specs.Reported.{record_fact}
+use Rattle.ras_facts.specs.Reports.{bank_report, record_report}
 use Rattle.ras_facts.specs.declared.bank.BankReport.{BankReport}
+use Rattle.ras_facts.specs.declared.details.Report.{Report}
 use Rattle.ras_facts.specs.declared.fact.Fact.{Fact}
 use Rattle.ras_facts.specs.declared.name.Name.{Name}
 use Rattle.ras_facts.specs.declared.name.Name.TheVariants.{Record}
@@ -58,3 +60,8 @@ stored_fact rows seconds own =
 -- the name under which a record of the store is counted; a panic record's is the bank's own
 abbrev pub stored_name : List ℕ → Name
 stored_name own = option_map_or bank_name (panic_report own) (Record (record_id own))
+
+-- the report of a record of the store that was read at this time; a panic record's is the bank's own
+abbrev pub stored_report : List Row → ℕ → List ℕ → Report
+stored_report rows seconds own =
+    unwrap_or (option_and_then (λ bank. bank_report bank rows) (panic_report own)) (record_report rows seconds own)

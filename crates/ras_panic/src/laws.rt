@@ -1,16 +1,18 @@
 //! What holds of panic records, for every report and every record.
 
-ghost use Rattle.std.specs.Prelude.{◌≡◌, ◌<◌, ◌^◌, ◌↔◌, ◌++◌, ℕ, List, length, IsTrue, Ok, Some};
+ghost use Rattle.std.specs.Prelude.{◌≡◌, ◌<◌, ◌≤◌, ◌^◌, ◌↔◌, ◌++◌, ℕ, List, length, IsTrue, Ok, Some};
 ghost use Rattle.mca_status.specs.Registers.{valid};
 ghost use Rattle.ras_base.specs.LittleEndian.{AreBytes, number_at};
 ghost use Rattle.cper_records.specs.Header.{record_id};
+ghost use Rattle.cper_records.specs.Laid.{IsRecord};
 ghost use Rattle.cper_records.specs.Records.{record_of};
 ghost use Rattle.dimm_topology.specs.declared.row.Row.{Row};
 ghost use Rattle.ras_facts.specs.Facts.{bank_fact, status_in};
 ghost use Rattle.ras_facts.specs.Reported.{record_fact};
+ghost use Rattle.ras_facts.specs.Reports.{TellsOfEachItem};
 ghost use Rattle.ras_facts.specs.declared.bank.BankReport.{BankReport};
 ghost use Rattle.ras_panic.specs.Panics.{panic_bytes};
-ghost use Rattle.ras_panic.specs.Reading.{panic_report, stored_fact, stored_name};
+ghost use Rattle.ras_panic.specs.Reading.{panic_report, stored_fact, stored_name, stored_report};
 ghost use Rattle.ras_panic.specs.Reports.{FitsFields, HoldsReport};
 
 /// The panic record of a report is read as a record of its identifier, whatever bytes come after
@@ -53,4 +55,21 @@ pub fn panic_records_tell_their_length()
 pub fn stored_facts_are_named()
     ensures { (rows : List Row) (seconds : ℕ) (own : List ℕ)
         → (stored_fact rows seconds own).name ≡ stored_name own }
+{}
+
+/// The report of a record of the store has as many details as its fact has items, and its fact is
+/// the fact of the record.
+pub fn stored_reports_tell_of_each_item()
+    ensures stored { (rows : List Row) (seconds : ℕ) (own : List ℕ)
+        → TellsOfEachItem (stored_report rows seconds own) }
+    ensures fact { (rows : List Row) (seconds : ℕ) (own : List ℕ)
+        → (stored_report rows seconds own).fact ≡ stored_fact rows seconds own }
+{}
+
+/// A record of at most 16,384 bytes, the most that a store has of one, reports at most 225 items,
+/// because each section takes a descriptor of 72 bytes besides the header's 128.
+pub fn stored_reports_are_short()
+    ensures { (rows : List Row) (seconds : ℕ) (own : List ℕ) → IsRecord own
+        → length own ≤ 16_384
+        → length (stored_report rows seconds own).fact.items ≤ 225 }
 {}

@@ -15,8 +15,8 @@ mod stored;
 
 pub use laws::{
     panic_records_tell_their_length, reports_are_held, reports_are_read_back,
-    stored_facts_are_named,
+    stored_facts_are_named, stored_reports_are_short, stored_reports_tell_of_each_item,
 };
 pub use making::{PanicRefused, panic_record};
 pub use reading::panic_of;
-pub use stored::fact_of_stored;
+pub use stored::{fact_of_stored, report_of_stored};

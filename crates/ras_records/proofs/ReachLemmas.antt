@@ -26,10 +26,10 @@ use Rattle.ras_facts.specs.Entries.{IsValidEntry}
 use Rattle.ras_facts.specs.Facts.{bank_item, bank_name, cap_in, status_in}
 use Rattle.ras_facts.specs.Reported.{record_item}
 use Rattle.ras_facts.specs.Valid.{IsValidFact}
-use Rattle.ras_panic.specs.Reading.{panic_report}
-use Rattle.ras_reports.specs.Reports.{bank_report, record_report, stored_report}
-use Rattle.ras_reports.specs.declared.details.Detail.TheVariants.{Bank}
-use Rattle.ras_reports.specs.declared.details.Report.{Report}
+use Rattle.ras_panic.specs.Reading.{panic_report, stored_report}
+use Rattle.ras_facts.specs.Reports.{bank_report, record_report}
+use Rattle.ras_facts.specs.declared.details.Detail.TheVariants.{Bank}
+use Rattle.ras_facts.specs.declared.details.Report.{Report}
 use Rattle.entry_format.specs.Spelling.{entry_bytes}
 use Rattle.entry_format.proofs.SizeLemmas.{fact_entry_most}
 use Rattle.journal_format.specs.Links.{payload_bytes}

@@ -1,7 +1,7 @@
 //! Clearing records.
 
 ghost use Rattle.std.specs.Prelude.{◌≢◌, [], IfSome};
-ghost use Rattle.board_core.specs.Doing.{Does, ended_by, looks};
+ghost use Rattle.board_core.specs.Doing.{Does, ended_by};
 ghost use Rattle.board_core.specs.Told.{Relates, device_of};
 ghost use Rattle.erst_store.specs.DeviceLaws.{IsDevice};
 ghost use Rattle.erst_interp.specs.Run.{KeepsButDevice, acts_of};
@@ -19,14 +19,14 @@ use erst_driver::{Driver, DriverRefused};
 /// The first clear that fails is the last. `Register`: if and only if a call of the board failed.
 /// `Busy`: the device was busy at each of the most checks. `Status`: the store has no such record.
 pub fn clear_all<B: Board>(driver: &Driver, ids: &[u64], board: &mut B) -> Result<(), DriverRefused>
-    ensures does { IfSome (B.told board.old) (λ t. Does (looks B.told B.clock B.faults)
+    ensures does { IfSome (B.seen board.old).told (λ t. Does B.seen
         (acts_of (each_calls (clear_calls driver.now) ids.now t)) (ended_by driver_end result)
         board.old board.new) }
-    ensures answers { IfSome (B.told board.old)
+    ensures answers { IfSome (B.seen board.old).told
         (λ t. AnswersAs result (each_answer (clear_calls driver.now) ids.now t)) }
-    ensures kept { Relates KeepsButDevice (B.told board.old) (B.told board.new) }
-    ensures ends { EndsOperation result (B.faults board.old) (B.faults board.new) }
-    ensures device { ids.now ≢ [] → IfSome (B.told board.old) (λ t. IsDevice (device_of t)) }
+    ensures kept { Relates KeepsButDevice (B.seen board.old).told (B.seen board.new).told }
+    ensures ends { EndsOperation result (B.seen board.old).faults (B.seen board.new).faults }
+    ensures device { ids.now ≢ [] → IfSome (B.seen board.old).told (λ t. IsDevice (device_of t)) }
 {
     for id in ids {
         driver.clear(*id, board)?;

@@ -2,7 +2,6 @@
 
 ghost use Rattle.std.specs.Prelude.{◌≡◌, ◌≤◌, ◌+◌, ℕ, [], ◌∷◌, ◌++◌, if◌then◌else◌, IfSome, OnOk, length};
 ghost use Rattle.std.specs.Result.{is_ok};
-ghost use Rattle.board_core.specs.Doing.{looks};
 ghost use Rattle.board_core.specs.Told.{Relates, device_of};
 ghost use Rattle.cper_records.specs.Readable.{read_under};
 ghost use Rattle.erst_store.specs.Actions.{range_length};
@@ -22,7 +21,7 @@ use dimm_topology::Topology;
 use erst_driver::{Driver, DriverRefused};
 use ras_base::NoMemory;
 use ras_events::Made;
-use ras_reports::report_of_stored;
+use ras_panic::report_of_stored;
 use std::alloc::Global;
 
 /// What was found in the record store.
@@ -93,14 +92,14 @@ pub fn look<B: Board>(
     board: &mut B,
 ) -> Result<Looked, DriverRefused>
     requires { length buffer.old ≡ range_length }
-    ensures does { IfSome (B.told board.old) (λ t. DoesListing (looks B.told B.clock B.faults)
+    ensures does { IfSome (B.seen board.old).told (λ t. DoesListing B.seen
         (look_calls driver.now t) result board.old board.new) }
-    ensures looked { IsAdmittedTable driver.now → IfSome (B.told board.old)
+    ensures looked { IsAdmittedTable driver.now → IfSome (B.seen board.old).told
         (λ t. Looks topology.now seconds result t) }
     ensures bounded { IsBounded result }
-    ensures kept { Relates KeepsButDevice (B.told board.old) (B.told board.new) }
-    ensures cause { HasCauseIn result (B.faults board.old) (B.faults board.new) }
-    ensures device { IfSome (B.told board.old) (λ t. IsDevice (device_of t)) }
+    ensures kept { Relates KeepsButDevice (B.seen board.old).told (B.seen board.new).told }
+    ensures cause { HasCauseIn result (B.seen board.old).faults (B.seen board.new).faults }
+    ensures device { IfSome (B.seen board.old).told (λ t. IsDevice (device_of t)) }
 {
     let ids = driver.ids(alloc, board)?;
     read_all(alloc, seconds, driver, topology, &ids, buffer, board)
@@ -118,14 +117,14 @@ fn read_all<B: Board>(
 ) -> Result<Looked, DriverRefused>
     requires range { length buffer.old ≡ range_length }
     requires few { length ids.now ≤ most_records }
-    ensures does { IfSome (B.told board.old) (λ t. DoesListing (looks B.told B.clock B.faults)
+    ensures does { IfSome (B.seen board.old).told (λ t. DoesListing B.seen
         (each_calls (read_calls driver.now) ids.now t) result board.old board.new) }
-    ensures looked { IsAdmittedTable driver.now → IfSome (B.told board.old) (λ t.
+    ensures looked { IsAdmittedTable driver.now → IfSome (B.seen board.old).told (λ t.
         IsDevice (device_of t) → ids.now ≡ ids_in t.here.store
         → Looks topology.now seconds result t) }
     ensures bounded { IsBounded result }
-    ensures kept { Relates KeepsButDevice (B.told board.old) (B.told board.new) }
-    ensures cause { HasCauseIn result (B.faults board.old) (B.faults board.new) }
+    ensures kept { Relates KeepsButDevice (B.seen board.old).told (B.seen board.new).told }
+    ensures cause { HasCauseIn result (B.seen board.old).faults (B.seen board.new).faults }
 {
     let mut looked = Looked::new(alloc);
     for id in ids {

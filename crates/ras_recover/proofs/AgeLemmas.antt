@@ -1,37 +1,33 @@
 -- Both files of a board, the older one read first.
-use Rattle.std.proofs.Common.{◌≡◌, ◌∙◌, ℕ, ◌≤◌, ◌<◌, List, ◌++◌, length, Option, None, Some, Result, Ok, Err, refl, ap, subst, arith}
-use Rattle.std.specs.Prelude.{true, false, nat_lt, IfOk, IfSome}
+use Rattle.std.proofs.Common.{◌≡◌, ◌∙◌, ℕ, ◌≤◌, ◌<◌, List, ◌++◌, length, Option, None, Some, Ok, refl, sym, ap, subst, arith, inl, inr}
+use Rattle.std.specs.Prelude.{true, false, nat_lt, IfSome}
 use Rattle.std.specs.Option.{option_map}
 use Rattle.std.proofs.lemmas.Bool.Decides.{nat_tests}
 use Rattle.board_core.specs.declared.board.FileNo.{FileNo}
 use Rattle.board_core.specs.declared.board.FileNo.TheVariants.{Zero, One}
 use Rattle.board_core.specs.declared.board.DiskCall.{DiskCall}
-use Rattle.board_core.specs.Cause.{Faults, disk_call, FailsAs}
-use Rattle.board_core.specs.Clock.{Clock}
+use Rattle.board_core.specs.Doing.{Seen, gave_up, went_well}
 use Rattle.board_core.specs.Stop.{Left, file_in}
 use Rattle.board_core.specs.Told.{Told, file_of}
 use Rattle.ras_account.specs.declared.account.Account.{Account}
 use Rattle.ras_journal.specs.declared.limits.TheConstants.{LONGEST_FILE}
 use Rattle.ras_journal.specs.Fields.{is_taken}
 use Rattle.ras_journal.specs.File.{FileFront, front_of}
-use Rattle.ras_journal.specs.Recovered.{Refusal, in_file, journal_of, is_shut, other}
+use Rattle.ras_journal.specs.Recovered.{in_file, journal_of, is_shut, other}
 use Rattle.ras_journal.proofs.FrontLemmas.{front_parts}
 use Rattle.ras_journal.proofs.SwitchLemmas.{taken_other}
 use Rattle.ras_recover.specs.declared.pair.BothRead.{BothRead}
 use Rattle.ras_recover.specs.declared.place.Place.{Place}
 use Rattle.ras_recover.specs.declared.place.ReadRefused.{ReadRefused}
-use Rattle.ras_recover.specs.declared.place.ReadRefused.TheVariants.{Disk as DiskAt, Damaged as DamagedAt, NoMemory as NoMemoryAt}
-use Rattle.ras_recover.specs.declared.refused.OpenRefused.{OpenRefused}
-use Rattle.ras_recover.specs.declared.refused.OpenRefused.TheVariants.{Disk, TooLong, Damaged, NoMemory}
-use Rattle.ras_recover.specs.DiskCalls.{Calls, ReadsPlace}
+use Rattle.ras_recover.specs.declared.window.SizedFile.{SizedFile}
+use Rattle.ras_recover.specs.DiskCalls.{ReadsPlace}
 use Rattle.ras_recover.specs.OpeningCalls.{ReadsStanding, ReadsBoth}
-use Rattle.ras_recover.specs.Recovering.{RefusesHeld, open_failure}
-use Rattle.ras_recover.specs.Steps.Looking.{AreReads}
-use Rattle.ras_recover.specs.Steps.Pair.{AreRead, IfFound, TellsNothing}
+use Rattle.ras_recover.specs.Steps.Looking.{Looks}
+use Rattle.ras_recover.specs.Steps.Pair.{AreBoth, AreRead, IfFound}
 use Rattle.ras_recover.specs.Steps.Reading.{front_at}
-use Rattle.ras_recover.specs.Steps.Windows.{LooksAt, read_failure}
-use Rattle.ras_recover.proofs.CallsLemmas.{relates_then, relates_weaker, calls_then, calls_weaker, both_read_alone, any_left, any_right}
-use Rattle.ras_recover.proofs.KeepingLemmas.{keeps_then, same_faults, no_faults, still, before}
+use Rattle.ras_recover.proofs.CallsLemmas.{any_left, any_right, both_later}
+use Rattle.ras_recover.proofs.KeepingLemmas.{still, before}
+use Rattle.ras_recover.proofs.LooksLemmas.{Joins, looks_taken_up, looks_weaker}
 use Rattle.ras_recover.proofs.PairLemmas.{both_read}
 use Rattle.ras_recover.proofs.StandingLemmas.{open_not_shut}
 
@@ -97,24 +93,7 @@ aged_told newer older place account last m n (Some t) next here same short sizes
     aged_here newer older place account last m n t.here same short sizes e0
     (before (λ (l : Left). front_of None (file_in newer l) ≡ Ok (Some (front_at place account.state))) (Some t) next here e1) less
 
--- what tells nothing of the files is no wrong answer
-pub nothing_held : {A : Type 0} (why : OpenRefused) (held : Result A Refusal) → TellsNothing why → RefusesHeld why held
-nothing_held Disk held nothing = tt
-nothing_held TooLong held nothing = absurd nothing
-nothing_held (Damaged file place) held nothing = absurd nothing
-nothing_held NoMemory held nothing = tt
-
-pub nothing_told : {A : Type 0} (why : OpenRefused) (held : Told → Result A Refusal) (told : Option Told) → TellsNothing why → IfSome told (λ t. RefusesHeld why (held t))
-nothing_told why held None nothing = tt
-nothing_told why held (Some t) nothing = nothing_held why (held t) nothing
-
--- what was found in them, of what was told before
-pub found_before : (result : Result (Option BothRead) OpenRefused) (old next : Option Told) → option_map (λ (t : Told). t.here) next ≡ option_map (λ (t : Told). t.here) old → IfOk result (λ found. IfSome found (λ both. IfSome next (λ t. AreRead both t.here.file0 t.here.file1)))
-    → IfOk result (λ found. IfSome found (λ both. IfSome old (λ t. AreRead both t.here.file0 t.here.file1)))
-found_before (Err why) old next here is = tt
-found_before (Ok None) old next here is = tt
-found_before (Ok (Some both)) old next here is = before (λ (l : Left). AreRead both l.file0 l.file1) old next here is
-
+-- what was found in them
 pub found_journal : (both : BothRead) (told : Option Told) → IfSome told (λ t. AreRead both t.here.file0 t.here.file1) → IfSome told (λ t. journal_of t.here.file0 t.here.file1 ≡ Ok (option_map (λ j. record { file = j.0; front = front_at j.1 j.2.state }) both.journal))
 found_journal both None are = tt
 found_journal both (Some t) are = are.journal
@@ -123,141 +102,52 @@ pub found_shut : (both : BothRead) (told : Option Told) → IfSome told (λ t. A
 found_shut both None are = tt
 found_shut both (Some t) are = (are.zero, are.one)
 
--- a file that was read by itself
-pub sound_read : (front : Option (Place × Account)) (file : FileNo) (told : Option Told) → IfSome told (λ t. front_of None (file_of file t) ≡ Ok (option_map (λ p. front_at p.0 p.1.state) front))
-    → IfSome front (λ p. IfSome told (λ t. front_of None (file_of file t) ≡ Ok (Some (front_at p.0 p.1.state))))
-sound_read None file told is = tt
-sound_read (Some p) file told is = is
-
 -- the sizes of both files are as they were
 pub sizes_later : (m n : ℕ) (zero one : FileNo) (old next : Option Told) → option_map (λ (t : Told). t.here) next ≡ option_map (λ (t : Told). t.here) old → IfSome old (λ t. (m ≡ length (file_of zero t)) × (n ≡ length (file_of one t)))
     → IfSome next (λ t. (m ≡ length (file_of zero t)) × (n ≡ length (file_of one t)))
 sizes_later m n zero one old next here sizes = still (λ (l : Left). (m ≡ length (file_in zero l)) × (n ≡ length (file_in one l))) old next here sizes
 
-pub sizes_swapped : (m n : ℕ) (zero one : FileNo) (told : Option Told) → IfSome told (λ t. (m ≡ length (file_of zero t)) × (n ≡ length (file_of one t))) → IfSome told (λ t. (n ≡ length (file_of one t)) × (m ≡ length (file_of zero t)))
-sizes_swapped m n zero one None sizes = tt
-sizes_swapped m n zero one (Some t) sizes = (sizes.1, sizes.0)
+-- ---- the older file and the newer one
+
+-- What is known of them.
+pub record Aged (older newer : SizedFile) (told : Option Told) : Type 0 where
+  pub others : older.no ≡ other newer.no
+  pub short : (older.size ≤ LONGEST_FILE) × (newer.size ≤ LONGEST_FILE)
+  pub sizes : IfSome told (λ t. (older.size ≡ length (file_of older.no t)) × (newer.size ≡ length (file_of newer.no t)))
+
+swapped : (m n : ℕ) (this that : FileNo) (told : Option Told) → IfSome told (λ t. (m ≡ length (file_of this t)) × (n ≡ length (file_of that t))) → IfSome told (λ t. (n ≡ length (file_of that t)) × (m ≡ length (file_of this t)))
+swapped m n this that None sizes = tt
+swapped m n this that (Some t) sizes = (sizes.1, sizes.0)
+
+pub aged : (zero one older newer : SizedFile) (told : Option Told) → AreBoth zero one older newer → (zero.no ≡ Zero) × (one.no ≡ One) → (zero.size ≤ LONGEST_FILE) × (one.size ≤ LONGEST_FILE)
+    → IfSome told (λ t. (zero.size ≡ length (file_of zero.no t)) × (one.size ≡ length (file_of one.no t))) → Aged older newer told
+aged zero one older newer told (inl is) numbers short sizes =
+    subst (λ (o : SizedFile). Aged o newer told) (sym is.0) (subst (λ (n : SizedFile). Aged zero n told) (sym is.1) (record {
+      others = numbers.0 ∙ sym (ap other numbers.1);
+      short = short;
+      sizes = sizes;
+    }))
+aged zero one older newer told (inr is) numbers short sizes =
+    subst (λ (o : SizedFile). Aged o newer told) (sym is.0) (subst (λ (n : SizedFile). Aged one n told) (sym is.1) (record {
+      others = numbers.1 ∙ sym (ap other numbers.0);
+      short = (short.1, short.0);
+      sizes = swapped zero.size one.size zero.no one.no told sizes;
+    }))
+
+pub aged_later : (older newer : SizedFile) (old next : Option Told) → option_map (λ (t : Told). t.here) next ≡ option_map (λ (t : Told). t.here) old → Aged older newer old → Aged older newer next
+aged_later older newer old next here is = record {
+  others = is.others;
+  short = is.short;
+  sizes = sizes_later older.size newer.size older.no newer.no old next here is.sizes;
+}
+
+pub older_size : (older newer : SizedFile) (told : Option Told) → Aged older newer told → IfSome told (λ t. older.size ≡ length (file_of older.no t))
+older_size older newer None is = tt
+older_size older newer (Some t) is = is.sizes.0
 
 -- ---- what was read of them
 
--- what was read, told otherwise
-pub looks_told : {S T : Type 0} (x : S) (y : T) (P Q : Told → List DiskCall → Type 0) (ta : Option Told) (a : Clock) (fa : Faults) (tb : Option Told) (b : Clock) (fb : Faults) → ((t : Told) (ys : List DiskCall) → P t ys → Q t ys)
-    → LooksAt {T = S} open_failure (Ok x) P ta a fa tb b fb → LooksAt {T = T} open_failure (Ok y) Q ta a fa tb b fb
-looks_told x y P Q ta a fa tb b fb each looks = record {
-  keeps = looks.keeps;
-  calls = relates_weaker (λ t. Calls (AreReads {E = OpenRefused} (Ok x) (P t)) t) (λ t. Calls (AreReads {E = OpenRefused} (Ok y) (Q t)) t)
-      (λ t u calls. calls_weaker (AreReads {E = OpenRefused} (Ok x) (P t)) (AreReads {E = OpenRefused} (Ok y) (Q t)) (λ xs are. record { alone = are.alone; done = each t xs are.done }) t u calls) ta tb looks.calls;
-  cause = looks.cause;
-}
-
--- the same of a file that was read by itself
-pub looks_opened : {S T : Type 0} (x : S) (y : T) (P Q : Told → List DiskCall → Type 0) (ta : Option Told) (a : Clock) (fa : Faults) (tb : Option Told) (b : Clock) (fb : Faults) → ((t : Told) (ys : List DiskCall) → P t ys → Q t ys)
-    → LooksAt {T = S} read_failure (Ok x) P ta a fa tb b fb → LooksAt {T = T} open_failure (Ok y) Q ta a fa tb b fb
-looks_opened x y P Q ta a fa tb b fb each looks = record {
-  keeps = looks.keeps;
-  calls = relates_weaker (λ t. Calls (AreReads {E = ReadRefused} (Ok x) (P t)) t) (λ t. Calls (AreReads {E = OpenRefused} (Ok y) (Q t)) t)
-      (λ t u calls. calls_weaker (AreReads {E = ReadRefused} (Ok x) (P t)) (AreReads {E = OpenRefused} (Ok y) (Q t)) (λ xs are. record { alone = are.alone; done = each t xs are.done }) t u calls) ta tb looks.calls;
-  cause = no_faults fa fb tt (same_faults fa fb tt looks.cause);
-}
-
--- of one where a disk call failed
-pub looks_failed : (S T : Type 0) (P Q : Told → List DiskCall → Type 0) (ta : Option Told) (a : Clock) (fa : Faults) (tb : Option Told) (b : Clock) (fb : Faults)
-    → LooksAt {T = S} read_failure (Err DiskAt) P ta a fa tb b fb → LooksAt {T = T} open_failure (Err Disk) Q ta a fa tb b fb
-looks_failed S T P Q ta a fa tb b fb looks = record {
-  keeps = looks.keeps;
-  calls = relates_weaker (λ t. Calls (AreReads {T = S} (Err DiskAt) (P t)) t) (λ t. Calls (AreReads {T = T} (Err Disk) (Q t)) t)
-      (λ t u calls. calls_weaker (AreReads {T = S} (Err DiskAt) (P t)) (AreReads {T = T} (Err Disk) (Q t)) (λ xs are. record { alone = are.alone; done = tt }) t u calls) ta tb looks.calls;
-  cause = record { own = record { later = looks.cause.own.later; failed = looks.cause.own.failed; same = tt }; others = looks.cause.others };
-}
-
--- of one for which there was no memory
-pub looks_full : (S T : Type 0) (P Q : Told → List DiskCall → Type 0) (ta : Option Told) (a : Clock) (fa : Faults) (tb : Option Told) (b : Clock) (fb : Faults)
-    → LooksAt {T = S} read_failure (Err NoMemoryAt) P ta a fa tb b fb → LooksAt {T = T} open_failure (Err NoMemory) Q ta a fa tb b fb
-looks_full S T P Q ta a fa tb b fb looks = record {
-  keeps = looks.keeps;
-  calls = relates_weaker (λ t. Calls (AreReads {T = S} (Err NoMemoryAt) (P t)) t) (λ t. Calls (AreReads {T = T} (Err NoMemory) (Q t)) t)
-      (λ t u calls. calls_weaker (AreReads {T = S} (Err NoMemoryAt) (P t)) (AreReads {T = T} (Err NoMemory) (Q t)) (λ xs are. record { alone = are.alone; done = tt }) t u calls) ta tb looks.calls;
-  cause = no_faults fa fb tt (same_faults fa fb tt looks.cause);
-}
-
--- and of one that is damaged
-pub looks_damaged : {S T : Type 0} (at : ℕ) (y : T) (P Q : Told → List DiskCall → Type 0) (ta : Option Told) (a : Clock) (fa : Faults) (tb : Option Told) (b : Clock) (fb : Faults) → ((t : Told) (ys : List DiskCall) → Q t ys)
-    → LooksAt {T = S} read_failure (Err (DamagedAt at)) P ta a fa tb b fb → LooksAt {T = T} open_failure (Ok y) Q ta a fa tb b fb
-looks_damaged {S} at y P Q ta a fa tb b fb all looks = record {
-  keeps = looks.keeps;
-  calls = relates_weaker (λ t. Calls (AreReads {T = S} (Err (DamagedAt at)) (P t)) t) (λ t. Calls (AreReads {E = OpenRefused} (Ok y) (Q t)) t)
-      (λ t u calls. calls_weaker (AreReads {T = S} (Err (DamagedAt at)) (P t)) (AreReads {E = OpenRefused} (Ok y) (Q t)) (λ xs are. record { alone = are.alone; done = all t xs }) t u calls) ta tb looks.calls;
-  cause = no_faults fa fb tt (same_faults fa fb tt looks.cause);
-}
-
-same_cause : (S T : Type 0) (why : OpenRefused) (fa fb : Faults) → FailsAs disk_call fa fb (open_failure {T = S} (Err why)) → FailsAs disk_call fa fb (open_failure {T = T} (Err why))
-same_cause S T Disk fa fb cause = cause
-same_cause S T TooLong fa fb cause = cause
-same_cause S T (Damaged file place) fa fb cause = cause
-same_cause S T NoMemory fa fb cause = cause
-
--- a refusal, of another kind of answer
-pub looks_broken : (S T : Type 0) (why : OpenRefused) (P Q : Told → List DiskCall → Type 0) (ta : Option Told) (a : Clock) (fa : Faults) (tb : Option Told) (b : Clock) (fb : Faults)
-    → LooksAt {T = S} open_failure (Err why) P ta a fa tb b fb → LooksAt {T = T} open_failure (Err why) Q ta a fa tb b fb
-looks_broken S T why P Q ta a fa tb b fb looks = record {
-  keeps = looks.keeps;
-  calls = relates_weaker (λ t. Calls (AreReads {T = S} (Err why) (P t)) t) (λ t. Calls (AreReads {T = T} (Err why) (Q t)) t)
-      (λ t u calls. calls_weaker (AreReads {T = S} (Err why) (P t)) (AreReads {T = T} (Err why) (Q t)) (λ xs are. record { alone = are.alone; done = tt }) t u calls) ta tb looks.calls;
-  cause = same_cause S T why fa fb looks.cause;
-}
-
--- reads that went well, and then others that did
-pub looks_joined : {S T U : Type 0} (x : S) (y : T) (z : U) (P Q R : Left → List DiskCall → Type 0) (ta : Option Told) (a : Clock) (fa : Faults) (tb : Option Told) (b : Clock) (fb : Faults) (tc : Option Told) (c : Clock) (fc : Faults)
-    → ((here : Left) (xs ys : List DiskCall) → P here xs → Q here ys → R here (xs ++ ys)) → LooksAt {T = S} open_failure (Ok x) (λ t. P t.here) ta a fa tb b fb → LooksAt {T = T} open_failure (Ok y) (λ t. Q t.here) tb b fb tc c fc
-    → LooksAt {T = U} open_failure (Ok z) (λ t. R t.here) ta a fa tc c fc
-looks_joined {S} {T} {U} x y z P Q R ta a fa tb b fb tc c fc joins first second = record {
-  keeps = keeps_then ta a tb b tc c first.keeps second.keeps;
-  calls = relates_then (λ t. Calls (AreReads {E = OpenRefused} (Ok x) (P t.here)) t) (λ t. Calls (AreReads {E = OpenRefused} (Ok y) (Q t.here)) t) (λ t. Calls (AreReads {E = OpenRefused} (Ok z) (R t.here)) t) both ta tb tc first.calls second.calls;
-  cause = subst (λ (f : Faults). FailsAs {E = OpenRefused} disk_call f fc (Ok tt)) (same_faults fa fb tt first.cause) second.cause;
-}
-  where
-    both : (t u v : Told) → Calls (AreReads {E = OpenRefused} (Ok x) (P t.here)) t u → Calls (AreReads {E = OpenRefused} (Ok y) (Q u.here)) u v → Calls (AreReads {E = OpenRefused} (Ok z) (R t.here)) t v
-    both t u v one two =
-        let here : u.here ≡ t.here = ap (λ (w : Told). w.here) one.is in
-        calls_then (AreReads {E = OpenRefused} (Ok x) (P t.here)) (AreReads {E = OpenRefused} (Ok y) (Q t.here)) (AreReads {E = OpenRefused} (Ok z) (R t.here))
-        (λ xs ys p q. record { alone = both_read_alone xs ys p.alone q.alone; done = joins t.here xs ys p.done q.done }) t u v one
-        (subst (λ (l : Left). Calls (AreReads {E = OpenRefused} (Ok y) (Q l)) u v) here two)
-
--- and then one that failed
-pub looks_half : {S : Type 0} (T U : Type 0) (x : S) (why : OpenRefused) (P Q R : Told → List DiskCall → Type 0) (ta : Option Told) (a : Clock) (fa : Faults) (tb : Option Told) (b : Clock) (fb : Faults) (tc : Option Told) (c : Clock) (fc : Faults)
-    → LooksAt {T = S} open_failure (Ok x) P ta a fa tb b fb → LooksAt {T = T} open_failure (Err why) Q tb b fb tc c fc → LooksAt {T = U} open_failure (Err why) R ta a fa tc c fc
-looks_half T U x why P Q R ta a fa tb b fb tc c fc first second = record {
-  keeps = keeps_then ta a tb b tc c first.keeps second.keeps;
-  calls = relates_then (λ t. Calls (AreReads {E = OpenRefused} (Ok x) (P t)) t) (λ t. Calls (AreReads {T = T} (Err why) (Q t)) t) (λ t. Calls (AreReads {T = U} (Err why) (R t)) t)
-      (λ t u v one two. calls_then (AreReads {E = OpenRefused} (Ok x) (P t)) (AreReads {T = T} (Err why) (Q u)) (AreReads {T = U} (Err why) (R t))
-      (λ xs ys p q. record { alone = both_read_alone xs ys p.alone q.alone; done = tt }) t u v one two) ta tb tc first.calls second.calls;
-  cause = same_cause T U why fa fc (subst (λ (f : Faults). FailsAs disk_call f fc (open_failure {T = T} (Err why))) (same_faults fa fb tt first.cause) second.cause);
-}
-
--- and then a call whose answer is passed on
-pub looks_behind : {S T : Type 0} (x : S) (result : Result T OpenRefused) (P : Left → List DiskCall → Type 0) (Q : Left → List DiskCall → Type 0) (ta : Option Told) (a : Clock) (fa : Faults) (tb : Option Told) (b : Clock) (fb : Faults) (tc : Option Told) (c : Clock) (fc : Faults)
-    → ((here : Left) (xs ys : List DiskCall) → Q here ys → Q here (xs ++ ys)) → LooksAt {T = S} open_failure (Ok x) (λ t. P t.here) ta a fa tb b fb → LooksAt {T = T} open_failure result (λ t. Q t.here) tb b fb tc c fc
-    → LooksAt {T = T} open_failure result (λ t. Q t.here) ta a fa tc c fc
-looks_behind x (Ok y) P Q ta a fa tb b fb tc c fc later first second = looks_joined x y y P Q Q ta a fa tb b fb tc c fc (λ here xs ys p q. later here xs ys q) first second
-looks_behind x (Err why) P Q ta a fa tb b fb tc c fc later first second = looks_half _ _ x why (λ t. P t.here) (λ t. Q t.here) (λ t. Q t.here) ta a fa tb b fb tc c fc first second
-
--- what was read of both is read of them later too
-pub both_later : (here : Left) (xs ys : List DiskCall) → ReadsBoth here ys → ReadsBoth here (xs ++ ys)
-both_later here xs ys reads = record {
-  zero = λ taken front place stands early. any_right (ReadsPlace Zero place) xs ys (reads.zero taken front place stands early);
-  one = λ taken front place stands early. any_right (ReadsPlace One place) xs ys (reads.one taken front place stands early);
-}
-
-pub if_found : {T : Type 0} (found : Option T) (P : Type 0) → P → IfFound (Ok found) P
-if_found None P p = tt
-if_found (Some x) P p = p
-
-pub found_later : (result : Result (Option BothRead) OpenRefused) (here : Left) (xs ys : List DiskCall) → IfFound result (ReadsBoth here ys) → IfFound result (ReadsBoth here (xs ++ ys))
-found_later (Err why) here xs ys reads = tt
-found_later (Ok None) here xs ys reads = tt
-found_later (Ok (Some both)) here xs ys reads = both_later here xs ys reads
-
-pub both_aged : (newer older : FileNo) → older ≡ other newer → (here : Left) (xs ys : List DiskCall) → ReadsStanding older (file_in older here) xs → ReadsStanding newer (file_in newer here) ys → ReadsBoth here (xs ++ ys)
+both_aged : (newer older : FileNo) → older ≡ other newer → (here : Left) (xs ys : List DiskCall) → ReadsStanding older (file_in older here) xs → ReadsStanding newer (file_in newer here) ys → ReadsBoth here (xs ++ ys)
 both_aged Zero Zero same here xs ys first second = absurd cc
 both_aged One One same here xs ys first second = absurd cc
 both_aged Zero One same here xs ys first second = record {
@@ -268,3 +158,25 @@ both_aged One Zero same here xs ys first second = record {
   zero = λ taken front place stands early. any_left (ReadsPlace Zero place) xs ys (first taken front place stands early);
   one = λ taken front place stands early. any_right (ReadsPlace One place) xs ys (second taken front place stands early);
 }
+
+pub aged_reads : (newer older : FileNo) → older ≡ other newer → Joins (λ t. ReadsStanding older (file_of older t)) (λ t. ReadsStanding newer (file_of newer t)) (λ t. ReadsBoth t.here)
+aged_reads newer older same t u here xs ys first second =
+    both_aged newer older same t.here xs ys first (subst (λ (l : Left). ReadsStanding newer (file_in newer l) ys) here second)
+
+-- both files are read after other reads
+pub reads_later : (P : Told → List DiskCall → Type 0) → Joins P (λ t. ReadsBoth t.here) (λ t. ReadsBoth t.here)
+reads_later P t u here xs ys first second = both_later t.here xs ys (subst (λ (l : Left). ReadsBoth l ys) here second)
+
+-- ---- what reading by age came to
+
+-- What was found, or that both files are still to be read one by one.
+pub record Found (found : Option BothRead) (old new : Seen) : Type 0 where
+  pub read : IfSome found (λ both. IfSome old.told (λ t. AreRead both t.here.file0 t.here.file1))
+  pub looks : Looks went_well (λ t calls. IfSome found (λ both. ReadsBoth t.here calls)) old new
+
+pub found_ok : (found : Option BothRead) (old new : Seen) → IfSome found (λ both. IfSome old.told (λ t. AreRead both t.here.file0 t.here.file1)) → Looks went_well (λ t calls. IfFound {E = ReadRefused} (Ok found) (ReadsBoth t.here calls)) old new → Found found old new
+found_ok None old new read looks = record { read = read; looks = looks_weaker went_well _ _ old new (λ t calls is. tt) looks }
+found_ok (Some both) old new read looks = record { read = read; looks = looks_weaker went_well _ _ old new (λ t calls is. is) looks }
+
+pub found_none : (P : Told → List DiskCall → Type 0) (old new : Seen) → Looks gave_up P old new → Found None old new
+found_none P old new looks = record { read = tt; looks = looks_taken_up P _ old new (λ t calls. tt) looks }

@@ -4,8 +4,11 @@ use Rattle.std.specs.Prelude.{All, Any, IfSome}
 use Rattle.std.proofs.lemmas.List.{append-nil}
 use Rattle.std.proofs.lemmas.List.Elements.{All-append, All-cons, All-nil, Contains-append_left, Contains-append_right}
 use Rattle.board_core.specs.declared.board.DiskCall.{DiskCall}
+use Rattle.board_core.specs.declared.board.FileNo.TheVariants.{Zero, One}
+use Rattle.board_core.specs.Stop.{Left}
 use Rattle.board_core.specs.Told.{Told, Steps, Relates, MayList, with_call}
-use Rattle.ras_recover.specs.DiskCalls.{Calls, IsReading, Makes, with_calls}
+use Rattle.ras_recover.specs.DiskCalls.{Calls, IsReading, Makes, ReadsPlace, with_calls}
+use Rattle.ras_recover.specs.OpeningCalls.{ReadsBoth}
 
 -- ---- where a board tells
 
@@ -69,10 +72,6 @@ call_done Are call one a b told = relates_steps (Calls Are) (with_call call) (ca
 pub call_failed : (Are : List DiskCall → Type 0) (call : DiskCall) → Are [] → Are (call ∷ []) → (a b : Option Told) → Relates (MayList call) a b → Relates (Calls Are) a b
 call_failed Are call none one a b failed = relates_weaker (MayList call) (Calls Are) (listed_or_not Are call none one) a b failed
 
--- calls and then others
-pub calls_joined : (P Q R : List DiskCall → Type 0) → ((xs ys : List DiskCall) → P xs → Q ys → R (xs ++ ys)) → (a b c : Option Told) → Relates (Calls P) a b → Relates (Calls Q) b c → Relates (Calls R) a c
-calls_joined P Q R joins a b c first second = relates_then (Calls P) (Calls Q) (Calls R) (calls_then P Q R joins) a b c first second
-
 pub calls_seen : (P Q : List DiskCall → Type 0) → ((xs : List DiskCall) → P xs → Q xs) → (a b : Option Told) → Relates (Calls P) a b → Relates (Calls Q) a b
 calls_seen P Q weaker a b calls = relates_weaker (Calls P) (Calls Q) (calls_weaker P Q weaker) a b calls
 
@@ -112,7 +111,11 @@ makes_calls P x y calls = record { made = calls.made; listed = ap (λ (t : Told)
 pub makes_weaker : (P Q : List DiskCall → Type 0) → ((xs : List DiskCall) → P xs → Q xs) → (x y : Told) → Makes P x y → Makes Q x y
 makes_weaker P Q weaker x y makes = record { made = makes.made; listed = makes.listed; are = weaker makes.made makes.are }
 
--- ---- for functions that only read
+-- ---- what was read of both files
 
-pub read_on : (a b c : Option Told) → Relates (Calls (All IsReading)) a b → Relates (Calls (All IsReading)) b c → Relates (Calls (All IsReading)) a c
-read_on a b c first second = calls_joined (All IsReading) (All IsReading) (All IsReading) both_read_alone a b c first second
+-- what was read of both is read of them later too
+pub both_later : (here : Left) (xs ys : List DiskCall) → ReadsBoth here ys → ReadsBoth here (xs ++ ys)
+both_later here xs ys reads = record {
+  zero = λ taken front place stands early. any_right (ReadsPlace Zero place) xs ys (reads.zero taken front place stands early);
+  one = λ taken front place stands early. any_right (ReadsPlace One place) xs ys (reads.one taken front place stands early);
+}

@@ -6,7 +6,7 @@ use Rattle.board_core.specs.declared.board.FileNo.TheVariants.{Zero, One}
 use Rattle.board_core.specs.declared.board.DiskCall.{DiskCall}
 use Rattle.board_core.specs.declared.board.DiskCall.TheVariants.{WriteAt, Sync}
 use Rattle.board_core.specs.Cause.{Kind}
-use Rattle.board_core.specs.Doing.{Act, FailsActs, after_acts, calls, calls_of, device, prints, through}
+use Rattle.board_core.specs.Doing.{Act, FailsActs, after_acts, calls, calls_of, device, prints, through, writes}
 use Rattle.board_core.specs.Told.{Told, FailsThrough, overlay, file_of, with_file, after_write_through}
 use Rattle.ras_recover.specs.DiskCalls.{with_calls}
 use Rattle.ras_recover.specs.Steps.Looking.{WritesIn}
@@ -79,6 +79,7 @@ acts_write file (through other place bytes ∷ acts) (is, are) t =
     let first = subst (λ (f : FileNo). WritesIn f (λ made. made ≡ both other place bytes) t there) is (written other place bytes t) in
     writes_then file (λ made. made ≡ both other place bytes) (λ made. IsPrefixOf made (calls_of acts)) (λ made. IsPrefixOf made (calls_of (through other place bytes ∷ acts)))
     (λ xs ys one begins. one_more other place bytes acts ys begins xs one) t there (after_acts acts there) first (acts_write file acts are there)
+acts_write file (writes other place bytes ∷ acts) are t = absurd are
 acts_write file (prints bytes ∷ acts) are t = absurd are
 acts_write file (calls call ∷ acts) are t = absurd are
 acts_write file (device call ∷ acts) are t = absurd are
@@ -99,6 +100,7 @@ fails_write kind file (through other place bytes ∷ acts) (is, are) t u (inr la
     let first = subst (λ (f : FileNo). WritesIn f (λ made. made ≡ both other place bytes) t there) is (written other place bytes t) in
     writes_then file (λ made. made ≡ both other place bytes) (λ made. IsPrefixOf made (calls_of acts)) (λ made. IsPrefixOf made (calls_of (through other place bytes ∷ acts)))
     (λ xs ys one begins. one_more other place bytes acts ys begins xs one) t there u first (fails_write kind file acts are there u later)
+fails_write kind file (writes other place bytes ∷ acts) are t u fails = absurd are
 fails_write kind file (prints bytes ∷ acts) are t u fails = absurd are
 fails_write kind file (calls call ∷ acts) are t u fails = absurd are
 fails_write kind file (device call ∷ acts) are t u fails = absurd are

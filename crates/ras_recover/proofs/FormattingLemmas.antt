@@ -1,8 +1,11 @@
 -- What a stop leaves while a file is formatted: one of its steps is torn, and those before it are
 -- done.
-use Rattle.std.proofs.Common.{◌≡◌, ◌≢◌, ◌∙◌, ℕ, ◌+◌, ◌≤◌, ◌<◌, ◌⊎◌, max, List, [], ◌∷◌, length, Option, None, Some, Ok, refl, sym, ap, subst, arith, inl, inr}
+use Rattle.std.proofs.Common.{◌≡◌, ◌≢◌, ◌∙◌, ℕ, ◌+◌, ◌≤◌, ◌<◌, ◌⊎◌, max, List, [], ◌∷◌, ◌++◌, length, take, drop, Option, None, Some, Ok, refl, sym, ap, subst, arith, inl, inr, append_assoc, length-append}
 use Rattle.std.specs.Prelude.{Bool, true, false, slice_index}
 use Rattle.std.proofs.lemmas.Bool.Decides.{nat_tests}
+use Rattle.std.proofs.lemmas.List.{drop_at, take_at}
+use Rattle.ras_base.specs.LittleEndian.{u64_bytes}
+use Rattle.ras_base.specs.Steps.LittleEndianLemmas.{length-u64_bytes}
 use Rattle.board_core.specs.declared.board.FileNo.{FileNo}
 use Rattle.board_core.specs.Steps.ClockLemmas.{file_in-with}
 use Rattle.board_core.specs.Steps.DiskLemmas.{length-overlay}
@@ -14,11 +17,34 @@ use Rattle.entry_format.specs.declared.version.Version.TheVariants.{Two}
 use Rattle.ras_journal.specs.declared.limits.TheConstants.{LONGEST_FILE, OPEN_GATE, CLOSED_GATE}
 use Rattle.ras_journal.specs.File.{has_open_gate, front_of}
 use Rattle.ras_journal.specs.Recovered.{is_shut}
-use Rattle.ras_journal.specs.Laws.{CanBegin, begun_front}
+use Rattle.ras_journal.specs.Laws.{CanBegin, begun_front, magic}
 use Rattle.ras_journal.proofs.AppendLemmas.{file_twice}
 use Rattle.ras_journal.proofs.FileLemmas.{closed_is}
 use Rattle.ras_journal.proofs.FormattingLemmas.{torn_close, torn_behind, torn_open, opened_reads}
 use Rattle.ras_recover.specs.Formatting.{after_formatting, behind_gate, closing_acts, formatting_acts}
+
+-- ---- what is written
+
+pub put_within : (generation : ℕ) (before checkpoint : List ℕ) → before ≡ ((magic Two ++ u64_bytes generation) ++ u64_bytes 0) ++ checkpoint → 24 ≤ length before
+put_within generation before checkpoint begun =
+    let named = magic Two ++ u64_bytes generation in
+    omega (arith, ap length begun, length-append (named ++ u64_bytes 0) checkpoint, length-append named (u64_bytes 0), length-append (magic Two) (u64_bytes generation), length-u64_bytes generation, length-u64_bytes 0)
+
+-- The checkpoint's length was put over eight bytes in front of the checkpoint, and then a gate appended.
+pub behind_is : (generation count : ℕ) (before put rest checkpoint : List ℕ) → before ≡ ((magic Two ++ u64_bytes generation) ++ u64_bytes 0) ++ checkpoint
+    → put ≡ take 16 before ++ (u64_bytes (length checkpoint) ++ drop 8 (drop 16 before)) → length before ≡ count → take count (put ++ rest) ++ CLOSED_GATE ∷ [] ≡ behind_gate generation checkpoint
+behind_is generation count before put rest checkpoint begun is long =
+    let named = magic Two ++ u64_bytes generation in
+    let number = u64_bytes (length checkpoint) in
+    let sixteen : length named ≡ 16 = omega (arith, length-append (magic Two) (u64_bytes generation), length-u64_bytes generation) in
+    let apart : before ≡ named ++ (u64_bytes 0 ++ checkpoint) = begun ∙ append_assoc named (u64_bytes 0) checkpoint in
+    let first : take 16 before ≡ named = ap (λ (l : List ℕ). take 16 l) apart ∙ take_at named (u64_bytes 0 ++ checkpoint) 16 sixteen in
+    let behind : drop 16 before ≡ u64_bytes 0 ++ checkpoint = ap (λ (l : List ℕ). drop 16 l) apart ∙ drop_at named (u64_bytes 0 ++ checkpoint) 16 sixteen in
+    let last : drop 8 (drop 16 before) ≡ checkpoint = ap (λ (l : List ℕ). drop 8 l) behind ∙ drop_at (u64_bytes 0) checkpoint 8 (length-u64_bytes 0) in
+    let whole : put ≡ named ++ (number ++ checkpoint) = is ∙ (ap (λ (l : List ℕ). l ++ (number ++ drop 8 (drop 16 before))) first ∙ ap (λ (l : List ℕ). named ++ (number ++ l)) last) in
+    let same : length put ≡ count =
+    omega (arith, long, ap length apart, ap length whole, length-append named (u64_bytes 0 ++ checkpoint), length-append (u64_bytes 0) checkpoint, length-append named (number ++ checkpoint), length-append number checkpoint, length-u64_bytes 0, length-u64_bytes (length checkpoint)) in
+    ap (λ (l : List ℕ). l ++ CLOSED_GATE ∷ []) (take_at put rest count same ∙ (whole ∙ append_assoc (magic Two) (u64_bytes generation) (number ++ checkpoint)))
 
 -- ---- the file alone
 

@@ -23,12 +23,13 @@ use Rattle.ras_journal.proofs.JournalLemmas.{here_of}
 use Rattle.ras_recover.specs.declared.refused.OpenRefused.{OpenRefused}
 use Rattle.ras_recover.specs.declared.refused.OpenRefused.TheVariants.{Damaged, Disk, NoMemory, TooLong}
 use Rattle.ras_recover.specs.DiskCalls.{Calls, IsReading, ReadsPlace, Makes, IsBeginning, with_calls}
-use Rattle.ras_recover.specs.Recovering.{open_failure, open_refused_end}
-use Rattle.ras_recover.specs.Steps.Looking.{AreSyncs, AreReads, WritesIn}
+use Rattle.ras_recover.specs.Recovering.{open_end, open_failure, open_refused_end}
+use Rattle.ras_recover.specs.Steps.Looking.{AreSyncs, AreReads, IfWell, WritesIn}
 use Rattle.ras_recover.specs.Opening.{HoldsNone, opening_acts}
 use Rattle.ras_recover.specs.OpeningCalls.{IsRecovery, IsRecoveryOf, IsOpening, MakesOpening, ReadsBoth, ReadsStanding, ReadsTo, AfterRecovery, AfterOpening}
-use Rattle.ras_recover.proofs.CallsLemmas.{relates_then, relates_weaker, relates_if, relates_steps, calls_then, calls_weaker, calls_seen, both_read_alone, one_reads, any_left, any_right, makes_calls, makes_weaker}
+use Rattle.ras_recover.proofs.CallsLemmas.{relates_then, relates_weaker, relates_if, relates_steps, calls_then, calls_weaker, calls_seen, both_later, both_read_alone, one_reads, any_left, any_right, makes_calls, makes_weaker}
 use Rattle.ras_recover.proofs.KeepingLemmas.{no_faults}
+use Rattle.ras_recover.proofs.LooksLemmas.{if_well}
 use Rattle.ras_recover.proofs.CountingLemmas.{AreThrough, acts_write, fails_write}
 use Rattle.ras_recover.proofs.OpeningLemmas.{acts_are, first_acts, no_acts, none_of, refused_acts}
 
@@ -37,62 +38,31 @@ use Rattle.ras_recover.proofs.OpeningLemmas.{acts_are, first_acts, no_acts, none
 abbrev syncs : List DiskCall
 syncs = Sync Zero ∷ Sync One ∷ []
 
--- ---- reads of both files
-
-more_read : (here : Left) (xs ys : List DiskCall) → ReadsBoth here ys → ReadsBoth here (xs ++ ys)
-more_read here xs ys reads = record {
-  zero = λ taken front place stands before. any_right (ReadsPlace Zero place) xs ys (reads.zero taken front place stands before);
-  one = λ taken front place stands before. any_right (ReadsPlace One place) xs ys (reads.one taken front place stands before);
-}
-
--- ---- what a recovery reads behind its syncs
-
-abbrev pub ReadsHere : {T : Type 0} → Result T OpenRefused → Told → Told → Type 0
-ReadsHere result old new = Calls (AreReads result (ReadsBoth old.here)) old new
-
--- the files were read behind their sizes
-files_read_then : {T : Type 0} (result : Result T OpenRefused) (x y z : Told) → Calls (All IsReading) x y → ReadsHere result y z → ReadsHere result x z
-files_read_then result x y z asked read =
-    let here : y.here ≡ x.here = ap (λ (t : Told). t.here) asked.is in
-    calls_then (All IsReading) (AreReads result (ReadsBoth x.here)) (AreReads result (ReadsBoth x.here))
-    (λ xs ys p q. reads_behind result x.here xs ys p q) x y z asked (subst (λ (l : Left). Calls (AreReads result (ReadsBoth l)) y z) here read)
-  where
-    reads_behind : {T : Type 0} (result : Result T OpenRefused) (here : Left) (xs ys : List DiskCall) → All IsReading xs → AreReads result (ReadsBoth here) ys → AreReads result (ReadsBoth here) (xs ++ ys)
-    reads_behind (Ok x) here xs ys p q = record { alone = both_read_alone xs ys p q.alone; done = more_read here xs ys q.done }
-    reads_behind (Err why) here xs ys p q = record { alone = both_read_alone xs ys p q.alone; done = tt }
-
-pub files_read : {T : Type 0} (result : Result T OpenRefused) (a b c : Option Told) → Relates (Calls (All IsReading)) a b → Relates (ReadsHere result) b c → Relates (ReadsHere result) a c
-files_read result a b c asked read = relates_then (Calls (All IsReading)) (ReadsHere result) (ReadsHere result) (files_read_then result) a b c asked read
-
 -- ---- a recovery
 
--- the calls of a recovery that answered this
-pub record OfRecovery {T : Type 0} (result : Result T OpenRefused) (here : Left) (calls : List DiskCall) : Type 0 where
+-- the calls of a recovery that ended so
+pub record OfRecovery (ended : Ended) (here : Left) (calls : List DiskCall) : Type 0 where
   pub recovery : IsRecovery calls
-  pub reads : OnOk result (ReadsBoth here calls)
+  pub reads : IfWell ended (ReadsBoth here calls)
 
-abbrev pub Recovers : {T : Type 0} → Result T OpenRefused → Told → Told → Type 0
-Recovers result old new = Calls (OfRecovery result old.here) old new
+abbrev pub Recovers : Ended → Told → Told → Type 0
+Recovers ended old new = Calls (OfRecovery ended old.here) old new
 
-of_recovery : {T : Type 0} (result : Result T OpenRefused) (here : Left) (xs ys : List DiskCall) → xs ≡ syncs → AreReads result (ReadsBoth here) ys → OfRecovery result here (xs ++ ys)
-of_recovery (Ok x) here xs ys both reads = record {
+of_recovery : (ended : Ended) (here : Left) (xs ys : List DiskCall) → xs ≡ syncs → AreReads ended (ReadsBoth here) ys → OfRecovery ended here (xs ++ ys)
+of_recovery ended here xs ys both reads = record {
   recovery = record { reading = ys; is = ap (λ (l : List DiskCall). l ++ ys) both; alone = reads.alone };
-  reads = more_read here xs ys reads.done;
-}
-of_recovery (Err why) here xs ys both reads = record {
-  recovery = record { reading = ys; is = ap (λ (l : List DiskCall). l ++ ys) both; alone = reads.alone };
-  reads = tt;
+  reads = if_well ended (ReadsBoth here ys) (ReadsBoth here (xs ++ ys)) (both_later here xs ys) reads.done;
 }
 
-recovers_then : {T : Type 0} (result : Result T OpenRefused) (x y z : Told) → Calls (λ l. l ≡ syncs) x y → Calls (AreReads result (ReadsBoth y.here)) y z → Recovers result x z
-recovers_then result x y z first second =
+recovers_then : (ended : Ended) (x y z : Told) → Calls (λ l. l ≡ syncs) x y → Calls (AreReads ended (ReadsBoth y.here)) y z → Recovers ended x z
+recovers_then ended x y z first second =
     let here : y.here ≡ x.here = ap (λ (t : Told). t.here) first.is in
-    calls_then (λ l. l ≡ syncs) (AreReads result (ReadsBoth x.here)) (OfRecovery result x.here) (of_recovery result x.here) x y z first
-    (subst (λ (l : Left). Calls (AreReads result (ReadsBoth l)) y z) here second)
+    calls_then (λ l. l ≡ syncs) (AreReads ended (ReadsBoth x.here)) (OfRecovery ended x.here) (of_recovery ended x.here) x y z first
+    (subst (λ (l : Left). Calls (AreReads ended (ReadsBoth l)) y z) here second)
 
-pub recovers : {S : Type 0} (E : Type 0) {T : Type 0} (done : S) (result : Result T OpenRefused) (a b c : Option Told) → Relates (Calls (AreSyncs {E = E} (Ok done))) a b → Relates (λ y. Calls (AreReads result (ReadsBoth y.here)) y) b c → Relates (Recovers result) a c
-recovers {S} E done result a b c first second =
-    relates_then (Calls (λ l. l ≡ syncs)) (λ y. Calls (AreReads result (ReadsBoth y.here)) y) (Recovers result) (recovers_then result) a b c
+pub recovers : {S : Type 0} (E : Type 0) (done : S) (ended : Ended) (a b c : Option Told) → Relates (Calls (AreSyncs {E = E} (Ok done))) a b → Relates (λ y. Calls (AreReads ended (ReadsBoth y.here)) y) b c → Relates (Recovers ended) a c
+recovers {S} E done ended a b c first second =
+    relates_then (Calls (λ l. l ≡ syncs)) (λ y. Calls (AreReads ended (ReadsBoth y.here)) y) (Recovers ended) (recovers_then ended) a b c
     (calls_seen (AreSyncs {E = E} (Ok done)) (λ l. l ≡ syncs) (λ xs are. are.done) a b first) second
 
 -- ---- what is told after it
@@ -118,15 +88,15 @@ pub told_unsynced : {T E : Type 0} (result : Result T E) (a b : Option Told) →
 told_unsynced result a b calls =
     relates_weaker (Calls (IsBeginning IsRecovery)) AfterRecovery recovery_told a b (calls_seen (AreSyncs result) (IsBeginning IsRecovery) (syncs_begin result) a b calls)
 
-pub told_recovered : {T : Type 0} (result : Result T OpenRefused) (a b : Option Told) → Relates (Recovers result) a b → Relates AfterRecovery a b
-told_recovered result a b calls =
-    relates_weaker (Recovers result) AfterRecovery
-    (λ x y c. recovery_told x y (calls_weaker (OfRecovery result x.here) (IsBeginning IsRecovery) (λ l of. all_begun IsRecovery l of.recovery) x y c)) a b calls
+pub told_recovered : (ended : Ended) (a b : Option Told) → Relates (Recovers ended) a b → Relates AfterRecovery a b
+told_recovered ended a b calls =
+    relates_weaker (Recovers ended) AfterRecovery
+    (λ x y c. recovery_told x y (calls_weaker (OfRecovery ended x.here) (IsBeginning IsRecovery) (λ l of. all_begun IsRecovery l of.recovery) x y c)) a b calls
 
-pub reads_recovered : {T : Type 0} (result : Result T OpenRefused) (a b : Option Told) → Relates (Recovers result) a b → OnOk result (Relates (λ old. Calls (IsRecoveryOf old.here) old) a b)
+pub reads_recovered : {T : Type 0} (result : Result T OpenRefused) (a b : Option Told) → Relates (Recovers (open_end result)) a b → OnOk result (Relates (λ old. Calls (IsRecoveryOf old.here) old) a b)
 reads_recovered (Ok x) a b calls =
-    relates_weaker (Recovers (Ok x)) (λ old. Calls (IsRecoveryOf old.here) old)
-    (λ t u c. calls_weaker (OfRecovery (Ok x) t.here) (IsRecoveryOf t.here) (λ l of. record { recovery = of.recovery; reads = of.reads }) t u c) a b calls
+    relates_weaker (Recovers went_well) (λ old. Calls (IsRecoveryOf old.here) old)
+    (λ t u c. calls_weaker (OfRecovery went_well t.here) (IsRecoveryOf t.here) (λ l of. record { recovery = of.recovery; reads = of.reads }) t u c) a b calls
 reads_recovered (Err why) a b calls = tt
 
 -- ---- whole recoveries and openings of any files
@@ -156,7 +126,7 @@ recovery_on here calls is = record {
     is = ap (λ (l : List DiskCall). l ++ reads_all here) is.is;
     alone = both_read_alone is.reading (reads_all here) is.alone (reads_all_alone here);
   };
-  reads = more_read here calls (reads_all here) (reads_all_both here);
+  reads = both_later here calls (reads_all here) (reads_all_both here);
 }
 
 opening_of : (here : Left) (calls : List DiskCall) → IsRecoveryOf here calls → IsOpening here (calls ++ calls_of (opening_acts here))

@@ -255,6 +255,10 @@ on_refusal (opening.Damaged file place) P holds = holds
 on_refusal opening.NoMemory P holds = tt
 
 -- where no file stands none is refused
+pub refuses_any : (why : OpenRefused) (told : Option Told) → ((held : Result State Refusal) → RefusesHeld why held) → IfSome told (λ t. RefusesHeld why (recovered t.here.file0 t.here.file1))
+refuses_any why None refuses = tt
+refuses_any why (Some t) refuses = refuses (recovered t.here.file0 t.here.file1)
+
 pub not_refused : (why : OpenRefused) (P : Type 0) → ((held : Result State Refusal) → RefusesHeld why held) → OnRefusal why P
 not_refused opening.Disk P refuses = tt
 not_refused opening.TooLong P refuses = let is : ◌≡◌ {A = Result State Refusal} (Ok (account_of empty)) (Err too_long) = refuses (Ok (account_of empty)) in absurd cc

@@ -1,5 +1,5 @@
 -- The fields of a file that is read whole.
-use Rattle.std.proofs.Common.{◌≡◌, ◌∙◌, ℕ, ◌+◌, ◌-◌, ◌≤◌, ◌<◌, List, [], ◌∷◌, length, take, drop, Option, None, Some, Ok, Err, refl, sym, ap, subst, arith}
+use Rattle.std.proofs.Common.{◌≡◌, ◌∙◌, ℕ, ◌+◌, ◌-◌, ◌≤◌, ◌<◌, List, [], ◌∷◌, length, take, drop, Option, None, Some, Result, Ok, Err, refl, sym, ap, subst, arith}
 use Rattle.std.specs.Prelude.{Bool, true, false, suc, if◌then◌else◌}
 use Rattle.std.specs.List.{AllByRecursion}
 use Rattle.std.specs.Option.{option_and_then}
@@ -20,10 +20,22 @@ use Rattle.journal_format.specs.Links.{IsPayload, ends_early, payload_in}
 use Rattle.journal_format.specs.PayloadReading.{payload_of}
 use Rattle.journal_format.proofs.PayloadLemmas.{payload_is_read, payload_found}
 use Rattle.journal_format.proofs.CheckpointLemmas.{checkpoint_at, checkpoint_is}
-use Rattle.ras_journal.specs.Fields.{part, some_or, field, number_of, entries_by, stays_within}
+use Rattle.ras_journal.specs.Fields.{part, some_or, field, number_of, version_of, generation_of, is_open_of, entries_by, stays_within}
 use Rattle.ras_journal.specs.File.{FileFront, has_open_gate, with_link, front_behind_link, first_front, next_front, whole_front, front_of}
 use Rattle.ras_journal.proofs.FrontLemmas.{front_begun}
 use Rattle.ras_journal.proofs.PartLemmas.{part_within, field_within, field_made, bind_of, bind_err}
+use Rattle.ras_recover.specs.declared.place.ReadRefused.{ReadRefused}
+use Rattle.ras_recover.specs.declared.place.ReadRefused.TheVariants.{Disk, Damaged, NoMemory}
+use Rattle.ras_recover.specs.Steps.Reading.{IsDamage, IsUnread}
+
+-- no field was read that is damaged
+pub no_damage : {A : Type 0} (why : ReadRefused) (read : Result A ℕ) (x : A) → IsDamage why read → read ≡ Ok x → ⊥
+no_damage Disk read x is same = is
+no_damage (Damaged at) read x is same = not_both x at (sym same ∙ is)
+  where
+    not_both : {A : Type 0} (x : A) (at : ℕ) → ◌≡◌ {A = Result A ℕ} (Ok x) (Err at) → ⊥
+    not_both x at e = cc
+no_damage NoMemory read x is same = is
 
 pub field_none : {A : Type 0} (make : List ℕ → Option A) (place count : ℕ) (file : List ℕ) → part place count file ≡ None → field make place count file ≡ Err place
 unfolding field
@@ -170,6 +182,11 @@ unread_field version account place count file at e = by (part place count file) 
 pub link_unread : (front : FileFront) (file : List ℕ) (count at : ℕ) → field (number_of 4) (front.gate + 1) 4 file ≡ Ok count → field (payload_of front.version) (front.gate + 5) count file ≡ Err at → front_behind_link front file ≡ Err at
 link_unread front file count at size e = bind_of _ _ _ size ∙ bind_err _ _ at (unread_field front.version front.account (front.gate + 5) count file at e)
 
+pub link_refused : (why : ReadRefused) (front : FileFront) (file : List ℕ) (count : ℕ) → field (number_of 4) (front.gate + 1) 4 file ≡ Ok count → IsUnread why (field (payload_of front.version) (front.gate + 5) count file) → IsUnread why (front_behind_link front file)
+link_refused Disk front file count size is = absurd is
+link_refused (Damaged at) front file count size is = link_unread front file count at size is
+link_refused NoMemory front file count size is = tt
+
 pub link_counted : (front : FileFront) (file : List ℕ) (count : ℕ) (entries : List Entry) → field (number_of 4) (front.gate + 1) 4 file ≡ Ok count → field (payload_of front.version) (front.gate + 5) count file ≡ Ok entries
     → stays_within front.account entries ≡ true → front_behind_link front file ≡ Ok (with_link front count entries)
 link_counted front file count entries size e stays = bind_of _ _ _ size ∙ bind_of _ _ _ (counted_field front.version front.account (front.gate + 5) count file entries true e stays)
@@ -177,6 +194,51 @@ link_counted front file count entries size e stays = bind_of _ _ _ size ∙ bind
 pub link_past : (front : FileFront) (file : List ℕ) (count : ℕ) (entries : List Entry) → field (number_of 4) (front.gate + 1) 4 file ≡ Ok count → field (payload_of front.version) (front.gate + 5) count file ≡ Ok entries
     → stays_within front.account entries ≡ false → front_behind_link front file ≡ Err (front.gate + 5)
 link_past front file count entries size e stays = bind_of _ _ _ size ∙ bind_err _ _ (front.gate + 5) (counted_field front.version front.account (front.gate + 5) count file entries false e stays)
+
+-- ---- a refusal is passed on
+
+pub count_refused : (why : ReadRefused) (front : FileFront) (file : List ℕ) → IsDamage why (field (number_of 4) (front.gate + 1) 4 file) → IsUnread why (front_behind_link front file)
+count_refused Disk front file is = absurd is
+count_refused (Damaged at) front file is = bind_err _ _ at is
+count_refused NoMemory front file is = absurd is
+
+pub gate_refused : (why : ReadRefused) (front : FileFront) (file : List ℕ) → IsDamage why (field is_open_of front.gate 1 file) → IsUnread why (next_front front file)
+unfolding next_front
+gate_refused Disk front file is = absurd is
+gate_refused (Damaged at) front file is = bind_err _ _ at is
+gate_refused NoMemory front file is = absurd is
+
+pub next_refused : (why : ReadRefused) (front : FileFront) (file : List ℕ) → field is_open_of front.gate 1 file ≡ Ok true → IsUnread why (front_behind_link front file) → IsUnread why (next_front front file)
+unfolding next_front
+next_refused Disk front file opened is = absurd is
+next_refused (Damaged at) front file opened is = bind_of _ _ _ opened ∙ bind_err _ _ at is
+next_refused NoMemory front file opened is = tt
+
+pub version_refused : (why : ReadRefused) (taken : Option ℕ) (file : List ℕ) → IsDamage why (field version_of 1 8 file) → IsUnread why (first_front taken file)
+unfolding first_front
+version_refused Disk taken file is = absurd is
+version_refused (Damaged at) taken file is = bind_err _ _ at is
+version_refused NoMemory taken file is = absurd is
+
+pub generation_refused : (why : ReadRefused) (taken : Option ℕ) (file : List ℕ) (version : Version) → field version_of 1 8 file ≡ Ok version → IsDamage why (field (generation_of taken) 9 8 file) → IsUnread why (first_front taken file)
+unfolding first_front
+generation_refused Disk taken file version named is = absurd is
+generation_refused (Damaged at) taken file version named is = bind_of _ _ _ named ∙ bind_err _ _ at is
+generation_refused NoMemory taken file version named is = absurd is
+
+pub size_refused : (why : ReadRefused) (taken : Option ℕ) (file : List ℕ) (version : Version) (generation : ℕ) → field version_of 1 8 file ≡ Ok version → field (generation_of taken) 9 8 file ≡ Ok generation → IsDamage why (field (number_of 8) 17 8 file)
+    → IsUnread why (first_front taken file)
+unfolding first_front
+size_refused Disk taken file version generation named numbered is = absurd is
+size_refused (Damaged at) taken file version generation named numbered is = bind_of _ _ _ named ∙ (bind_of _ _ _ numbered ∙ bind_err _ _ at is)
+size_refused NoMemory taken file version generation named numbered is = absurd is
+
+pub account_refused : (why : ReadRefused) (taken : Option ℕ) (file : List ℕ) (version : Version) (generation count : ℕ) → field version_of 1 8 file ≡ Ok version → field (generation_of taken) 9 8 file ≡ Ok generation → field (number_of 8) 17 8 file ≡ Ok count
+    → IsUnread why (field (checkpoint_of version) 25 count file) → IsUnread why (first_front taken file)
+unfolding first_front
+account_refused Disk taken file version generation count named numbered sized is = absurd is
+account_refused (Damaged at) taken file version generation count named numbered sized is = bind_of _ _ _ named ∙ (bind_of _ _ _ numbered ∙ (bind_of _ _ _ sized ∙ bind_err _ _ at is))
+account_refused NoMemory taken file version generation count named numbered sized is = tt
 
 -- ---- the walk along the chain
 

@@ -5,9 +5,7 @@ use Rattle.std.specs.Option.{option_map}
 use Rattle.std.proofs.lemmas.Bool.Decides.{nat_tests}
 use Rattle.ras_base.specs.LittleEndian.{number_at}
 use Rattle.board_core.specs.declared.board.FileNo.{FileNo}
-use Rattle.board_core.specs.declared.board.DiskCall.{DiskCall}
-use Rattle.board_core.specs.Cause.{Faults, disk_call, FailsAs}
-use Rattle.board_core.specs.Clock.{Clock}
+use Rattle.board_core.specs.Doing.{Seen, went_well}
 use Rattle.board_core.specs.Stop.{Left, file_in}
 use Rattle.board_core.specs.Told.{Told, file_of}
 use Rattle.entry_format.specs.declared.version.Version.{Version}
@@ -23,10 +21,11 @@ use Rattle.ras_recover.specs.declared.place.ReadRefused.{ReadRefused}
 use Rattle.ras_recover.specs.declared.place.ReadRefused.TheVariants.{Disk, Damaged, NoMemory}
 use Rattle.ras_recover.specs.declared.window.SizedFile.{SizedFile}
 use Rattle.ras_recover.specs.declared.window.Window.{Window}
-use Rattle.ras_recover.specs.Steps.Looking.{AreReads, ReadsPart}
+use Rattle.ras_recover.specs.Steps.Looking.{AreReads, Looks, ReadsPart}
 use Rattle.ras_recover.specs.DiskCalls.{Calls}
 use Rattle.ras_recover.specs.OpeningCalls.{ReadsStanding}
-use Rattle.ras_recover.specs.Steps.Windows.{end_of, Spans, IsWindowOf, Sees, IsAnswer, IsBroken, FrontHeld, LooksAt, Looks, read_failure}
+use Rattle.ras_recover.specs.Steps.Reading.{IsUnread}
+use Rattle.ras_recover.specs.Steps.Windows.{end_of, Spans, IsWindowOf, Sees, IsAnswer, IsBroken, FrontHeld}
 use Rattle.ras_recover.proofs.CallsLemmas.{relates_if, relates_weaker, calls_weaker}
 use Rattle.ras_recover.proofs.HoldingLemmas.{rest_is}
 use Rattle.ras_recover.proofs.KeepingLemmas.{before}
@@ -122,6 +121,13 @@ begun_some taken file window rest (Some t) read spans sees held is stands reads 
     let f = held_front file window rest t spans sees held is in
     let there = sym (gate_there file window rest (file_of file.no t) f) ∙ stands in
     (there, sym (first_there taken file window rest t f held there) ∙ reads)
+
+pub begun_refused : (why : ReadRefused) (taken : Option ℕ) (file : SizedFile) (window : Window) (rest : List ℕ) (told : Option Told) → Spans file 0 window → Sees file told window → IfSome told (λ t. FrontHeld (end_of window) (file_of file.no t))
+    → rest ≡ drop (0 - window.start) window.bytes.items → has_open_gate rest ≡ true → IsUnread why (first_front taken rest) → IfSome told (λ t. IsBroken taken (file_of file.no t) why)
+begun_refused Disk taken file window rest told spans sees held is stands reads = absurd reads
+begun_refused NoMemory taken file window rest None spans sees held is stands reads = tt
+begun_refused NoMemory taken file window rest (Some t) spans sees held is stands reads = tt
+begun_refused (Damaged at) taken file window rest told spans sees held is stands reads = begun_some taken file window rest told (Err at) spans sees held is stands reads
 
 pub begun_none : (file : SizedFile) (window : Window) (rest : List ℕ) (told : Option Told) → Spans file 0 window → Sees file told window → IfSome told (λ t. FrontHeld (end_of window) (file_of file.no t))
     → rest ≡ drop (0 - window.start) window.bytes.items → has_open_gate rest ≡ false → IfSome told (λ t. has_open_gate (file_of file.no t) ≡ false)
@@ -221,27 +227,12 @@ no_gate file end (Some t) is = λ other front stands. absurd (none front (sym (a
     none : (front : FileFront) → ◌≡◌ {A = Result (Option FileFront) ℕ} (Ok None) (Ok (Some front)) → ⊥
     none front e = cc
 
-pub all_read : {T U : Type 0} (x : T) (y : U) (file : FileNo) (from end : ℕ) (ta : Option Told) (a : Clock) (fa : Faults) (tb : Option Told) (b : Clock) (fb : Faults) → from ≡ 0 → IfSome ta (GateBefore file end) → Looks read_failure (Ok x) (ReadsPart file from end) ta a fa tb b fb
-    → LooksAt read_failure (Ok y) (λ t. ReadsStanding file (file_of file t)) ta a fa tb b fb
-all_read x y file from end ta a fa tb b fb begins gate looks = record {
+pub all_read : (file : FileNo) (from end : ℕ) (a b : Seen) → from ≡ 0 → IfSome a.told (GateBefore file end) → Looks went_well (λ t. ReadsPart file from end) a b → Looks went_well (λ t. ReadsStanding file (file_of file t)) a b
+all_read file from end a b begins gate looks = record {
   keeps = looks.keeps;
-  calls = relates_weaker (λ t u. GateBefore file end t × Calls (AreReads {E = ReadRefused} (Ok x) (ReadsPart file from end)) t u) (λ t. Calls (AreReads {E = ReadRefused} (Ok y) (ReadsStanding file (file_of file t))) t)
-      (λ t u both. calls_weaker (AreReads {E = ReadRefused} (Ok x) (ReadsPart file from end)) (AreReads {E = ReadRefused} (Ok y) (ReadsStanding file (file_of file t)))
-      (λ xs are. record { alone = are.alone; done = λ taken front place stands early. (let near : front.gate < end = both.0 taken front stands in are.done place (omega arith) (omega arith)) }) t u both.1) ta tb
-      (relates_if (GateBefore file end) (Calls (AreReads {E = ReadRefused} (Ok x) (ReadsPart file from end))) ta tb gate looks.calls);
-  cause = looks.cause;
+  calls = relates_weaker (λ t u. GateBefore file end t × Calls (AreReads went_well (ReadsPart file from end)) t u) (λ t. Calls (AreReads went_well (ReadsStanding file (file_of file t))) t)
+      (λ t u both. calls_weaker (AreReads went_well (ReadsPart file from end)) (AreReads went_well (ReadsStanding file (file_of file t)))
+      (λ xs are. record { alone = are.alone; done = λ taken front place stands early. (let near : front.gate < end = both.0 taken front stands in are.done place (omega arith) (omega arith)) }) t u both.1) a.told b.told
+      (relates_if (GateBefore file end) (Calls (AreReads went_well (ReadsPart file from end))) a.told b.told gate looks.calls);
+  faults = looks.faults;
 }
-
-pub unread_at : (T U : Type 0) (why : ReadRefused) (P : List DiskCall → Type 0) (file : FileNo) (ta : Option Told) (a : Clock) (fa : Faults) (tb : Option Told) (b : Clock) (fb : Faults) → Looks {T = U} read_failure (Err why) P ta a fa tb b fb
-    → LooksAt {T = T} read_failure (Err why) (λ t. ReadsStanding file (file_of file t)) ta a fa tb b fb
-unread_at T U why P file ta a fa tb b fb looks = record {
-  keeps = looks.keeps;
-  calls = relates_weaker (Calls (AreReads {T = U} (Err why) P)) (λ t. Calls (AreReads {T = T} (Err why) (ReadsStanding file (file_of file t))) t)
-      (λ t u calls. calls_weaker (AreReads {T = U} (Err why) P) (AreReads {T = T} (Err why) (ReadsStanding file (file_of file t))) (λ xs are. record { alone = are.alone; done = tt }) t u calls) ta tb looks.calls;
-  cause = same_cause why looks.cause;
-}
-  where
-    same_cause : (why : ReadRefused) → FailsAs disk_call fa fb (read_failure {T = U} (Err why)) → FailsAs disk_call fa fb (read_failure {T = T} (Err why))
-    same_cause Disk cause = cause
-    same_cause (Damaged place) cause = cause
-    same_cause NoMemory cause = cause

@@ -1,12 +1,12 @@
 -- What a stop leaves while the journal is switched, and where the journal stands once it is.
-use Rattle.std.proofs.Common.{◌≡◌, ◌∙◌, ℕ, ◌+◌, ◌≤◌, ◌<◌, ◌⊎◌, List, [], ◌∷◌, ◌++◌, length, Option, None, Some, Ok, refl, sym, ap, subst, arith, inl, inr, length-append}
+use Rattle.std.proofs.Common.{◌≡◌, ◌∙◌, ℕ, ◌+◌, ◌≤◌, ◌<◌, ◌⊎◌, List, [], ◌∷◌, ◌++◌, length, Option, None, Some, Ok, Err, refl, sym, ap, subst, arith, inl, inr, length-append}
 use Rattle.std.specs.Prelude.{Bool, true, false, nat_lt, if◌then◌else◌}
 use Rattle.std.proofs.lemmas.Bool.Decides.{nat_tests}
 use Rattle.ras_base.specs.LittleEndian.{u64_bytes}
 use Rattle.ras_base.specs.Steps.LittleEndianLemmas.{length-u64_bytes}
 use Rattle.board_core.specs.declared.board.FileNo.{FileNo}
 use Rattle.board_core.specs.declared.board.FileNo.TheVariants.{Zero, One}
-use Rattle.board_core.specs.Doing.{Moment}
+use Rattle.board_core.specs.Doing.{Moment, gave_up}
 use Rattle.board_core.specs.Steps.ClockLemmas.{file_in-with}
 use Rattle.board_core.specs.Stop.{Left, InFile, file_in, with_file_in}
 use Rattle.board_core.specs.Told.{Told}
@@ -19,11 +19,13 @@ use Rattle.ras_journal.specs.Fields.{is_taken}
 use Rattle.ras_journal.specs.File.{FileFront, has_open_gate, front_of, account_by}
 use Rattle.ras_journal.specs.Recovered.{JournalFile, greater, generation_in, journal_of, other, other_of, is_shut, Recovers, IsAt}
 use Rattle.ras_journal.specs.Laws.{CanBegin, begun_front}
+use Rattle.ras_journal.specs.View.{JournalView}
 use Rattle.ras_journal.proofs.FrontLemmas.{front_parts}
 use Rattle.ras_journal.proofs.JournalLemmas.{both_whole, both_parts, here_of, recovers_of, at_of}
 use Rattle.ras_journal.proofs.SwitchLemmas.{taken_for_other, greater_with, other_changed}
-use Rattle.ras_recover.specs.Formatting.{behind_gate}
-use Rattle.ras_recover.specs.Switching.{CanSwitch, Switching, after_switch, next_bytes, switch_acts, switched}
+use Rattle.ras_recover.specs.declared.refused.SwitchRefused.{SwitchRefused}
+use Rattle.ras_recover.specs.declared.refused.SwitchRefused.TheVariants.{Full, Disk, NoMemory}
+use Rattle.ras_recover.specs.Switching.{CanSwitch, IsFullBy, MovesOver, Switching, after_switch, next_bytes, switch_acts, switch_refused_end, switched}
 use Rattle.ras_recover.proofs.FormattingLemmas.{Formatting, formatted, formatted_reads, formatted_short, formatted_told, formatting_reads, formatting_short, moment_formats}
 
 -- ---- the other file is read as before
@@ -252,15 +254,18 @@ as_switch P standing account file shut bytes is has =
     subst (λ (f : FileNo). P f standing.shut (next_bytes standing account)) is.file_is
     (subst (λ (s : Bool). P file s (next_bytes standing account)) is.shut_is (subst (λ (b : List ℕ). P file shut b) is.bytes_are has))
 
-pub is_switch : (standing next : Standing) (account : State) (shut : Bool) (bytes : List ℕ) → next ≡ switched standing account → shut ≡ standing.shut → bytes ≡ behind_gate next.generation (checkpoint_bytes Two account)
-    → IsSwitch standing account next.file shut bytes
-is_switch standing next account shut bytes is shut_is bytes_are = record {
-  file_is = ap (λ (s : Standing). s.file) is;
-  shut_is = shut_is;
-  bytes_are = bytes_are ∙ ap (λ (s : Standing). behind_gate s.generation (checkpoint_bytes Two account)) is;
-}
-
 pub can_switch : (standing next : Standing) (account : State) → next ≡ switched standing account → standing.generation < LAST_GENERATION → next.length + 2 ≤ LONGEST_FILE → IsCheckpoint Two account (checkpoint_bytes Two account) → CanSwitch standing account
 can_switch standing next account is generation fits checkpoint =
     let long : next.length ≡ 25 + length (checkpoint_bytes Two account) = ap (λ (s : Standing). s.length) is in
     record { generation = generation; room = omega arith; is = checkpoint }
+
+-- The other file wasn't written for want of room or of memory.
+pub full_as : (S T : Type 0) (why : SwitchRefused) (lacks : Bool) → IsFullBy {T = S} (Err why) lacks → IsFullBy {T = T} (Err why) lacks
+full_as S T Full lacks full = full
+full_as S T Disk lacks full = full
+full_as S T NoMemory lacks full = full
+
+pub unmoved : (why : SwitchRefused) (next : Standing) (journal : JournalView) → switch_refused_end why ≡ gave_up → MovesOver (Err why) next journal journal
+unmoved Full next journal early = refl
+unmoved Disk next journal early = absurd cc
+unmoved NoMemory next journal early = refl

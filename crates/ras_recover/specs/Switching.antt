@@ -48,7 +48,7 @@ has_no_room standing account link =
     || nat_lt LONGEST_FILE (length_with (switched standing account) link)
 
 -- Full comes if and only if there is no room.
-abbrev pub IsFullBy : Result (Unit {0}) SwitchRefused → Bool → Type 0
+abbrev pub IsFullBy : {T : Type 0} → Result T SwitchRefused → Bool → Type 0
 IsFullBy (Err Full) lacks = IsTrue lacks
 IsFullBy result lacks = ¬ IsTrue lacks
 

@@ -4,156 +4,107 @@
 //! older file is read first and its account is continued in the newer one, without making a second
 //! account. Which file is older is only guessed from their fronts; the result depends only on what
 //! was read of both.
-ghost use Rattle.std.specs.Prelude.{◌≡◌, ◌≤◌, length, None, Some, Ok, IfSome, IfOk, IfErr};
+ghost use Rattle.std.specs.Prelude.{◌≡◌, ◌≤◌, length, IfSome, IfOk};
 ghost use Rattle.board_core.specs.Told.{file_of};
 ghost use Rattle.ras_journal.specs.declared.limits.TheConstants.{LONGEST_FILE};
-ghost use Rattle.ras_journal.specs.File.{front_of};
-ghost use Rattle.ras_journal.specs.Recovered.{other};
-ghost use Rattle.ras_recover.specs.OpeningCalls.{ReadsStanding, ReadsBoth};
-ghost use Rattle.ras_recover.specs.Recovering.{open_failure};
-ghost use Rattle.ras_recover.specs.Steps.Reading.{front_at};
-ghost use Rattle.ras_recover.specs.Steps.Windows.{LooksAt};
-ghost use Rattle.ras_recover.specs.Steps.Pair.{AreRead, IfFound, TellsNothing};
+ghost use Rattle.ras_recover.specs.OpeningCalls.{ReadsBoth};
+ghost use Rattle.ras_recover.specs.Steps.Looking.{Looks};
+ghost use Rattle.ras_recover.specs.Steps.Pair.{AreBoth, AreRead, IfFound};
+ghost use Rattle.ras_recover.specs.Steps.Windows.{read_end};
 
-use crate::OpenRefused;
 use crate::fields::generation_at;
 use crate::file::has_open_gate;
 use crate::pair::BothRead;
-use crate::place::{Place, ReadRefused};
-use crate::walking::read_file;
+use crate::place::ReadRefused;
+use crate::walking::{FileRead, read_file};
 use crate::window::{SizedFile, Window};
 use board_core::{Board, FileNo};
 use journal_format::CHECKPOINT_PLACE;
-use ras_account::Account;
 use std::alloc::Global;
 
-// Returns the generation at the front of a file, if the file is valid.
+// Returns the generation at the front of a file, if the file is valid and has one there.
 fn generation_told<B: Board>(
     alloc: Global,
     file: SizedFile,
     board: &mut B,
-) -> Result<Option<u64>, OpenRefused>
+) -> Result<Option<u64>, ReadRefused>
     requires short { file.size ≤ LONGEST_FILE }
-    requires size { IfSome (B.told board.old) (λ t. file.size ≡ length (file_of file.no t)) }
-    ensures refused { IfErr result TellsNothing }
-    ensures looks { LooksAt open_failure result (λ t calls. Unit {0})
-        (B.told board.old) (B.clock board.old) (B.faults board.old)
-        (B.told board.new) (B.clock board.new) (B.faults board.new) }
+    requires size { IfSome (B.seen board.old).told (λ t. file.size ≡ length (file_of file.no t)) }
+    ensures looks { Looks (read_end result) (λ t calls. Unit {0})
+        (B.seen board.old) (B.seen board.new) }
 {
     let mut window = Window::new(alloc);
-    match window.hold(file, 0, CHECKPOINT_PLACE, board) {
-        Ok(()) => {}
-        Err(ReadRefused::Disk) => return Err(OpenRefused::Disk),
-        Err(ReadRefused::Damaged(_)) => return Ok(None),
-        Err(ReadRefused::NoMemory) => return Err(OpenRefused::NoMemory),
-    }
+    window.hold(file, 0, CHECKPOINT_PLACE, board)?;
     let front = window.rest(0);
     if !has_open_gate(front) {
         return Ok(None);
     }
-    match generation_at(None, front) {
-        Ok(generation) => Ok(Some(generation)),
-        Err(_) => Ok(None),
+    Ok(generation_at(None, front).ok())
+}
+
+// Returns the older file and the newer one, if both have a generation and these differ.
+fn ordered(
+    zero: (SizedFile, Option<u64>),
+    one: (SizedFile, Option<u64>),
+) -> Option<(SizedFile, SizedFile)>
+    ensures { IfSome result (λ r. AreBoth zero.0 one.0 r.0 r.1) }
+{
+    let (Some(first), Some(second)) = (zero.1, one.1) else {
+        return None;
+    };
+    if second < first {
+        Some((one.0, zero.0))
+    } else if first < second {
+        Some((zero.0, one.0))
+    } else {
+        None
     }
 }
 
-// Returns the file of the greater generation, if both files have a generation and these differ.
-fn newer_of(zero: Option<u64>, one: Option<u64>) -> Option<FileNo> {
-    match (zero, one) {
-        (Some(zero), Some(one)) => {
-            if one < zero {
-                Some(FileNo::Zero)
-            } else if zero < one {
-                Some(FileNo::One)
-            } else {
-                None
-            }
-        }
-        _ => None,
-    }
-}
-
-// Returns the newer file by the fronts of both, if both files are valid.
-fn newer_told<B: Board>(
+// Returns the older file and the newer one by the fronts of both, if both files are valid.
+fn by_age<B: Board>(
     alloc: Global,
     zero: SizedFile,
     one: SizedFile,
     board: &mut B,
-) -> Result<Option<FileNo>, OpenRefused>
+) -> Result<Option<(SizedFile, SizedFile)>, ReadRefused>
     requires short { (zero.size ≤ LONGEST_FILE) × (one.size ≤ LONGEST_FILE) }
-    requires sizes { IfSome (B.told board.old)
+    requires sizes { IfSome (B.seen board.old).told
         (λ t. (zero.size ≡ length (file_of zero.no t)) × (one.size ≡ length (file_of one.no t))) }
-    ensures refused { IfErr result TellsNothing }
-    ensures looks { LooksAt open_failure result (λ t calls. Unit {0})
-        (B.told board.old) (B.clock board.old) (B.faults board.old)
-        (B.told board.new) (B.clock board.new) (B.faults board.new) }
+    ensures files { IfOk result (λ r. IfSome r (λ files. AreBoth zero one files.0 files.1)) }
+    ensures looks { Looks (read_end result) (λ t calls. Unit {0})
+        (B.seen board.old) (B.seen board.new) }
 {
-    let zero = match generation_told(alloc, zero, board) {
-        Ok(zero) => zero,
-        Err(refused) => return Err(refused),
-    };
-    match generation_told(alloc, one, board) {
-        Ok(one) => Ok(newer_of(zero, one)),
-        Err(refused) => Err(refused),
-    }
+    let first = generation_told(alloc, zero, board)?;
+    let second = generation_told(alloc, one, board)?;
+    Ok(ordered((zero, first), (one, second)))
 }
 
-// Returns what is read of a file, if it is valid and undamaged, whatever generation the other file
-// has.
-fn read_sound<B: Board>(
+// Returns what is read of both files, the older one first. Returns `None` or `Damaged` if they have
+// to be read one by one, because one of them isn't valid or is damaged.
+pub(crate) fn read_by_age<B: Board>(
     alloc: Global,
-    before: Option<Account>,
-    file: SizedFile,
+    zero: SizedFile,
+    one: SizedFile,
     board: &mut B,
-) -> Result<Option<(Place, Account)>, OpenRefused>
-    requires short { file.size ≤ LONGEST_FILE }
-    requires size { IfSome (B.told board.old) (λ t. file.size ≡ length (file_of file.no t)) }
-    ensures read { IfOk result (λ found. IfSome found (λ p. IfSome (B.told board.old)
-        (λ t. front_of None (file_of file.no t) ≡ Ok (Some (front_at p.0 p.1.state))))) }
-    ensures refused { IfErr result TellsNothing }
-    ensures looks { LooksAt open_failure result
-        (λ t calls. IfFound result (ReadsStanding file.no (file_of file.no t) calls))
-        (B.told board.old) (B.clock board.old) (B.faults board.old)
-        (B.told board.new) (B.clock board.new) (B.faults board.new) }
-{
-    match read_file(alloc, None, before, file, board) {
-        Ok(read) => Ok(read.front),
-        Err(ReadRefused::Disk) => Err(OpenRefused::Disk),
-        Err(ReadRefused::Damaged(_)) => Ok(None),
-        Err(ReadRefused::NoMemory) => Err(OpenRefused::NoMemory),
-    }
-}
-
-// Returns what is read of both files, if both are valid and undamaged and `file` is the newer one.
-fn read_in_turn<B: Board>(
-    alloc: Global,
-    older: SizedFile,
-    newer: SizedFile,
-    board: &mut B,
-) -> Result<Option<BothRead>, OpenRefused>
-    requires others { older.no ≡ other newer.no }
-    requires short { (older.size ≤ LONGEST_FILE) × (newer.size ≤ LONGEST_FILE) }
-    requires sizes { IfSome (B.told board.old)
-        (λ t. (older.size ≡ length (file_of older.no t)) × (newer.size ≡ length (file_of newer.no t))) }
-    ensures read { IfOk result (λ found. IfSome found (λ both. IfSome (B.told board.old)
+) -> Result<Option<BothRead>, ReadRefused>
+    requires numbers { (zero.no ≡ FileNo.Zero) × (one.no ≡ FileNo.One) }
+    requires short { (zero.size ≤ LONGEST_FILE) × (one.size ≤ LONGEST_FILE) }
+    requires sizes { IfSome (B.seen board.old).told
+        (λ t. (zero.size ≡ length (file_of zero.no t)) × (one.size ≡ length (file_of one.no t))) }
+    ensures read { IfOk result (λ found. IfSome found (λ both. IfSome (B.seen board.old).told
         (λ t. AreRead both t.here.file0 t.here.file1))) }
-    ensures refused { IfErr result TellsNothing }
-    ensures looks { LooksAt open_failure result
-        (λ t calls. IfFound result (ReadsBoth t.here calls))
-        (B.told board.old) (B.clock board.old) (B.faults board.old)
-        (B.told board.new) (B.clock board.new) (B.faults board.new) }
+    ensures looks { Looks (read_end result) (λ t calls. IfFound result (ReadsBoth t.here calls))
+        (B.seen board.old) (B.seen board.new) }
 {
-    let first = match read_sound(alloc, None, older, board) {
-        Ok(first) => first,
-        Err(refused) => return Err(refused),
+    let Some((older, newer)) = by_age(alloc, zero, one, board)? else {
+        return Ok(None);
     };
+    let FileRead { front: first, .. } = read_file(alloc, None, None, older, board)?;
     let Some((last, account)) = first else {
         return Ok(None);
     };
-    let second = match read_sound(alloc, Some(account), newer, board) {
-        Ok(second) => second,
-        Err(refused) => return Err(refused),
-    };
+    let FileRead { front: second, .. } = read_file(alloc, None, Some(account), newer, board)?;
     let Some((place, account)) = second else {
         return Ok(None);
     };
@@ -164,35 +115,4 @@ fn read_in_turn<B: Board>(
         shut: (false, false),
         journal: Some((newer.no, place, account)),
     }))
-}
-
-// Returns what is read of both files, the older one first. Returns `None` if they have to be read
-// one by one, because one of them isn't valid or is damaged.
-pub(crate) fn read_by_age<B: Board>(
-    alloc: Global,
-    zero: SizedFile,
-    one: SizedFile,
-    board: &mut B,
-) -> Result<Option<BothRead>, OpenRefused>
-    requires numbers { (zero.no ≡ FileNo.Zero) × (one.no ≡ FileNo.One) }
-    requires short { (zero.size ≤ LONGEST_FILE) × (one.size ≤ LONGEST_FILE) }
-    requires sizes { IfSome (B.told board.old)
-        (λ t. (zero.size ≡ length (file_of zero.no t)) × (one.size ≡ length (file_of one.no t))) }
-    ensures read { IfOk result (λ found. IfSome found (λ both. IfSome (B.told board.old)
-        (λ t. AreRead both t.here.file0 t.here.file1))) }
-    ensures refused { IfErr result TellsNothing }
-    ensures looks { LooksAt open_failure result
-        (λ t calls. IfFound result (ReadsBoth t.here calls))
-        (B.told board.old) (B.clock board.old) (B.faults board.old)
-        (B.told board.new) (B.clock board.new) (B.faults board.new) }
-{
-    let newer = match newer_told(alloc, zero, one, board) {
-        Ok(newer) => newer,
-        Err(refused) => return Err(refused),
-    };
-    match newer {
-        Some(FileNo::Zero) => read_in_turn(alloc, one, zero, board),
-        Some(FileNo::One) => read_in_turn(alloc, zero, one, board),
-        None => Ok(None),
-    }
 }

@@ -3,9 +3,9 @@ ghost use Rattle.std.specs.Prelude.{◌≡◌, ◌+◌, ◌^◌, ◌<◌, ◌≤
 ghost use Rattle.journal_format.specs.Checkpoints.{IsCheckpoint};
 ghost use Rattle.journal_format.specs.CheckpointReading.{checkpoint_of};
 ghost use Rattle.ras_journal.specs.Fields.{part, field, version_of, generation_of, number_of, is_open_of};
-ghost use Rattle.ras_recover.specs.Steps.Reading.{AnswersFront};
+ghost use Rattle.ras_recover.specs.Steps.Reading.{AnswersField, AnswersFront};
 
-use crate::place::Unread;
+use crate::place::ReadRefused;
 use entry_format::Version;
 use journal_format::{CheckpointRefused, is_checkpoint_of, read_checkpoint};
 use ras_account::Account;
@@ -44,67 +44,64 @@ fn version_of(bytes: &[u8]) -> Option<Version>
 
 // Returns the version by the magic at its offset.
 #[tactic(auto, unfolding(ras_journal::specs::Fields::field))]
-pub(crate) fn version_at(file: &[u8]) -> Result<Version, usize>
-    ensures { result ≡ field version_of 1 8 file.now }
+pub(crate) fn version_at(file: &[u8]) -> Result<Version, ReadRefused>
+    ensures { AnswersField result (field version_of 1 8 file.now) }
 {
     let Some(bytes) = part(1, 8, file) else {
-        return Err(1);
+        return Err(ReadRefused::Damaged(1));
     };
-    match version_of(bytes) {
-        Some(version) => Ok(version),
-        None => Err(1),
-    }
+    version_of(bytes).ok_or(ReadRefused::Damaged(1))
 }
 
 // Returns the generation, if the number is one and the other file doesn't have it.
 #[tactic(auto, unfolding(ras_journal::specs::Fields::field))]
-pub(crate) fn generation_at(taken: Option<u64>, file: &[u8]) -> Result<u64, usize>
-    ensures { result ≡ field (generation_of taken) 9 8 file.now }
+pub(crate) fn generation_at(taken: Option<u64>, file: &[u8]) -> Result<u64, ReadRefused>
+    ensures { AnswersField result (field (generation_of taken) 9 8 file.now) }
 {
     let Some(bytes) = part(9, 8, file) else {
-        return Err(9);
+        return Err(ReadRefused::Damaged(9));
     };
     let generation = u64_at(bytes, 0);
     if 1 <= generation && generation <= LAST_GENERATION && taken != Some(generation) {
         Ok(generation)
     } else {
-        Err(9)
+        Err(ReadRefused::Damaged(9))
     }
 }
 
 // Returns the number of the checkpoint's bytes.
 #[tactic(auto, unfolding(ras_journal::specs::Fields::field))]
-pub(crate) fn checkpoint_count_at(file: &[u8]) -> Result<u64, usize>
-    ensures { result ≡ field (number_of 8) 17 8 file.now }
+pub(crate) fn checkpoint_count_at(file: &[u8]) -> Result<u64, ReadRefused>
+    ensures { AnswersField result (field (number_of 8) 17 8 file.now) }
 {
     match part(17, 8, file) {
         Some(bytes) => Ok(u64_at(bytes, 0)),
-        None => Err(17),
+        None => Err(ReadRefused::Damaged(17)),
     }
 }
 
 // Returns whether the gate at an offset is open.
 #[tactic(auto, unfolding(ras_journal::specs::Fields::field))]
-pub(crate) fn is_open_at(gate: usize, file: &[u8]) -> Result<bool, usize>
-    ensures read { result ≡ field is_open_of gate 1 file.now }
+pub(crate) fn is_open_at(gate: usize, file: &[u8]) -> Result<bool, ReadRefused>
+    ensures read { AnswersField result (field is_open_of gate 1 file.now) }
     ensures within { OnOk result (gate + 1 ≤ length file.now) }
 {
     match part(gate, 1, file) {
         Some(bytes) => Ok(bytes[0] == OPEN_GATE),
-        None => Err(gate),
+        None => Err(ReadRefused::Damaged(gate)),
     }
 }
 
 // Returns the number of the payload's bytes at an offset.
 #[tactic(auto, unfolding(ras_journal::specs::Fields::field))]
-pub(crate) fn payload_count_at(place: usize, file: &[u8]) -> Result<u64, usize>
-    ensures read { result ≡ field (number_of 4) place 4 file.now }
+pub(crate) fn payload_count_at(place: usize, file: &[u8]) -> Result<u64, ReadRefused>
+    ensures read { AnswersField result (field (number_of 4) place 4 file.now) }
     ensures small { IfOk result (λ count. count < 2 ^ 32) }
     ensures within { OnOk result (place + 4 ≤ length file.now) }
 {
     match part(place, 4, file) {
         Some(bytes) => Ok(u64::from(u32_at(bytes, 0))),
-        None => Err(place),
+        None => Err(ReadRefused::Damaged(place)),
     }
 }
 
@@ -141,21 +138,19 @@ pub(crate) fn checkpoint_at(
     before: Option<Account>,
     count: u64,
     file: &[u8],
-) -> Result<Account, Unread>
+) -> Result<Account, ReadRefused>
     ensures read { AnswersFront (λ account. account.state) result (field (checkpoint_of version) 25 count file.now) }
     ensures within { OnOk result (25 + count ≤ length file.now) }
 {
     let Some(bytes) = part(25, count, file) else {
-        return Err(Unread::Damaged(25));
+        return Err(ReadRefused::Damaged(25));
     };
-    match account_there(alloc, version, before, bytes) {
-        Ok(Some(account)) => return Ok(account),
-        Ok(None) => {}
-        Err(NoMemory) => return Err(Unread::NoMemory),
+    if let Some(account) = account_there(alloc, version, before, bytes)? {
+        return Ok(account);
     }
     match read_checkpoint(alloc, version, bytes) {
         Ok(account) => Ok(account),
-        Err(CheckpointRefused::Bad) => Err(Unread::Damaged(25)),
-        Err(CheckpointRefused::NoMemory) => Err(Unread::NoMemory),
+        Err(CheckpointRefused::Bad) => Err(ReadRefused::Damaged(25)),
+        Err(CheckpointRefused::NoMemory) => Err(ReadRefused::NoMemory),
     }
 }

@@ -7,7 +7,7 @@ ghost use Rattle.ras_journal.specs.Recovered.{is_shut};
 ghost use Rattle.ras_recover.specs.Steps.Reading.{AnswersFront, front_at};
 
 use crate::fields::{checkpoint_at, checkpoint_count_at, generation_at, version_at};
-use crate::place::{Place, Unread};
+use crate::place::{Place, ReadRefused};
 use journal_format::CHECKPOINT_PLACE;
 use ras_account::Account;
 use ras_journal::OPEN_GATE;
@@ -35,37 +35,22 @@ pub(crate) fn first_place(
     taken: Option<u64>,
     before: Option<Account>,
     file: &[u8],
-) -> Result<(Place, Account), Unread>
+) -> Result<(Place, Account), ReadRefused>
     ensures read { AnswersFront (λ r. front_at r.0 r.1.state) result (first_front taken file.now) }
     ensures links { IfOk result (λ r. r.0.links ≡ 0) }
     ensures within { IfOk result (λ r. r.0.gate ≤ length file.now) }
 {
-    let version = match version_at(file) {
-        Ok(version) => version,
-        Err(at) => return Err(Unread::Damaged(at)),
+    let version = version_at(file)?;
+    let generation = generation_at(taken, file)?;
+    let count = checkpoint_count_at(file)?;
+    let account = checkpoint_at(alloc, version, before, count, file)?;
+    let place = Place {
+        version,
+        generation,
+        gate: CHECKPOINT_PLACE + count as usize,
+        links: 0,
     };
-    let generation = match generation_at(taken, file) {
-        Ok(generation) => generation,
-        Err(at) => return Err(Unread::Damaged(at)),
-    };
-    let count = match checkpoint_count_at(file) {
-        Ok(count) => count,
-        Err(at) => return Err(Unread::Damaged(at)),
-    };
-    match checkpoint_at(alloc, version, before, count, file) {
-        Ok(account) => {
-            let gate = CHECKPOINT_PLACE + count as usize;
-            let place = Place {
-                version,
-                generation,
-                gate,
-                links: 0,
-            };
-            Ok((place, account))
-        }
-        Err(Unread::Damaged(at)) => Err(Unread::Damaged(at)),
-        Err(Unread::NoMemory) => Err(Unread::NoMemory),
-    }
+    Ok((place, account))
 }
 
 // Returns how many bytes a file has up to the end of its checkpoint, if the file is valid and its

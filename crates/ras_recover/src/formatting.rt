@@ -1,7 +1,8 @@
 //! Writes a new generation of the journal over a file.
-ghost use Rattle.std.specs.Prelude.{◌≡◌, min, length, IfOk, IfSome};
+ghost use Rattle.std.specs.Prelude.{◌≡◌, ◌+◌, ◌≤◌, ◌++◌, length, take, drop, IfOk, IfSome};
+ghost use Rattle.ras_base.specs.LittleEndian.{u64_bytes};
 ghost use Rattle.board_core.specs.Cause.{disk_call};
-ghost use Rattle.board_core.specs.Doing.{Does, looks, one_end};
+ghost use Rattle.board_core.specs.Doing.{Does, one_end};
 ghost use Rattle.board_core.specs.Told.{file_of};
 ghost use Rattle.journal_format.specs.Checkpoints.{checkpoint_bytes, IsCheckpoint};
 ghost use Rattle.entry_format.specs.declared.version.Version.TheVariants.{Two};
@@ -23,34 +24,61 @@ const MAGIC: &[u8; 8] = b"RASJRNL2";
 /// checkpoint's bytes, and the closed gate.
 const BYTES_BESIDE_CHECKPOINT: usize = 25;
 
+/// The offset of the checkpoint's length in these bytes: after the magic and the generation.
+const COUNT_PLACE: usize = 16;
+
+// Returns how many bytes are surely enough for what is written: at most 20 for a name, 131 for the
+// row of a module, 25 for the row of a page, 72 for the rest of a checkpoint. Computing the exact
+// number would take a look at each name.
+fn room_for(account: &Account) -> usize {
+    let names = account.names_len().saturating_mul(20);
+    let modules = account.modules_len().saturating_mul(131);
+    let pages = account.pages().len().saturating_mul(25);
+    names
+        .saturating_add(modules)
+        .saturating_add(pages)
+        .saturating_add(72 + BYTES_BESIDE_CHECKPOINT)
+}
+
+// Writes the checkpoint's length over the eight bytes at its offset.
+#[tactic(auto, unfolding(ras_base::specs::LittleEndian::u64_bytes))]
+fn put_count(bytes: &mut [u8], count: u64)
+    requires { COUNT_PLACE + 8 ≤ length bytes.old }
+    ensures { bytes.new
+        ≡ take COUNT_PLACE bytes.old ++ (u64_bytes count ++ drop 8 (drop COUNT_PLACE bytes.old)) }
+{
+    bytes[COUNT_PLACE..COUNT_PLACE + 8].copy_from_slice(&count.to_le_bytes());
+}
+
 // Returns what is written after the gate at a file's front, with the checkpoint of this account,
-// which has `count` bytes. Allocates all of it at once. The caller passes the number because
-// computing it again would take a look at each name.
+// and the checkpoint's length. Allocates all of it at once.
 pub(crate) fn next_bytes(
     alloc: Global,
     generation: u64,
-    count: u64,
     account: &Account,
-) -> Result<Vec<u8>, NoMemory>
-    requires { count ≡ min u64.MAX (length (checkpoint_bytes Two account.now.state)) }
-    ensures is { IfOk result (λ bytes. bytes.items ≡ behind_gate generation
+) -> Result<(Vec<u8>, u64), NoMemory>
+    ensures is { IfOk result (λ r. r.0.items ≡ behind_gate generation
         (checkpoint_bytes Two account.now.state)) }
+    ensures count { IfOk result (λ r. r.1 ≡ length (checkpoint_bytes Two account.now.state)) }
     ensures account { IfOk result (λ _. IsCheckpoint Two account.now.state
         (checkpoint_bytes Two account.now.state)) }
 {
-    let room = (count as usize).saturating_add(BYTES_BESIDE_CHECKPOINT);
-    let mut bytes = Vec::with_capacity(alloc, room)?;
+    let mut bytes = Vec::with_capacity(alloc, room_for(account))?;
     bytes.extend_from_slice(MAGIC)?;
     push_u64(&mut bytes, generation)?;
-    push_u64(&mut bytes, count)?;
+    // The checkpoint's length is known once the checkpoint is there.
+    push_u64(&mut bytes, 0)?;
+    let front = bytes.len();
     push_checkpoint(&mut bytes, account)?;
+    let count = (bytes.len() - front) as u64;
+    put_count(&mut bytes, count);
     bytes.push(CLOSED_GATE)?;
-    Ok(bytes)
+    Ok((bytes, count))
 }
 
 // Closes the gate at the front of a file and syncs the file, unless the file is shut already.
 fn close_gate<B: Board>(file: FileNo, shut: bool, board: &mut B) -> Result<(), Failed>
-    ensures does { Does (looks B.told B.clock B.faults) (closing_acts file shut)
+    ensures does { Does B.seen (closing_acts file shut)
         (one_end disk_call result) board.old board.new }
 {
     if shut {
@@ -67,8 +95,8 @@ pub(crate) fn format_file<B: Board>(
     bytes: &[u8],
     board: &mut B,
 ) -> Result<(), Failed>
-    requires { IfSome (B.told board.old) (λ t. shut ≡ is_shut (file_of file t)) }
-    ensures does { Does (looks B.told B.clock B.faults) (formatting_acts file shut bytes.now)
+    requires { IfSome (B.seen board.old).told (λ t. shut ≡ is_shut (file_of file t)) }
+    ensures does { Does B.seen (formatting_acts file shut bytes.now)
         (one_end disk_call result) board.old board.new }
 {
     close_gate(file, shut, board)?;

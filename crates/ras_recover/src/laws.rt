@@ -2,7 +2,7 @@
 ghost use Rattle.std.specs.Prelude.{◌≡◌, ℕ, List, None, Some, Ok};
 ghost use Rattle.board_core.specs.declared.board.DiskCall.{DiskCall};
 ghost use Rattle.board_core.specs.Clock.{Adds, Always, LeftNow};
-ghost use Rattle.board_core.specs.Doing.{Moment, looks};
+ghost use Rattle.board_core.specs.Doing.{Moment};
 ghost use Rattle.board_core.specs.Stop.{Left};
 ghost use Rattle.board_core.specs.Told.{Told};
 ghost use Rattle.ras_facts.specs.declared.entry.Entry.{Entry};
@@ -55,13 +55,13 @@ pub fn opening_laws<B: Board>()
     // If all that a crash at the start of an opening may leave has few links, so has all that a
     // crash may leave from there on. The same holds of a recovery.
     ensures few { (old new : B) (here : Left)
-        → Always (B.clock old) (B.clock old).now HasFewLinks
-        → Adds (Opening (B.clock old) here) (B.clock old) (B.clock new)
-        → Always (B.clock new) (B.clock old).now HasFewLinks }
+        → Always (B.seen old).clock (B.seen old).clock.now HasFewLinks
+        → Adds (Opening (B.seen old).clock here) (B.seen old).clock (B.seen new).clock
+        → Always (B.seen new).clock (B.seen old).clock.now HasFewLinks }
     ensures few_recovering { (old new : B)
-        → Always (B.clock old) (B.clock old).now HasFewLinks
-        → KeepsTold (B.told old) (B.clock old) (B.told new) (B.clock new)
-        → Always (B.clock new) (B.clock old).now HasFewLinks }
+        → Always (B.seen old).clock (B.seen old).clock.now HasFewLinks
+        → KeepsTold (B.seen old).told (B.seen old).clock (B.seen new).told (B.seen new).clock
+        → Always (B.seen new).clock (B.seen old).clock.now HasFewLinks }
 
     // If the files in the board's model have few links, they also have few links once the journal
     // is open.
@@ -83,21 +83,21 @@ pub fn life_laws<B: Board>()
     // doesn't. So the files are never damaged.
     ensures in_a_call { (account : State) (life : Life) (call : JournalCall)
         (first last : Site B) (board : B) (left : Left)
-        → BeginsWith (looks B.told B.clock B.faults) account first
-        → Lives (looks B.told B.clock B.faults) life first last
-        → Works (looks B.told B.clock B.faults) call last board
-        → (B.clock board).may_leave_since (B.clock last.board).now left
+        → BeginsWith B.seen account first
+        → Lives B.seen life first last
+        → Works B.seen call last board
+        → (B.seen board).clock.may_leave_since (B.seen last.board).clock.now left
         → RecoversBehind account (cut life call) left }
     ensures between_calls { (account : State) (life : Life) (first last : Site B) (left : Left)
-        → BeginsWith (looks B.told B.clock B.faults) account first
-        → Lives (looks B.told B.clock B.faults) life first last → LeftNow (B.clock last.board) left
+        → BeginsWith B.seen account first
+        → Lives B.seen life first last → LeftNow (B.seen last.board).clock left
         → RecoversBehind account life left }
 
     // An opening that returns `Ok` returns that account.
     ensures opened { (account now : State) (life : Life) (first last opened : Site B)
-        → BeginsWith (looks B.told B.clock B.faults) account first
-        → Lives (looks B.told B.clock B.faults) life first last
-        → OpensJournal (looks B.told B.clock B.faults) now last opened
+        → BeginsWith B.seen account first
+        → Lives B.seen life first last
+        → OpensJournal B.seen now last opened
         → Continues account life now }
 
     // The account of a history, continued by links, is the account of the history followed by the

@@ -2,7 +2,6 @@
 //! are what the laws assume of a call in progress, and of a call that returned `Ok`.
 
 ghost use Rattle.std.specs.Prelude.{◌≡◌, ◌<◌, List, Option, Some, false, length, IfOk, IfSome, OnOk};
-ghost use Rattle.board_core.specs.Doing.{looks};
 ghost use Rattle.board_core.specs.Told.{Told, file_of};
 ghost use Rattle.entry_format.specs.declared.version.Version.TheVariants.{Two};
 ghost use Rattle.ras_facts.specs.declared.entry.Entry.{Entry};
@@ -30,14 +29,14 @@ pub fn live_append<B: Board>(
 ) -> Result<(), AppendRefused>
     requires usable { journal.old.failed ≡ false }
     requires version { journal.old.standing.version ≡ Two }
-    requires gate { IfSome (B.told board.old)
+    requires gate { IfSome (B.seen board.old).told
         (λ t. journal.old.standing.length < length (file_of journal.old.standing.file t)) }
-    ensures works { (entries : List Entry) → CanLinkHere (B.told board.old) entries link.now
-        → Works (looks B.told B.clock B.faults) (an_append entries)
+    ensures works { (entries : List Entry) → CanLinkHere (B.seen board.old).told entries link.now
+        → Works B.seen (an_append entries)
         (open_site board.old journal.old.standing) board.new }
     ensures answered { OnOk result ((entries : List Entry)
-        → CanLinkHere (B.told board.old) entries link.now
-        → IsAnswered (looks B.told B.clock B.faults) (an_append entries)
+        → CanLinkHere (B.seen board.old).told entries link.now
+        → IsAnswered B.seen (an_append entries)
         (open_site board.old journal.old.standing) (open_site board.new journal.new.standing)) }
 {
     journal.append(link, board)
@@ -57,12 +56,12 @@ pub fn live_switch<B: Board>(
     board: &mut B,
 ) -> Result<(), SwitchRefused>
     requires usable { journal.old.failed ≡ false }
-    requires shut { IfSome (B.told board.old)
+    requires shut { IfSome (B.seen board.old).told
         (λ t. journal.old.standing.shut ≡ is_shut (file_of (other journal.old.standing.file) t)) }
-    requires held { IsHeld (B.told board.old) account.now.state }
-    ensures works { Works (looks B.told B.clock B.faults) a_switch
+    requires held { IsHeld (B.seen board.old).told account.now.state }
+    ensures works { Works B.seen a_switch
         (open_site board.old journal.old.standing) board.new }
-    ensures answered { OnOk result (IsAnswered (looks B.told B.clock B.faults) a_switch
+    ensures answered { OnOk result (IsAnswered B.seen a_switch
         (open_site board.old journal.old.standing) (open_site board.new journal.new.standing)) }
 {
     switch_file(alloc, account, journal, link, board)
@@ -77,11 +76,11 @@ pub fn live_opening<B: Board>(
     alloc: Global,
     board: &mut B,
 ) -> Result<(Account, Journal), OpenRefused>
-    ensures works { (journal : Option Standing) (t : Told) → B.told board.old ≡ Some t
-        → Works (looks B.told B.clock B.faults) an_opening
+    ensures works { (journal : Option Standing) (t : Told) → (B.seen board.old).told ≡ Some t
+        → Works B.seen an_opening
         (record { board = board.old; journal = journal }) board.new }
     ensures answered { IfOk result (λ r. (journal : Option Standing) (t : Told)
-        → B.told board.old ≡ Some t → OpensJournal (looks B.told B.clock B.faults) r.0.state
+        → (B.seen board.old).told ≡ Some t → OpensJournal B.seen r.0.state
         (record { board = board.old; journal = journal }) (open_site board.new r.1.standing)) }
 {
     open_journal(alloc, board)

@@ -11,7 +11,7 @@ ghost use Rattle.ras_journal.specs.File.{front_behind_link, next_front};
 ghost use Rattle.ras_recover.specs.Steps.Reading.{AnswersFront, front_at};
 
 use crate::fields::{is_open_at, part, payload_count_at};
-use crate::place::{Place, Unread};
+use crate::place::{Place, ReadRefused};
 use entry_format::Version;
 use journal_format::{LinkRefused, read_link};
 use ras_account::{Account, Orders, ReserveRefused};
@@ -63,7 +63,7 @@ fn payload_at(
     gate: usize,
     count: u64,
     file: &[u8],
-) -> Result<Vec<Entry>, Unread>
+) -> Result<Vec<Entry>, ReadRefused>
     requires count { field (number_of 4) (gate + 1) 4 file.now ≡ Ok count }
     requires length { gate + 5 ≤ length file.now }
     ensures read { AnswersFront (λ entries. entries.items) result
@@ -72,19 +72,24 @@ fn payload_at(
     ensures within { OnOk result (gate + 5 + count ≤ length file.now) }
 {
     let Some(_) = part(gate + 5, count, file) else {
-        return Err(Unread::Damaged(gate + 5));
+        return Err(ReadRefused::Damaged(gate + 5));
     };
     match read_link(alloc, version, &file[gate + 1..]) {
         Ok((entries, _)) => Ok(entries),
-        Err(LinkRefused::Cut) => Err(Unread::Damaged(gate + 5)),
-        Err(LinkRefused::Bad) => Err(Unread::Damaged(gate + 5)),
-        Err(LinkRefused::NoMemory) => Err(Unread::NoMemory),
+        Err(LinkRefused::Cut) => Err(ReadRefused::Damaged(gate + 5)),
+        Err(LinkRefused::Bad) => Err(ReadRefused::Damaged(gate + 5)),
+        Err(LinkRefused::NoMemory) => Err(ReadRefused::NoMemory),
     }
 }
 
 // Counts the entries of the link after the open gate at an offset, and returns the position at the
 // next gate.
-fn link_at(alloc: Global, place: Place, account: &mut Account, file: &[u8]) -> Result<Place, Unread>
+fn link_at(
+    alloc: Global,
+    place: Place,
+    account: &mut Account,
+    file: &[u8],
+) -> Result<Place, ReadRefused>
     requires gate { place.gate + 1 ≤ length file.now }
     requires links { place.links + 1 < 2 ^ 64 }
     ensures read { AnswersFront (λ next. front_at next account.new.state) result
@@ -92,24 +97,16 @@ fn link_at(alloc: Global, place: Place, account: &mut Account, file: &[u8]) -> R
     ensures links { IfOk result (λ next. next.links ≡ place.links + 1) }
     ensures within { IfOk result (λ next. next.gate ≤ length file.now) }
 {
-    let count = match payload_count_at(place.gate + 1, file) {
-        Ok(count) => count,
-        Err(at) => return Err(Unread::Damaged(at)),
-    };
-    let entries = match payload_at(alloc, place.version, place.gate, count, file) {
-        Ok(entries) => entries,
-        Err(Unread::Damaged(at)) => return Err(Unread::Damaged(at)),
-        Err(Unread::NoMemory) => return Err(Unread::NoMemory),
-    };
-    match count_entries(alloc, account, entries) {
-        Ok(true) => Ok(Place {
-            gate: place.gate + 5 + count as usize,
-            links: place.links + 1,
-            ..place
-        }),
-        Ok(false) => Err(Unread::Damaged(place.gate + 5)),
-        Err(NoMemory) => Err(Unread::NoMemory),
+    let count = payload_count_at(place.gate + 1, file)?;
+    let entries = payload_at(alloc, place.version, place.gate, count, file)?;
+    if !count_entries(alloc, account, entries)? {
+        return Err(ReadRefused::Damaged(place.gate + 5));
     }
+    Ok(Place {
+        gate: place.gate + 5 + count as usize,
+        links: place.links + 1,
+        ..place
+    })
 }
 
 // Returns the position at the next gate, with the entries before it counted, if the gate at the
@@ -120,7 +117,7 @@ pub(crate) fn next_place(
     place: Place,
     account: &mut Account,
     file: &[u8],
-) -> Result<Option<Place>, Unread>
+) -> Result<Option<Place>, ReadRefused>
     requires links { place.links + 1 < 2 ^ 64 }
     ensures read { AnswersFront (λ next. option_map (λ p. front_at p account.new.state) next) result
         (next_front (front_at place account.old.state) file.now) }
@@ -129,15 +126,11 @@ pub(crate) fn next_place(
     ensures within { IfOk result (λ next. IfSome next (λ p. p.gate ≤ length file.now)) }
     ensures closed { result ≡ Ok None → place.gate < length file.now }
 {
-    match is_open_at(place.gate, file) {
-        Ok(true) => match link_at(alloc, place, account, file) {
-            Ok(next) => Ok(Some(next)),
-            Err(Unread::Damaged(at)) => Err(Unread::Damaged(at)),
-            Err(Unread::NoMemory) => Err(Unread::NoMemory),
-        },
-        Ok(false) => Ok(None),
-        Err(at) => Err(Unread::Damaged(at)),
+    if !is_open_at(place.gate, file)? {
+        return Ok(None);
     }
+    let next = link_at(alloc, place, account, file)?;
+    Ok(Some(next))
 }
 
 // Returns how many bytes the gate at the front has together with the link after it, if the gate is

@@ -2,7 +2,7 @@
 ghost use Rattle.std.specs.Prelude.{◌≡◌, Result, Err, false, IfSome, IfOk, IfErr, OnOk};
 ghost use Rattle.board_core.specs.Cause.{disk_call, FailsAs};
 ghost use Rattle.board_core.specs.Clock.{Adds};
-ghost use Rattle.board_core.specs.Doing.{Does, IsMade, looks};
+ghost use Rattle.board_core.specs.Doing.{Does, IsMade};
 ghost use Rattle.board_core.specs.Told.{Told, Relates, file_of};
 ghost use Rattle.board_core.specs.declared.board.FileNo.TheVariants.{Zero};
 ghost use Rattle.entry_format.specs.declared.version.Version.TheVariants.{Two};
@@ -19,9 +19,9 @@ ghost use Rattle.ras_recover.specs.OpeningActs.{DoesOpening};
 use crate::formatting::{format_file, next_bytes};
 use crate::recovering::recover_files;
 use crate::{OpenRefused, Recovered};
-use board_core::{Board, Failed, FileNo};
+use board_core::{Board, FileNo};
 use entry_format::Version;
-use journal_format::{CHECKPOINT_PLACE, checkpoint_len};
+use journal_format::CHECKPOINT_PLACE;
 use ras_account::Account;
 use ras_journal::{Journal, Standing};
 use std::alloc::Global;
@@ -34,8 +34,8 @@ fn format_first<B: Board>(
     shut: (bool, bool),
     board: &mut B,
 ) -> Result<Journal, OpenRefused>
-    requires { IfSome (B.told board.old) (λ t. shut.0 ≡ is_shut (file_of Zero t)) }
-    ensures does { Does (looks B.told B.clock B.faults)
+    requires { IfSome (B.seen board.old).told (λ t. shut.0 ≡ is_shut (file_of Zero t)) }
+    ensures does { Does B.seen
         (formatting_acts Zero shut.0 (behind_gate 1 (checkpoint_bytes Two account.now.state)))
         (open_end result) board.old board.new }
     ensures can { IsMade (open_end result)
@@ -46,13 +46,8 @@ fn format_first<B: Board>(
     }) }
     ensures refuses { IfErr result (λ refused. (held : Result State Refusal) → RefusesHeld refused held) }
 {
-    let count = checkpoint_len(account);
-    let Ok(bytes) = next_bytes(alloc, 1, count, account) else {
-        return Err(OpenRefused::NoMemory);
-    };
-    if let Err(Failed) = format_file(FileNo::Zero, shut.0, &bytes, board) {
-        return Err(OpenRefused::Disk);
-    }
+    let (bytes, count) = next_bytes(alloc, 1, account)?;
+    format_file(FileNo::Zero, shut.0, &bytes, board)?;
     Ok(Journal::at(Standing {
         file: FileNo::Zero,
         version: Version::Two,
@@ -75,40 +70,38 @@ pub fn open_journal<B: Board>(
     board: &mut B,
 ) -> Result<(Account, Journal), OpenRefused>
     // The account is what the files contain.
-    ensures recovers { IfSome (B.told board.old)
+    ensures recovers { IfSome (B.seen board.old).told
         (λ t. TellsHeld (λ r. r.0.state) result (recovered t.here.file0 t.here.file1)) }
     ensures ready { IfOk result (λ r. (r.0.waiting ≡ nothing) × (r.1.failed ≡ false)) }
-    ensures standing { IfOk result (λ r. IfSome (B.told board.old)
+    ensures standing { IfOk result (λ r. IfSome (B.seen board.old).told
         (λ t. r.1.standing ≡ standing_opened t.here.file0 t.here.file1)) }
 
     // A crash leaves what a crash before may have left, or gives the empty account if no file is
     // valid. After `Ok` a crash leaves exactly what the board's model says, and the journal's
     // position is that of the files.
-    ensures stops { (t : Told) → B.told board.old ≡ Some t
-        → Adds (Opening (B.clock board.old) t.here) (B.clock board.old) (B.clock board.new) }
-    ensures opened { IfOk result (λ r. (t : Told) → B.told board.old ≡ Some t
-        → IsOpened r.1.standing r.0.state (B.told board.new) (B.clock board.new)) }
+    ensures stops { (t : Told) → (B.seen board.old).told ≡ Some t
+        → Adds (Opening (B.seen board.old).clock t.here) (B.seen board.old).clock
+        (B.seen board.new).clock }
+    ensures opened { IfOk result (λ r. (t : Told) → (B.seen board.old).told ≡ Some t
+        → IsOpened r.1.standing r.0.state (B.seen board.new).told (B.seen board.new).clock) }
     // If the files are refused, a crash afterwards leaves exactly what the board's model said of
     // the files, the store and the text.
-    ensures refused { IfErr result (λ why. OnRefusal why ((t : Told) → B.told board.old ≡ Some t
-        → RestsHere t.here (B.told board.new) (B.clock board.new))) }
+    ensures refused { IfErr result (λ why. OnRefusal why
+        ((t : Told) → (B.seen board.old).told ≡ Some t
+        → RestsHere t.here (B.seen board.new).told (B.seen board.new).clock)) }
 
     // What the opening does, as acts and as disk calls, whatever it returns.
     ensures does { DoesOpening (λ refused. refused ≡ OpenRefused.Disk) result
-        (B.told board.old) (B.told board.new) }
+        (B.seen board.old).told (B.seen board.new).told }
 
-    ensures cause { FailsAs disk_call (B.faults board.old) (B.faults board.new)
+    ensures cause { FailsAs disk_call (B.seen board.old).faults (B.seen board.new).faults
         (open_failure result) }
 {
-    let (Recovered { account, standing }, shut) = match recover_files(alloc, board) {
-        Ok(recovered) => recovered,
-        Err(refused) => return Err(refused),
-    };
+    let recovered = recover_files(alloc, board)?;
+    let (Recovered { account, standing }, shut) = recovered;
     if let Some(standing) = standing {
         return Ok((account, Journal::at(standing)));
     }
-    match format_first(alloc, &account, shut, board) {
-        Ok(journal) => Ok((account, journal)),
-        Err(refused) => Err(refused),
-    }
+    let journal = format_first(alloc, &account, shut, board)?;
+    Ok((account, journal))
 }

@@ -9,8 +9,8 @@ ghost use Rattle.ras_journal.specs.Recovered.{in_file, greater, generation_in, i
 ghost use Rattle.ras_account.specs.Account.{State};
 ghost use Rattle.ras_recover.specs.Steps.Reading.{front_at};
 ghost use Rattle.ras_recover.specs.OpeningCalls.{ReadsStanding, ReadsBoth};
-ghost use Rattle.ras_recover.specs.Recovering.{TellsHeld, open_failure};
-ghost use Rattle.ras_recover.specs.Steps.Windows.{LooksAt};
+ghost use Rattle.ras_recover.specs.Recovering.{TellsHeld, open_end};
+ghost use Rattle.ras_recover.specs.Steps.Looking.{Looks};
 ghost use Rattle.ras_recover.specs.Steps.Pair.{AreRead};
 
 use crate::OpenRefused;
@@ -48,15 +48,14 @@ fn read_one<B: Board>(
     board: &mut B,
 ) -> Result<FileRead, OpenRefused>
     requires short { file.size ≤ LONGEST_FILE }
-    requires size { IfSome (B.told board.old) (λ t. file.size ≡ length (file_of file.no t)) }
-    ensures read { IfSome (B.told board.old)
+    requires size { IfSome (B.seen board.old).told (λ t. file.size ≡ length (file_of file.no t)) }
+    ensures read { IfSome (B.seen board.old).told
         (λ t. TellsHeld (λ r. option_map (λ p. front_at p.0 p.1.state) r.front) result
         (in_file file.no (front_of taken (file_of file.no t)))) }
-    ensures shut { IfOk result (λ r. IfSome (B.told board.old)
+    ensures shut { IfOk result (λ r. IfSome (B.seen board.old).told
         (λ t. r.shut ≡ is_shut (file_of file.no t))) }
-    ensures looks { LooksAt open_failure result (λ t. ReadsStanding file.no (file_of file.no t))
-        (B.told board.old) (B.clock board.old) (B.faults board.old)
-        (B.told board.new) (B.clock board.new) (B.faults board.new) }
+    ensures looks { Looks (open_end result) (λ t. ReadsStanding file.no (file_of file.no t))
+        (B.seen board.old) (B.seen board.new) }
 {
     let file_number = match file.no {
         FileNo::Zero => 0,
@@ -105,80 +104,47 @@ fn generation_in(front: &Option<(Place, Account)>) -> Option<u64>
     }
 }
 
-// Returns which of the two files is current, and what it contains. Reads file 0 first, then file 1.
-fn read_one_by_one<B: Board>(
-    alloc: Global,
-    sizes: (usize, usize),
-    board: &mut B,
-) -> Result<BothRead, OpenRefused>
-    requires short { (sizes.0 ≤ LONGEST_FILE) × (sizes.1 ≤ LONGEST_FILE) }
-    requires sizes { IfSome (B.told board.old)
-        (λ t. (sizes.0 ≡ length t.here.file0) × (sizes.1 ≡ length t.here.file1)) }
-    ensures read { IfSome (B.told board.old)
-        (λ t. TellsHeld (λ r. option_map (λ j. record { file = j.0; front = front_at j.1 j.2.state })
-        r.journal) result (journal_of t.here.file0 t.here.file1)) }
-    ensures shut { IfOk result (λ r. IfSome (B.told board.old)
-        (λ t. (r.shut.0 ≡ is_shut t.here.file0) × (r.shut.1 ≡ is_shut t.here.file1))) }
-    ensures looks { LooksAt open_failure result (λ t. ReadsBoth t.here)
-        (B.told board.old) (B.clock board.old) (B.faults board.old)
-        (B.told board.new) (B.clock board.new) (B.faults board.new) }
-{
-    let file_zero = SizedFile {
-        no: FileNo::Zero,
-        size: sizes.0,
-    };
-    let file_one = SizedFile {
-        no: FileNo::One,
-        size: sizes.1,
-    };
-    let zero = match read_one(alloc, None, file_zero, board) {
-        Ok(zero) => zero,
-        Err(refused) => return Err(refused),
-    };
-    match read_one(alloc, generation_in(&zero.front), file_one, board) {
-        Ok(one) => Ok(BothRead {
-            shut: (zero.shut, one.shut),
-            journal: greater(zero.front, one.front),
-        }),
-        Err(refused) => Err(refused),
-    }
-}
-
 // Returns which of the two files is current, and what it contains. Reads the older file first if
-// both are valid. A damaged file is reported as if the files were read one by one.
+// both are valid and undamaged; otherwise file 0 first, so that its damage is reported first.
 pub(crate) fn read_both<B: Board>(
     alloc: Global,
     sizes: (usize, usize),
     board: &mut B,
 ) -> Result<BothRead, OpenRefused>
     requires short { (sizes.0 ≤ LONGEST_FILE) × (sizes.1 ≤ LONGEST_FILE) }
-    requires sizes { IfSome (B.told board.old)
+    requires sizes { IfSome (B.seen board.old).told
         (λ t. (sizes.0 ≡ length t.here.file0) × (sizes.1 ≡ length t.here.file1)) }
-    ensures read { IfSome (B.told board.old)
+    ensures read { IfSome (B.seen board.old).told
         (λ t. TellsHeld (λ r. option_map (λ j. record { file = j.0; front = front_at j.1 j.2.state })
         r.journal) result (journal_of t.here.file0 t.here.file1)) }
-    ensures shut { IfOk result (λ r. IfSome (B.told board.old)
+    ensures shut { IfOk result (λ r. IfSome (B.seen board.old).told
         (λ t. (r.shut.0 ≡ is_shut t.here.file0) × (r.shut.1 ≡ is_shut t.here.file1))) }
-    ensures looks { LooksAt open_failure result (λ t. ReadsBoth t.here)
-        (B.told board.old) (B.clock board.old) (B.faults board.old)
-        (B.told board.new) (B.clock board.new) (B.faults board.new) }
+    ensures looks { Looks (open_end result) (λ t. ReadsBoth t.here)
+        (B.seen board.old) (B.seen board.new) }
 {
-    let file_zero = SizedFile {
+    let zero = SizedFile {
         no: FileNo::Zero,
         size: sizes.0,
     };
-    let file_one = SizedFile {
+    let one = SizedFile {
         no: FileNo::One,
         size: sizes.1,
     };
-    let found = match read_by_age(alloc, file_zero, file_one, board) {
+    let found = match read_by_age(alloc, zero, one, board) {
         Ok(found) => found,
-        Err(refused) => return Err(refused),
+        Err(ReadRefused::Damaged(_)) => None,
+        Err(ReadRefused::Disk) => return Err(OpenRefused::Disk),
+        Err(ReadRefused::NoMemory) => return Err(OpenRefused::NoMemory),
     };
-    match found {
-        Some(both) => Ok(both),
-        None => read_one_by_one(alloc, sizes, board),
+    if let Some(both) = found {
+        return Ok(both);
     }
+    let first = read_one(alloc, None, zero, board)?;
+    let second = read_one(alloc, generation_in(&first.front), one, board)?;
+    Ok(BothRead {
+        shut: (first.shut, second.shut),
+        journal: greater(first.front, second.front),
+    })
 }
 
 // Returns the position of a journal that is read up to this place of the file.

@@ -1,5 +1,7 @@
 //! Why a call of this crate fails.
+ghost use Rattle.std.specs.Prelude.{◌≡◌};
 
+use board_core::Failed;
 use ras_base::NoMemory;
 use thiserror::Error;
 
@@ -33,4 +35,24 @@ pub enum OpenRefused {
     /// Memory ran out.
     #[error("memory ran out")]
     NoMemory,
+}
+
+impl From<Failed> for OpenRefused {
+    ghost use Rattle.ras_recover.specs.declared.refused.OpenRefused.TheVariants.{Disk};
+
+    ghost from_gives = { λ _ refused. refused ≡ Disk };
+
+    fn from(_: Failed) -> Self {
+        OpenRefused::Disk
+    }
+}
+
+impl From<NoMemory> for OpenRefused {
+    ghost use Rattle.ras_recover.specs.declared.refused.OpenRefused.TheVariants as Why;
+
+    ghost from_gives = { λ _ refused. refused ≡ Why.NoMemory };
+
+    fn from(_: NoMemory) -> Self {
+        OpenRefused::NoMemory
+    }
 }

@@ -1,10 +1,13 @@
 //! Switches the journal to its other file.
-ghost use Rattle.std.specs.Prelude.{◌≡◌, ◌+◌, ◌<◌, ◌≤◌, ◌↔◌, false, IfSome, IsTrue, None};
-ghost use Rattle.board_core.specs.Doing.{Does, IsMade, looks};
+ghost use Rattle.std.specs.Prelude.{◌≡◌, ◌+◌, ◌<◌, ◌≤◌, ◌↔◌, false, min, length, IfOk, IfErr, IfSome, IsTrue, OnOk, None};
+ghost use Rattle.board_core.specs.Doing.{Does, IsMade, gave_up};
 ghost use Rattle.board_core.specs.Told.{file_of};
+ghost use Rattle.entry_format.specs.declared.version.Version.TheVariants.{Two};
+ghost use Rattle.journal_format.specs.Checkpoints.{checkpoint_bytes};
+ghost use Rattle.ras_account.specs.Account.{State};
 ghost use Rattle.ras_journal.specs.Recovered.{other, is_shut};
 ghost use Rattle.ras_recover.specs.Switching.{CanSwitch, IsFullBy, MovesOver, has_no_room};
-ghost use Rattle.ras_recover.specs.Switching.{switch_acts, switch_end, switched};
+ghost use Rattle.ras_recover.specs.Switching.{next_bytes, switch_acts, switch_end, switch_refused_end, switched};
 
 use crate::SwitchRefused;
 use crate::formatting::{format_file, next_bytes};
@@ -25,19 +28,21 @@ fn other(file: FileNo) -> FileNo
     }
 }
 
-// Returns the journal's position after a switch to the other file, or `None` if there is no room
-// for the switch.
-fn switched(standing: Standing, account: &Account, link: &Link) -> Option<Standing>
-    ensures none { (result ≡ None) ↔ IsTrue (has_no_room standing account.now.state link.now) }
-    ensures is { IfSome result (λ next. next ≡ switched standing account.now.state) }
-    ensures generation { IfSome result (λ _. standing.generation < LAST_GENERATION) }
+// Returns the journal's position after a switch to the other file with a checkpoint of this length,
+// or `None` if there is no room for the switch.
+fn switched(standing: Standing, checkpoint: u64, link: &Link) -> Option<Standing>
+    requires { standing.generation < LAST_GENERATION }
+    ensures none { (account : State)
+        → checkpoint ≡ min u64.MAX (length (checkpoint_bytes Two account))
+        → (result ≡ None) ↔ IsTrue (has_no_room standing account link.now) }
+    ensures is { IfSome result (λ next. (account : State)
+        → checkpoint ≡ min u64.MAX (length (checkpoint_bytes Two account))
+        → next ≡ switched standing account) }
     ensures fits { IfSome result (λ next. next.length + 2 ≤ LONGEST_FILE) }
 {
     let place = CHECKPOINT_PLACE as u64;
-    let checkpoint = checkpoint_len(account);
     let link = link.bytes().len() as u64;
-    if standing.generation >= LAST_GENERATION
-        || checkpoint > LONGEST_FILE
+    if checkpoint > LONGEST_FILE
         || link > LONGEST_FILE
         || place + checkpoint + 1 + link + 1 > LONGEST_FILE
     {
@@ -51,6 +56,36 @@ fn switched(standing: Standing, account: &Account, link: &Link) -> Option<Standi
         links: 0,
         shut: false,
     })
+}
+
+// Returns what a switch writes after the gate at the front of the other file, and the journal's
+// position after the switch.
+fn next_file(
+    alloc: Global,
+    standing: Standing,
+    account: &Account,
+    link: &Link,
+) -> Result<(Vec<u8>, Standing), SwitchRefused>
+    ensures bytes { IfOk result (λ r. r.0.items ≡ next_bytes standing account.now.state) }
+    ensures next { IfOk result (λ r. r.1 ≡ switched standing account.now.state) }
+    ensures can { OnOk result (CanSwitch standing account.now.state) }
+    ensures full { IsFullBy result (has_no_room standing account.now.state link.now) }
+    ensures refused { IfErr result (λ why. switch_refused_end why ≡ gave_up) }
+{
+    if standing.generation >= LAST_GENERATION {
+        return Err(SwitchRefused::Full);
+    }
+    let Ok((bytes, count)) = next_bytes(alloc, standing.generation + 1, account) else {
+        // Want of room comes before want of memory, and only now is it worth a look at each name.
+        return match switched(standing, checkpoint_len(account), link) {
+            Some(_) => Err(SwitchRefused::NoMemory),
+            None => Err(SwitchRefused::Full),
+        };
+    };
+    match switched(standing, count, link) {
+        Some(next) => Ok((bytes, next)),
+        None => Err(SwitchRefused::Full),
+    }
 }
 
 /// Switches a journal to its other file by four or six disk calls: writes the next generation
@@ -75,9 +110,9 @@ pub fn switch_file<B: Board>(
     board: &mut B,
 ) -> Result<(), SwitchRefused>
     requires usable { journal.old.failed ≡ false }
-    requires shut { IfSome (B.told board.old)
+    requires shut { IfSome (B.seen board.old).told
         (λ t. journal.old.standing.shut ≡ is_shut (file_of (other journal.old.standing.file) t)) }
-    ensures does { Does (looks B.told B.clock B.faults)
+    ensures does { Does B.seen
         (switch_acts journal.old.standing account.now.state) (switch_end result)
         board.old board.new }
     ensures can { IsMade (switch_end result)
@@ -87,13 +122,7 @@ pub fn switch_file<B: Board>(
     ensures full { IsFullBy result (has_no_room journal.old.standing account.now.state link.now) }
 {
     let standing = journal.standing();
-    let Some(next) = switched(standing, account, link) else {
-        return Err(SwitchRefused::Full);
-    };
-    let count = next.length - CHECKPOINT_PLACE as u64;
-    let Ok(bytes) = next_bytes(alloc, next.generation, count, account) else {
-        return Err(SwitchRefused::NoMemory);
-    };
+    let (bytes, next) = next_file(alloc, standing, account, link)?;
     if let Err(Failed) = format_file(next.file, standing.shut, &bytes, board) {
         journal.fail();
         return Err(SwitchRefused::Disk);

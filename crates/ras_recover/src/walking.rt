@@ -5,14 +5,14 @@ ghost use Rattle.board_core.specs.Told.{file_of};
 ghost use Rattle.ras_journal.specs.declared.limits.TheConstants.{LONGEST_FILE};
 ghost use Rattle.ras_journal.specs.File.{next_front, whole_front, front_of};
 ghost use Rattle.ras_journal.specs.Recovered.{is_shut};
-ghost use Rattle.ras_recover.specs.Steps.Looking.{ReadsPart};
+ghost use Rattle.ras_recover.specs.Steps.Looking.{Looks, ReadsPart};
 ghost use Rattle.ras_recover.specs.OpeningCalls.{ReadsStanding};
 ghost use Rattle.ras_recover.specs.Steps.Reading.{front_at};
-ghost use Rattle.ras_recover.specs.Steps.Windows.{Covers, end_of, IsAnswer, IsNoDamage, Looks, LooksAt, read_failure, LinkHeld, FrontHeld, IsBegun, IsBroken};
+ghost use Rattle.ras_recover.specs.Steps.Windows.{Covers, end_of, IsAnswer, IsNoDamage, read_end, LinkHeld, FrontHeld, IsBegun, IsBroken};
 
 use crate::file::{first_place, front_len, has_open_gate, is_shut};
 use crate::links::{link_len, next_place};
-use crate::place::{Place, ReadRefused, Unread};
+use crate::place::{Place, ReadRefused};
 use crate::window::{SizedFile, Window};
 use board_core::Board;
 use journal_format::CHECKPOINT_PLACE;
@@ -40,20 +40,16 @@ fn hold_link<B: Board>(
     window: &mut Window,
     board: &mut B,
 ) -> Result<(), ReadRefused>
-    requires covers { Covers file gate (B.told board.old) window.old }
-    ensures covers { OnOk result (Covers file gate (B.told board.new) window.new) }
-    ensures held { OnOk result (IfSome (B.told board.old)
+    requires covers { Covers file gate (B.seen board.old).told window.old }
+    ensures covers { OnOk result (Covers file gate (B.seen board.new).told window.new) }
+    ensures held { OnOk result (IfSome (B.seen board.old).told
         (λ t. LinkHeld (end_of window.new - gate) (drop gate (file_of file.no t)))) }
     ensures unread { IfErr result IsNoDamage }
-    ensures looks { Looks read_failure result
-        (ReadsPart file.no (end_of window.old) (end_of window.new))
-        (B.told board.old) (B.clock board.old) (B.faults board.old)
-        (B.told board.new) (B.clock board.new) (B.faults board.new) }
+    ensures looks { Looks (read_end result)
+        (λ t. ReadsPart file.no (end_of window.old) (end_of window.new))
+        (B.seen board.old) (B.seen board.new) }
 {
-    match window.hold(file, gate, GATE_AND_COUNT, board) {
-        Ok(()) => {}
-        Err(refused) => return Err(refused),
-    }
+    window.hold(file, gate, GATE_AND_COUNT, board)?;
     let Some(count) = link_len(window.rest(gate)) else {
         return Ok(());
     };
@@ -74,23 +70,19 @@ fn next_in<B: Board>(
     board: &mut B,
 ) -> Result<Option<Place>, ReadRefused>
     requires links { place.links + 1 < 2 ^ 64 }
-    requires covers { Covers file place.gate (B.told board.old) window.old }
-    ensures read { IfSome (B.told board.old)
+    requires covers { Covers file place.gate (B.seen board.old).told window.old }
+    ensures read { IfSome (B.seen board.old).told
         (λ t. IsAnswer (λ next. option_map (λ p. front_at p account.new.state) next) result
         (next_front (front_at place account.old.state) (file_of file.no t))) }
     ensures closed { result ≡ Ok None
         → (account.new.state ≡ account.old.state) × (place.gate < end_of window.new) }
     ensures next { IfOk result (λ next. IfSome next (λ p. (p.links ≡ place.links + 1)
-        × Covers file p.gate (B.told board.new) window.new)) }
-    ensures looks { Looks read_failure result
-        (ReadsPart file.no (end_of window.old) (end_of window.new))
-        (B.told board.old) (B.clock board.old) (B.faults board.old)
-        (B.told board.new) (B.clock board.new) (B.faults board.new) }
+        × Covers file p.gate (B.seen board.new).told window.new)) }
+    ensures looks { Looks (read_end result)
+        (λ t. ReadsPart file.no (end_of window.old) (end_of window.new))
+        (B.seen board.old) (B.seen board.new) }
 {
-    match hold_link(file, place.gate, window, board) {
-        Ok(()) => {}
-        Err(refused) => return Err(refused),
-    }
+    hold_link(file, place.gate, window, board)?;
     let here = Place { gate: 0, ..place };
     match next_place(alloc, here, account, window.rest(place.gate)) {
         Ok(Some(next)) => Ok(Some(Place {
@@ -98,8 +90,10 @@ fn next_in<B: Board>(
             ..next
         })),
         Ok(None) => Ok(None),
-        Err(Unread::Damaged(at)) => Err(ReadRefused::Damaged(place.gate.saturating_add(at))),
-        Err(Unread::NoMemory) => Err(ReadRefused::NoMemory),
+        Err(ReadRefused::Damaged(at)) => {
+            Err(ReadRefused::Damaged(place.gate.saturating_add(at)))
+        }
+        Err(refused) => Err(refused),
     }
 }
 
@@ -113,23 +107,21 @@ fn last_in<B: Board>(
     board: &mut B,
 ) -> Result<Place, ReadRefused>
     requires links { first.links ≡ 0 }
-    requires covers { Covers file first.gate (B.told board.old) window.old }
-    ensures read { IfSome (B.told board.old)
+    requires covers { Covers file first.gate (B.seen board.old).told window.old }
+    ensures read { IfSome (B.seen board.old).told
         (λ t. IsAnswer (λ place. front_at place account.new.state) result
         (whole_front (length (file_of file.no t)) (front_at first account.old.state)
         (file_of file.no t))) }
     ensures closed { IfOk result (λ place. place.gate < end_of window.new) }
-    ensures looks { Looks read_failure result
-        (ReadsPart file.no (end_of window.old) (end_of window.new))
-        (B.told board.old) (B.clock board.old) (B.faults board.old)
-        (B.told board.new) (B.clock board.new) (B.faults board.new) }
+    ensures looks { Looks (read_end result)
+        (λ t. ReadsPart file.no (end_of window.old) (end_of window.new))
+        (B.seen board.old) (B.seen board.new) }
 {
     let mut place = first;
     for _ in 0..file.size {
-        match next_in(alloc, file, place, account, window, board) {
-            Ok(Some(next)) => place = next,
-            Ok(None) => return Ok(place),
-            Err(refused) => return Err(refused),
+        match next_in(alloc, file, place, account, window, board)? {
+            Some(next) => place = next,
+            None => return Ok(place),
         }
     }
     Err(ReadRefused::Damaged(place.gate))
@@ -141,20 +133,16 @@ fn hold_front<B: Board>(
     window: &mut Window,
     board: &mut B,
 ) -> Result<(), ReadRefused>
-    requires covers { Covers file 0 (B.told board.old) window.old }
-    ensures covers { OnOk result (Covers file 0 (B.told board.new) window.new) }
-    ensures held { OnOk result (IfSome (B.told board.old)
+    requires covers { Covers file 0 (B.seen board.old).told window.old }
+    ensures covers { OnOk result (Covers file 0 (B.seen board.new).told window.new) }
+    ensures held { OnOk result (IfSome (B.seen board.old).told
         (λ t. FrontHeld (end_of window.new) (file_of file.no t))) }
     ensures unread { IfErr result IsNoDamage }
-    ensures looks { Looks read_failure result
-        (ReadsPart file.no (end_of window.old) (end_of window.new))
-        (B.told board.old) (B.clock board.old) (B.faults board.old)
-        (B.told board.new) (B.clock board.new) (B.faults board.new) }
+    ensures looks { Looks (read_end result)
+        (λ t. ReadsPart file.no (end_of window.old) (end_of window.new))
+        (B.seen board.old) (B.seen board.new) }
 {
-    match window.hold(file, 0, CHECKPOINT_PLACE, board) {
-        Ok(()) => {}
-        Err(refused) => return Err(refused),
-    }
+    window.hold(file, 0, CHECKPOINT_PLACE, board)?;
     let Some(count) = front_len(window.rest(0)) else {
         return Ok(());
     };
@@ -174,25 +162,21 @@ fn first_in<B: Board>(
     window: &mut Window,
     board: &mut B,
 ) -> Result<FileRead, ReadRefused>
-    requires covers { Covers file 0 (B.told board.old) window.old }
-    ensures begun { IfOk result (λ r. IfSome (B.told board.old)
+    requires covers { Covers file 0 (B.seen board.old).told window.old }
+    ensures begun { IfOk result (λ r. IfSome (B.seen board.old).told
         (λ t. IsBegun taken (file_of file.no t)
         (option_map (λ p. front_at p.0 p.1.state) r.front))) }
-    ensures broken { IfErr result (λ refused. IfSome (B.told board.old)
+    ensures broken { IfErr result (λ refused. IfSome (B.seen board.old).told
         (λ t. IsBroken taken (file_of file.no t) refused)) }
-    ensures shut { IfOk result (λ r. IfSome (B.told board.old)
+    ensures shut { IfOk result (λ r. IfSome (B.seen board.old).told
         (λ t. r.shut ≡ is_shut (file_of file.no t))) }
     ensures front { IfOk result (λ r. IfSome r.front (λ p. (p.0.links ≡ 0)
-        × Covers file p.0.gate (B.told board.new) window.new)) }
-    ensures looks { Looks read_failure result
-        (ReadsPart file.no (end_of window.old) (end_of window.new))
-        (B.told board.old) (B.clock board.old) (B.faults board.old)
-        (B.told board.new) (B.clock board.new) (B.faults board.new) }
+        × Covers file p.0.gate (B.seen board.new).told window.new)) }
+    ensures looks { Looks (read_end result)
+        (λ t. ReadsPart file.no (end_of window.old) (end_of window.new))
+        (B.seen board.old) (B.seen board.new) }
 {
-    match hold_front(file, window, board) {
-        Ok(()) => {}
-        Err(refused) => return Err(refused),
-    }
+    hold_front(file, window, board)?;
     let front = window.rest(0);
     if !has_open_gate(front) {
         return Ok(FileRead {
@@ -200,14 +184,11 @@ fn first_in<B: Board>(
             front: None,
         });
     }
-    match first_place(alloc, taken, before, front) {
-        Ok(first) => Ok(FileRead {
-            shut: false,
-            front: Some(first),
-        }),
-        Err(Unread::Damaged(at)) => Err(ReadRefused::Damaged(at)),
-        Err(Unread::NoMemory) => Err(ReadRefused::NoMemory),
-    }
+    let first = first_place(alloc, taken, before, front)?;
+    Ok(FileRead {
+        shut: false,
+        front: Some(first),
+    })
 }
 
 // Returns the position at the closed gate that ends the chain of a file, and the account there, if
@@ -221,29 +202,23 @@ pub(crate) fn read_file<B: Board>(
     board: &mut B,
 ) -> Result<FileRead, ReadRefused>
     requires short { file.size ≤ LONGEST_FILE }
-    requires size { IfSome (B.told board.old) (λ t. file.size ≡ length (file_of file.no t)) }
-    ensures read { IfSome (B.told board.old)
+    requires size { IfSome (B.seen board.old).told (λ t. file.size ≡ length (file_of file.no t)) }
+    ensures read { IfSome (B.seen board.old).told
         (λ t. IsAnswer (λ r. option_map (λ p. front_at p.0 p.1.state) r.front) result
         (front_of taken (file_of file.no t))) }
-    ensures shut { IfOk result (λ r. IfSome (B.told board.old)
+    ensures shut { IfOk result (λ r. IfSome (B.seen board.old).told
         (λ t. r.shut ≡ is_shut (file_of file.no t))) }
-    ensures looks { LooksAt read_failure result (λ t. ReadsStanding file.no (file_of file.no t))
-        (B.told board.old) (B.clock board.old) (B.faults board.old)
-        (B.told board.new) (B.clock board.new) (B.faults board.new) }
+    ensures looks { Looks (read_end result) (λ t. ReadsStanding file.no (file_of file.no t))
+        (B.seen board.old) (B.seen board.new) }
 {
     let mut window = Window::new(alloc);
-    let FileRead { shut, front } = match first_in(alloc, taken, before, file, &mut window, board) {
-        Ok(begun) => begun,
-        Err(refused) => return Err(refused),
-    };
+    let FileRead { shut, front } = first_in(alloc, taken, before, file, &mut window, board)?;
     let Some((first, mut account)) = front else {
         return Ok(FileRead { shut, front: None });
     };
-    match last_in(alloc, file, first, &mut account, &mut window, board) {
-        Ok(place) => Ok(FileRead {
-            shut,
-            front: Some((place, account)),
-        }),
-        Err(refused) => Err(refused),
-    }
+    let place = last_in(alloc, file, first, &mut account, &mut window, board)?;
+    Ok(FileRead {
+        shut,
+        front: Some((place, account)),
+    })
 }

@@ -2,12 +2,12 @@
 ghost use Rattle.std.specs.Prelude.{◌≡◌, ◌+◌, ◌-◌, ◌≤◌, [], length, drop, min, IfSome, IfErr, OnOk};
 ghost use Rattle.board_core.specs.Told.{file_of};
 ghost use Rattle.ras_journal.specs.declared.limits.TheConstants.{LONGEST_FILE};
-ghost use Rattle.ras_recover.specs.Steps.Looking.{ReadsPart};
-ghost use Rattle.ras_recover.specs.Steps.Windows.{Covers, end_of, IsNoDamage, Looks, read_failure};
+ghost use Rattle.ras_recover.specs.Steps.Looking.{Looks, ReadsPart};
+ghost use Rattle.ras_recover.specs.Steps.Windows.{Covers, end_of, IsNoDamage, read_end};
 
 use crate::place::ReadRefused;
-use board_core::{Board, Failed, FileNo};
-use std::alloc::{AllocError, Global};
+use board_core::{Board, FileNo};
+use std::alloc::Global;
 
 /// How many bytes are read at once, unless the file has fewer or more are needed.
 const BLOCK: usize = 65_536;
@@ -57,27 +57,20 @@ impl Window {
     ) -> Result<(), ReadRefused>
         requires within { place + count ≤ file.size }
         requires short { file.size ≤ LONGEST_FILE }
-        requires size { IfSome (B.told board.old) (λ t. file.size ≡ length (file_of file.no t)) }
-        ensures covers { OnOk result (Covers file place (B.told board.new) self.new) }
+        requires size { IfSome (B.seen board.old).told (λ t. file.size ≡ length (file_of file.no t)) }
+        ensures covers { OnOk result (Covers file place (B.seen board.new).told self.new) }
         ensures within { OnOk result (end_of self.new ≤ place + count) }
-        ensures all { OnOk result (IfSome (B.told board.old)
+        ensures all { OnOk result (IfSome (B.seen board.old).told
             (λ t. end_of self.new ≡ place + count)) }
         ensures unread { IfErr result IsNoDamage }
-        ensures looks { Looks read_failure result (ReadsPart file.no place (place + count))
-            (B.told board.old) (B.clock board.old) (B.faults board.old)
-            (B.told board.new) (B.clock board.new) (B.faults board.new) }
+        ensures looks { Looks (read_end result) (λ t. ReadsPart file.no place (place + count))
+            (B.seen board.old) (B.seen board.new) }
     {
-        if let Err(AllocError) = self.bytes.resize(count, 0) {
-            return Err(ReadRefused::NoMemory);
-        }
+        self.bytes.resize(count, 0)?;
         self.start = place;
-        match board.read_at(file.no, place as u64, &mut self.bytes) {
-            Ok(read) => {
-                self.bytes.truncate(read);
-                Ok(())
-            }
-            Err(Failed) => Err(ReadRefused::Disk),
-        }
+        let read = board.read_at(file.no, place as u64, &mut self.bytes)?;
+        self.bytes.truncate(read);
+        Ok(())
     }
 
     // Buffers `count` bytes from an offset on, or up to the end of the file. Reads only what isn't
@@ -89,15 +82,14 @@ impl Window {
         count: usize,
         board: &mut B,
     ) -> Result<(), ReadRefused>
-        requires covers { Covers file place (B.told board.old) self.old }
-        ensures covers { OnOk result (Covers file place (B.told board.new) self.new) }
-        ensures held { OnOk result (IfSome (B.told board.old)
+        requires covers { Covers file place (B.seen board.old).told self.old }
+        ensures covers { OnOk result (Covers file place (B.seen board.new).told self.new) }
+        ensures held { OnOk result (IfSome (B.seen board.old).told
             (λ t. min (place + count) file.size ≤ end_of self.new)) }
         ensures unread { IfErr result IsNoDamage }
-        ensures looks { Looks read_failure result
-            (ReadsPart file.no (end_of self.old) (end_of self.new))
-            (B.told board.old) (B.clock board.old) (B.faults board.old)
-            (B.told board.new) (B.clock board.new) (B.faults board.new) }
+        ensures looks { Looks (read_end result)
+            (λ t. ReadsPart file.no (end_of self.old) (end_of self.new))
+            (B.seen board.old) (B.seen board.new) }
     {
         let left = file.size - place;
         let wanted = count.min(left);

@@ -1,9 +1,9 @@
 -- What calls of the device leave as it is, and the clears of a poll.
-use Rattle.std.proofs.Common.{◌≡◌, ◌∙◌, ℕ, Bool, true, false, ◌&&◌, not, nat_eq, List, [], ◌∷◌, length, refl, sym, ap, subst, inl, inr, arith}
+use Rattle.std.proofs.Common.{◌≡◌, ◌∙◌, ℕ, Bool, true, false, ◌&&◌, not, nat_eq, List, [], ◌∷◌, length, Some, refl, sym, ap, subst, inl, inr, arith}
 use Rattle.std.proofs.lemmas.Bool.Decides.{nat_tests}
 use Rattle.erst_store.specs.DeviceLaws.{IsDevice}
 use Rattle.erst_store.specs.Store.{Stored}
-use Rattle.board_core.specs.Doing.{DeviceCall, Moment, TornDevice, after_device, calls_of, put, range_read, range_write, reg_read, reg_write}
+use Rattle.board_core.specs.Doing.{DeviceCall, Moment, Tears, after_device, calls_of, device, put, range_read, range_write, reg_read, reg_write}
 use Rattle.board_core.specs.Stop.{InStore, Left}
 use Rattle.board_core.specs.Told.{Told, device_of}
 use Rattle.erst_interp.specs.declared.entries.InstructionEntry.{InstructionEntry}
@@ -30,7 +30,7 @@ same_leaves here left same = same ∙ ap (λ (s : List Stored). record here { st
 torn_leaves : (Step : List Stored → List Stored → Type 0) (here left : Left) → InStore Step here left → left ≡ record here { store = left.store }
 torn_leaves Step here left by = by.rest ∙ ap (λ (s : List Stored). record here { store = s }) (sym (ap (λ (l : Left). l.store) by.rest))
 
-call_leaves : (call : DeviceCall) (t : Told) (left : Left) → TornDevice call t left → left ≡ record t.here { store = left.store }
+call_leaves : (call : DeviceCall) (t : Told) (left : Left) → Tears (device call) (Some t) t.here left → left ≡ record t.here { store = left.store }
 call_leaves (reg_read reg) t left same = same_leaves t.here left same
 call_leaves (reg_write reg value) t left torn = torn_leaves _ t.here left torn
 call_leaves (range_read place count) t left same = same_leaves t.here left same

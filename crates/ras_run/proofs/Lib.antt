@@ -1,3 +1,4 @@
+pub mod KeepingLemmas
 pub mod StoreLemmas
 pub mod AdmittedLemmas
 pub mod DrivenLemmas

@@ -15,8 +15,8 @@ use Rattle.journal_format.specs.Links.{link_bytes}
 use Rattle.ras_journal.specs.declared.standing.Standing.{Standing}
 use Rattle.ras_journal.specs.File.{AreLinksFew}
 use Rattle.ras_journal.specs.Recovered.{HasFewLinks, IsAt}
-use Rattle.ras_ledger.specs.Keeping.{lacks_room}
-use Rattle.ras_ledger.proofs.KeepingLemmas.{keeping_few, keeping_few_done}
+use Rattle.ras_run.specs.Keeping.{lacks_room}
+use Rattle.ras_run.proofs.KeepingLemmas.{keeping_few, keeping_few_done}
 use Rattle.ras_texts.specs.Orders.{standing_lines}
 use Rattle.ras_texts.specs.Text.{done_line}
 use Rattle.ras_events.specs.declared.event.Event.{Event}

@@ -17,8 +17,8 @@ use Rattle.journal_format.specs.Links.{link_bytes}
 use Rattle.ras_journal.specs.declared.standing.Standing.{Standing}
 use Rattle.ras_journal.specs.Appending.{Links}
 use Rattle.ras_journal.specs.Recovered.{IsAt, Recovers}
-use Rattle.ras_ledger.specs.Keeping.{lacks_room}
-use Rattle.ras_ledger.proofs.KeepingLemmas.{keeping_ends, keeping_leaves}
+use Rattle.ras_run.specs.Keeping.{lacks_room}
+use Rattle.ras_run.proofs.KeepingLemmas.{keeping_ends, keeping_leaves}
 use Rattle.ras_events.specs.declared.made.Piece.{Piece}
 use Rattle.ras_events.specs.Making.{entries_in}
 use Rattle.ras_events.specs.Preparing.{event_text_in}

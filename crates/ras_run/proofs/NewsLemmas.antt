@@ -12,7 +12,7 @@ use Rattle.journal_format.specs.declared.link.TheConstants.{MOST_LINK_ENTRIES, M
 use Rattle.journal_format.specs.Links.{CanLink, link_bytes, payload_bytes}
 use Rattle.ras_journal.specs.declared.standing.Standing.{Standing}
 use Rattle.ras_journal.specs.Appending.{Links}
-use Rattle.ras_ledger.specs.Keeping.{keeping_acts}
+use Rattle.ras_run.specs.Keeping.{keeping_acts}
 use Rattle.ras_events.specs.declared.preparing.News.{News}
 use Rattle.ras_events.specs.declared.made.Piece.{Piece}
 use Rattle.ras_events.specs.Making.{entries_in}

@@ -18,7 +18,7 @@ use Rattle.erst_driver.specs.Answers.{AnswersAs, DoesListing, IsAnswered, driver
 use Rattle.erst_driver.specs.Operations.{clear_calls}
 use Rattle.erst_driver.proofs.DoesLemmas.{at_told}
 use Rattle.ras_account.specs.Account.{State}
-use Rattle.ras_ledger.specs.declared.ledger.Ledger.{Ledger}
+use Rattle.ras_run.specs.declared.ledger.Ledger.{Ledger}
 use Rattle.ras_journal.specs.declared.standing.Standing.{Standing}
 use Rattle.ras_events.specs.declared.made.Piece.{Piece}
 use Rattle.ras_events.specs.Events.{Lists}

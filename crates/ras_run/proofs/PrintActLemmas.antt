@@ -21,8 +21,8 @@ use Rattle.ras_journal.specs.Appending.{needs_switch}
 use Rattle.ras_journal.specs.declared.limits.TheConstants.{LONGEST_FILE}
 use Rattle.ras_recover.specs.Switching.{CanSwitch, has_no_room}
 use Rattle.journal_format.specs.Links.{link_bytes}
-use Rattle.ras_ledger.specs.Keeping.{CanMake, lacks_room}
-use Rattle.ras_ledger.proofs.KeepingLemmas.{is_keeping, keeping_on_disk}
+use Rattle.ras_run.specs.Keeping.{CanMake, lacks_room}
+use Rattle.ras_run.proofs.KeepingLemmas.{is_keeping, keeping_on_disk}
 use Rattle.ras_texts.specs.Text.{done_line}
 use Rattle.ras_exit.specs.Acts.{print_acts}
 use Rattle.ras_exit.proofs.PrintLemmas.{after_printed}

@@ -12,10 +12,10 @@ use Rattle.ras_account.specs.Account.{State}
 use Rattle.ras_journal.specs.declared.standing.Standing.{Standing}
 use Rattle.ras_journal.specs.Appending.{Before}
 use Rattle.ras_journal.specs.Recovered.{IsAt}
-use Rattle.ras_ledger.specs.Keeping.{Stands}
+use Rattle.ras_run.specs.Keeping.{Stands}
 use Rattle.ras_exit.specs.Acts.{part_end, print_acts}
 use Rattle.ras_exit.specs.declared.exit.Exit.{Exit}
-use Rattle.ras_ledger.specs.declared.ledger.Ledger.{Ledger}
+use Rattle.ras_run.specs.declared.ledger.Ledger.{Ledger}
 use Rattle.ras_records.proofs.ClearingLemmas.{calls_keep}
 use Rattle.ras_run.specs.Taking.{IsReady}
 

@@ -1,3 +1,5 @@
+pub mod Keeping
+pub mod KeepingCalls
 pub mod Files
 pub mod Places
 pub mod Step

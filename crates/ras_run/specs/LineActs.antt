@@ -16,8 +16,8 @@ use Rattle.ras_facts.specs.declared.entry.Entry.{Entry}
 use Rattle.ras_journal.specs.declared.standing.Standing.{Standing}
 use Rattle.ras_journal.specs.Recovered.{IsAt}
 use Rattle.ras_recover.specs.OpeningCalls.{IsRecoveryOf}
-use Rattle.ras_ledger.specs.declared.ledger.Ledger.{Ledger}
-use Rattle.ras_ledger.specs.Keeping.{keeping_acts}
+use Rattle.ras_run.specs.declared.ledger.Ledger.{Ledger}
+use Rattle.ras_run.specs.Keeping.{keeping_acts}
 use Rattle.ras_events.specs.declared.event.Event.{Event}
 use Rattle.ras_events.specs.declared.event.Event.TheVariants.{Settled, Counted, Put, Saved, Polled, Reopened}
 use Rattle.ras_events.specs.declared.event.LineRefusal.{LineRefusal}

@@ -6,7 +6,7 @@ use Rattle.journal_format.specs.Links.{link_bytes}
 use Rattle.ras_account.specs.Numbers.{fresh_entries_in}
 use Rattle.ras_facts.specs.declared.entry.Entry.{Entry}
 use Rattle.ras_recover.specs.OpeningCalls.{IsRecoveryOf}
-use Rattle.ras_ledger.specs.KeepingCalls.{IsKeeping}
+use Rattle.ras_run.specs.KeepingCalls.{IsKeeping}
 use Rattle.ras_events.specs.declared.event.Event.{Event}
 use Rattle.ras_events.specs.declared.event.Event.TheVariants.{Counted, Polled, Reopened}
 use Rattle.ras_events.specs.declared.event.LineRefusal.{LineRefusal}

@@ -10,7 +10,7 @@ use Rattle.ras_account.specs.Continued.{account_after_all}
 use Rattle.ras_account.specs.Numbers.{are_past, fresh_entries_in, numbers_with}
 use Rattle.journal_format.specs.Links.{link_bytes}
 use Rattle.ras_journal.specs.declared.standing.Standing.{Standing}
-use Rattle.ras_ledger.specs.Keeping.{lacks_room, standing_kept}
+use Rattle.ras_run.specs.Keeping.{lacks_room, standing_kept}
 use Rattle.ras_events.specs.declared.made.Piece.{Piece}
 use Rattle.ras_events.specs.Making.{polled}
 use Rattle.ras_events.specs.Reports.{NumberedLine, Place, entries_at, reports, settings_told}

@@ -15,8 +15,8 @@ use Rattle.ras_journal.specs.Recovered.{Refusal, recovered}
 use Rattle.ras_recover.specs.declared.refused.OpenRefused.{OpenRefused}
 use Rattle.ras_recover.specs.declared.refused.OpenRefused.TheVariants as opening
 use Rattle.ras_recover.specs.Opening.{standing_opened}
-use Rattle.ras_ledger.specs.declared.ledger.Ledger.{Ledger}
-use Rattle.ras_ledger.specs.Keeping.{Stands}
+use Rattle.ras_run.specs.declared.ledger.Ledger.{Ledger}
+use Rattle.ras_run.specs.Keeping.{Stands}
 use Rattle.ras_events.specs.declared.preparing.News.{News}
 use Rattle.ras_events.specs.declared.made.Piece.{Piece}
 use Rattle.ras_events.specs.Making.{entries_in}

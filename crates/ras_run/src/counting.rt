@@ -1,7 +1,7 @@
 //! An event that counts what was made of its line.
 
 ghost use Rattle.std.specs.Prelude.{◌≡◌, ◌++◌, IfErr, IfOk, IfSome, OnOk};
-ghost use Rattle.board_core.specs.Doing.{Does, looks};
+ghost use Rattle.board_core.specs.Doing.{Does};
 ghost use Rattle.ras_account.specs.Continued.{account_after_all};
 ghost use Rattle.ras_events.specs.Preparing.{CanTake};
 ghost use Rattle.ras_events.specs.Preparing.{news_entries, orders_along_entries};
@@ -16,10 +16,11 @@ ghost use Rattle.ras_texts.specs.OrderRoom.{HasOrderRoom};
 ghost use Rattle.ras_texts.specs.Orders.{order_lines};
 ghost use Rattle.ras_texts.specs.Text.{done_line};
 
+use crate::Ledger;
+use crate::refused::KeepRefused;
 use board_core::Board;
 use ras_events::{Made, News, PrepareRefused, Prepared, count, prepare};
 use ras_exit::{Exit, print};
-use ras_ledger::{KeepRefused, Ledger};
 use std::alloc::Global;
 
 /// Counts what was made of the line of this number: all memory is taken first, then the news are
@@ -38,15 +39,16 @@ pub fn take_made<B: Board>(
     board: &mut B,
 ) -> Result<(), Exit>
     requires fit { IsFit made }
-    requires ready { IsReady ledger.old (B.told board.old) (B.clock board.old) }
+    requires ready { IsReady ledger.old (B.seen board.old).told (B.seen board.old).clock }
 
     ensures counts { CountsMade made result ledger.old ledger.new }
-    ensures does { Does (looks B.told B.clock B.faults)
+    ensures does { Does B.seen
         (made_acts ledger.old.account.state number ledger.old.journal.standing made)
         (part_end result) board.old board.new }
-    ensures ready { OnOk result (IsReady ledger.new (B.told board.new) (B.clock board.new)) }
+    ensures ready { OnOk result
+        (IsReady ledger.new (B.seen board.new).told (B.seen board.new).clock) }
     ensures stop { IfErr result IsStop }
-    ensures faults { Causes BoardCause result (B.faults board.old) (B.faults board.new) }
+    ensures faults { Causes BoardCause result (B.seen board.old).faults (B.seen board.new).faults }
 {
     let done = tell_made(alloc, number, made, ledger, board)?;
     print(&done, board)
@@ -67,13 +69,14 @@ pub(crate) fn tell_made<B: Board>(
     board: &mut B,
 ) -> Result<Vec<u8>, Exit>
     requires fit { IsFit made }
-    requires ready { IsReady ledger.old (B.told board.old) (B.clock board.old) }
+    requires ready { IsReady ledger.old (B.seen board.old).told (B.seen board.old).clock }
 
     ensures counts { CountsMade made result ledger.old ledger.new }
-    ensures does { Does (looks B.told B.clock B.faults)
+    ensures does { Does B.seen
         (told_acts ledger.old.account.state ledger.old.journal.standing made)
         (part_end result) board.old board.new }
-    ensures ready { OnOk result (IsReady ledger.new (B.told board.new) (B.clock board.new)) }
+    ensures ready { OnOk result
+        (IsReady ledger.new (B.seen board.new).told (B.seen board.new).clock) }
     ensures done { IfOk result (λ done. done.items ≡ done_line number) }
 {
     let Prepared {
@@ -99,19 +102,20 @@ fn keep<B: Board>(
     ledger: &mut Ledger,
     board: &mut B,
 ) -> Result<(), Exit>
-    requires ready { IsReady ledger.old (B.told board.old) (B.clock board.old) }
+    requires ready { IsReady ledger.old (B.seen board.old).told (B.seen board.old).clock }
     requires can_take { IfSome news (CanTake ledger.old.account) }
     requires can_keep { IfSome news CanBeKept }
     requires room { IfSome news (λ news. HasOrderRoom news.orders.room text.old) }
 
     ensures counts { CountsNews (news_entries news) result ledger.old ledger.new }
-    ensures does { Does (looks B.told B.clock B.faults)
+    ensures does { Does B.seen
         (news_acts ledger.old.journal.standing ledger.old.account.state (news_entries news))
         (part_end result) board.old board.new }
     ensures text { OnOk result (text.new.items ≡ text.old.items
         ++ order_lines (account_after_all ledger.old.account.state (news_entries news)).modules
         (orders_along_entries ledger.old.account.state (news_entries news))) }
-    ensures ready { OnOk result (IsReady ledger.new (B.told board.new) (B.clock board.new)) }
+    ensures ready { OnOk result
+        (IsReady ledger.new (B.seen board.new).told (B.seen board.new).clock) }
 {
     let Some(news) = news else {
         return Ok(());

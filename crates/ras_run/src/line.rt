@@ -2,7 +2,7 @@
 
 ghost use Rattle.std.specs.Prelude.{◌≡◌, ◌≤◌, ◌++◌, List, false, length, None, Some};
 ghost use Rattle.std.specs.Prelude.{IfErr, MatchResult, OnOk};
-ghost use Rattle.board_core.specs.Doing.{Does, looks};
+ghost use Rattle.board_core.specs.Doing.{Does};
 ghost use Rattle.board_core.specs.Told.{Told};
 ghost use Rattle.ras_events.specs.Reports.{NumberedLine};
 ghost use Rattle.ras_script.specs.Line.{line_of};
@@ -21,19 +21,18 @@ ghost use Rattle.ras_run.specs.Taking.{IsPrintExit, IsReady, IsRunAfter, LedgerS
 ghost use Rattle.ras_run.specs.Taking.{Reopens, TakesLine};
 ghost use Rattle.ras_texts.specs.Text.{known_line};
 
-use crate::Run;
 use crate::counting::take_made;
 use crate::opening::open;
 use crate::polling::poll_store;
 use crate::printing::print_event;
 use crate::putting::{put_record, save_record};
+use crate::{Ledger, Run};
 use board_core::Board;
 use erst_driver::Driver;
 use ras_account::Account;
 use ras_events::{Event, EventRefused, LineRefusal, Settings};
 use ras_exit::Exit;
 use ras_facts::Name;
-use ras_ledger::Ledger;
 use ras_script::{Line, read_line};
 use ras_texts::{done_line, push_done, push_known, standing_lines};
 use std::alloc::Global;
@@ -58,19 +57,19 @@ pub fn take_line<B: Board>(
     board: &mut B,
 ) -> Result<(), Exit>
     requires short { length bytes.now ≤ LONGEST_LINE }
-    requires ready { IsReady run.old.ledger (B.told board.old) (B.clock board.old) }
+    requires ready { IsReady run.old.ledger (B.seen board.old).told (B.seen board.old).clock }
 
     ensures takes { (start : Start) (before : List NumberedLine) → IsRunAfter start before run.old
-        → (t : Told) → B.told board.old ≡ Some t → IsBoardAfter start before t
+        → (t : Told) → (B.seen board.old).told ≡ Some t → IsBoardAfter start before t
         → TakesLine start (before, (number, line_of bytes.now)) result run.new }
     ensures does { (start : Start) (before : List NumberedLine) → IsRunAfter start before run.old
-        → (t : Told) → B.told board.old ≡ Some t → IsBoardAfter start before t
-        → DoesLine (looks B.told B.clock B.faults) start (before, (number, line_of bytes.now))
+        → (t : Told) → (B.seen board.old).told ≡ Some t → IsBoardAfter start before t
+        → DoesLine B.seen start (before, (number, line_of bytes.now))
         t result board.old board.new }
     ensures ready { OnOk result
-        (IsReady run.new.ledger (B.told board.new) (B.clock board.new)) }
+        (IsReady run.new.ledger (B.seen board.new).told (B.seen board.new).clock) }
     ensures stop { IfErr result IsStop }
-    ensures faults { Causes BoardCause result (B.faults board.old) (B.faults board.new) }
+    ensures faults { Causes BoardCause result (B.seen board.old).faults (B.seen board.new).faults }
 {
     match read_line(alloc, bytes) {
         // Most lines of a long script may be comments, so these come no further.
@@ -90,17 +89,18 @@ fn take_read<B: Board>(
 ) -> Result<(), Exit>
     requires range { IsInRange line }
     requires short { IsShortLine line }
-    requires ready { IsReady run.old.ledger (B.told board.old) (B.clock board.old) }
+    requires ready { IsReady run.old.ledger (B.seen board.old).told (B.seen board.old).clock }
 
-    ensures takes { (t : Told) → B.told board.old ≡ Some t → IsDrivable run.old.settings.driver
+    ensures takes { (t : Told) → (B.seen board.old).told ≡ Some t → IsDrivable
+        run.old.settings.driver
         → let site = site_of run.old t in
-        TakesEvent (looks B.told B.clock B.faults) site number
+        TakesEvent B.seen site number
         (settings_after site.settings line) (event_of site.settings line) t result
         run.new board.old board.new }
     ensures ready { OnOk result
-        (IsReady run.new.ledger (B.told board.new) (B.clock board.new)) }
+        (IsReady run.new.ledger (B.seen board.new).told (B.seen board.new).clock) }
     ensures stop { IfErr result IsStop }
-    ensures faults { Causes BoardCause result (B.faults board.old) (B.faults board.new) }
+    ensures faults { Causes BoardCause result (B.seen board.old).faults (B.seen board.new).faults }
 {
     if let Some(name) = run.settings.repeat_of(&line, &run.ledger.account) {
         return end_repeat(number, &name, &run.ledger.account, &mut run.text, board);
@@ -167,7 +167,7 @@ fn end_repeat<B: Board>(
     text: &mut Vec<u8>,
     board: &mut B,
 ) -> Result<(), Exit>
-    ensures does { Does (looks B.told B.clock B.faults)
+    ensures does { Does B.seen
         (event_prints (known_line account.now.state name.now) number) (part_end result)
         board.old board.new }
     ensures exit { IfErr result IsPrintExit }
@@ -183,7 +183,7 @@ fn end_repeat<B: Board>(
 // Prints what an event prints that keeps nothing: its text, which is empty if its line told of the
 // machine alone, and its done line, by the number of the line.
 fn end_event<B: Board>(alloc: Global, number: u64, text: &[u8], board: &mut B) -> Result<(), Exit>
-    ensures does { Does (looks B.told B.clock B.faults) (event_prints text.now number)
+    ensures does { Does B.seen (event_prints text.now number)
         (part_end result) board.old board.new }
     ensures exit { IfErr result IsPrintExit }
 {
@@ -200,15 +200,16 @@ fn reopen<B: Board>(
     ledger: &mut Ledger,
     board: &mut B,
 ) -> Result<(), Exit>
-    requires stands { LedgerStands ledger.old (B.told board.old) (B.clock board.old) }
-    ensures reopens { (t : Told) → B.told board.old ≡ Some t
+    requires stands { LedgerStands ledger.old (B.seen board.old).told (B.seen board.old).clock }
+    ensures reopens { (t : Told) → (B.seen board.old).told ≡ Some t
         → Reopens result ledger.old ledger.new }
-    ensures does { (t : Told) → B.told board.old ≡ Some t
-        → DoesReopening (looks B.told B.clock B.faults) ledger.old.account.state number t.here
+    ensures does { (t : Told) → (B.seen board.old).told ≡ Some t
+        → DoesReopening B.seen ledger.old.account.state number t.here
         result board.old board.new }
-    ensures ready { OnOk result (IsReady ledger.new (B.told board.new) (B.clock board.new)) }
+    ensures ready { OnOk result
+        (IsReady ledger.new (B.seen board.new).told (B.seen board.new).clock) }
     ensures stop { IfErr result IsStop }
-    ensures faults { Causes BoardCause result (B.faults board.old) (B.faults board.new) }
+    ensures faults { Causes BoardCause result (B.seen board.old).faults (B.seen board.new).faults }
 {
     *ledger = open(alloc, board)?;
     let text = standing_lines(alloc, &ledger.account)?;

@@ -2,7 +2,7 @@
 
 ghost use Rattle.std.specs.Prelude.{◌≡◌, IfErr, Some};
 ghost use Rattle.board_core.specs.Clock.{Adds};
-ghost use Rattle.board_core.specs.Doing.{Does, looks};
+ghost use Rattle.board_core.specs.Doing.{Does};
 ghost use Rattle.board_core.specs.Told.{Told};
 ghost use Rattle.ras_recover.specs.Opening.{Opening};
 ghost use Rattle.ras_recover.specs.OpeningActs.{DoesOpening};
@@ -12,10 +12,10 @@ ghost use Rattle.ras_exit.specs.Acts.{part_end, print_acts};
 ghost use Rattle.ras_exit.specs.Endings.{OnAnswer};
 ghost use Rattle.ras_run.specs.Taking.{EndsOpening, IsPrintExit, Opened, unopened_exit};
 
+use crate::Ledger;
 use board_core::Board;
 use ras_account::Account;
 use ras_exit::{Exit, print};
-use ras_ledger::Ledger;
 use ras_recover::{OpenRefused, open_journal};
 use ras_texts::standing_lines;
 use std::alloc::Global;
@@ -27,16 +27,19 @@ use std::alloc::Global;
 /// `TooLong` and `Damaged` come exactly if the files' bytes say so, `DiskFault` only if a disk call
 /// failed, and `NoMemory` only if memory runs out.
 pub fn open<B: Board>(alloc: Global, board: &mut B) -> Result<Ledger, Exit>
-    ensures opens { Opened result (B.told board.old) (B.told board.new) (B.clock board.new) }
+    ensures opens { Opened result (B.seen board.old).told (B.seen board.new).told
+        (B.seen board.new).clock }
     ensures does { DoesOpening (λ exit. exit ≡ Exit.DiskFault) result
-        (B.told board.old) (B.told board.new) }
-    ensures stops { (t : Told) → B.told board.old ≡ Some t
-        → Adds (Opening (B.clock board.old) t.here) (B.clock board.old) (B.clock board.new) }
+        (B.seen board.old).told (B.seen board.new).told }
+    ensures stops { (t : Told) → (B.seen board.old).told ≡ Some t
+        → Adds (Opening (B.seen board.old).clock t.here) (B.seen board.old).clock
+        (B.seen board.new).clock }
     // If the files are refused, a stop then leaves just what the board told of them, the store and
     // the text.
-    ensures refused { IfErr result (λ exit. OnAnswer exit ((t : Told) → B.told board.old ≡ Some t
-        → RestsHere t.here (B.told board.new) (B.clock board.new))) }
-    ensures ends { EndsOpening result (B.faults board.old) (B.faults board.new) }
+    ensures refused { IfErr result
+        (λ exit. OnAnswer exit ((t : Told) → (B.seen board.old).told ≡ Some t
+        → RestsHere t.here (B.seen board.new).told (B.seen board.new).clock)) }
+    ensures ends { EndsOpening result (B.seen board.old).faults (B.seen board.new).faults }
 {
     match open_journal(alloc, board) {
         Ok((account, journal)) => Ok(Ledger { account, journal }),
@@ -62,7 +65,7 @@ fn unopened_exit(refused: OpenRefused) -> Exit
 ///
 /// `PrintFault` comes only if printing failed, and `NoMemory` only if memory runs out.
 pub fn print_standing<B: Board>(alloc: Global, account: &Account, board: &mut B) -> Result<(), Exit>
-    ensures does { Does (looks B.told B.clock B.faults)
+    ensures does { Does B.seen
         (print_acts (standing_lines account.now.state)) (part_end result) board.old board.new }
     ensures exit { IfErr result IsPrintExit }
 {

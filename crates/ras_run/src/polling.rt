@@ -1,17 +1,17 @@
 //! A poll of the record store.
 
 ghost use Rattle.std.specs.Prelude.{◌≡◌, Some, IfErr, OnOk};
-ghost use Rattle.board_core.specs.Doing.{looks};
 ghost use Rattle.board_core.specs.Told.{Told};
 ghost use Rattle.erst_interp.specs.Admission.{IsAdmittedTable};
 ghost use Rattle.ras_events.specs.Making.{polled};
 ghost use Rattle.ras_exit.specs.Causes.{BoardCause, Causes};
 ghost use Rattle.ras_exit.specs.Endings.{IsStop};
-ghost use Rattle.ras_ledger.specs.declared.ledger.Ledger.{Ledger};
+ghost use Rattle.ras_run.specs.declared.ledger.Ledger.{Ledger};
 ghost use Rattle.ras_records.specs.Polls.{readable_ids};
 ghost use Rattle.ras_run.specs.LineActs.{DoesPoll};
 ghost use Rattle.ras_run.specs.Taking.{IsReady};
 
+use crate::Ledger;
 use crate::counting::tell_made;
 use crate::driving::driver_exit;
 use board_core::Board;
@@ -19,7 +19,6 @@ use dimm_topology::Topology;
 use erst_driver::Driver;
 use erst_store::RANGE_LENGTH;
 use ras_exit::{Exit, print};
-use ras_ledger::Ledger;
 use ras_records::{Looked, clear_all, look};
 use std::alloc::Global;
 
@@ -43,15 +42,16 @@ pub(crate) fn poll_store<B: Board>(
     ledger: &mut Ledger,
     board: &mut B,
 ) -> Result<(), Exit>
-    requires ready { IsReady ledger.old (B.told board.old) (B.clock board.old) }
+    requires ready { IsReady ledger.old (B.seen board.old).told (B.seen board.old).clock }
 
-    ensures polls { (t : Told) → B.told board.old ≡ Some t → IsAdmittedTable driver.now
-        → DoesPoll (looks B.told B.clock B.faults) driver.now t number
+    ensures polls { (t : Told) → (B.seen board.old).told ≡ Some t → IsAdmittedTable driver.now
+        → DoesPoll B.seen driver.now t number
         (polled topology.now seconds t.here.store) (readable_ids t.here.store)
         result ledger.old ledger.new board.old board.new }
-    ensures ready { OnOk result (IsReady ledger.new (B.told board.new) (B.clock board.new)) }
+    ensures ready { OnOk result
+        (IsReady ledger.new (B.seen board.new).told (B.seen board.new).clock) }
     ensures stop { IfErr result IsStop }
-    ensures faults { Causes BoardCause result (B.faults board.old) (B.faults board.new) }
+    ensures faults { Causes BoardCause result (B.seen board.old).faults (B.seen board.new).faults }
 {
     let mut buffer = Vec::new(alloc);
     if buffer.resize(RANGE_LENGTH, 0).is_err() {

@@ -1,7 +1,7 @@
 //! A record that a line puts into the record store, or saves there.
 
 ghost use Rattle.std.specs.Prelude.{◌≡◌, ◌∷◌, [], None, Some, IfErr, IfSome, OnOk};
-ghost use Rattle.board_core.specs.Doing.{device, looks, put};
+ghost use Rattle.board_core.specs.Doing.{device, put};
 ghost use Rattle.board_core.specs.Told.{Told, device_of};
 ghost use Rattle.erst_driver.specs.Operations.{write_calls};
 ghost use Rattle.erst_interp.specs.Run.{acts_of};
@@ -11,7 +11,7 @@ ghost use Rattle.ras_events.specs.Sizes.{CanBeSaved};
 ghost use Rattle.ras_exit.specs.Acts.{print_acts};
 ghost use Rattle.ras_exit.specs.Causes.{BoardCause, Causes};
 ghost use Rattle.ras_exit.specs.Endings.{IsStop};
-ghost use Rattle.ras_ledger.specs.declared.ledger.Ledger.{Ledger};
+ghost use Rattle.ras_run.specs.declared.ledger.Ledger.{Ledger};
 ghost use Rattle.ras_run.specs.LineActs.{DoesAsking};
 ghost use Rattle.ras_run.specs.Status.{put_refusal, saving_refusal};
 ghost use Rattle.ras_run.specs.Taking.{EndsUnless, IsReady};
@@ -40,17 +40,18 @@ pub(crate) fn put_record<B: Board>(
     bytes: &[u8],
     board: &mut B,
 ) -> Result<(), Exit>
-    ensures ends { IfSome (B.told board.old)
+    ensures ends { IfSome (B.seen board.old).told
         (λ t. EndsUnless (put_refusal number (refusal_of id bytes.now t.here.store)) result) }
-    ensures does { (t : Told) → B.told board.old ≡ Some t
-        → DoesAsking (looks B.told B.clock B.faults) (Unit {0})
+    ensures does { (t : Told) → (B.seen board.old).told ≡ Some t
+        → DoesAsking B.seen (Unit {0})
         (refusal_of id bytes.now t.here.store ≡ None)
         (device (put id bytes.now) ∷ []) (print_acts (done_line number)) result
         board.old board.new }
-    ensures ready { (ledger : Ledger) → IsReady ledger (B.told board.old) (B.clock board.old)
-        → OnOk result (IsReady ledger (B.told board.new) (B.clock board.new)) }
+    ensures ready { (ledger : Ledger) → IsReady ledger (B.seen board.old).told
+        (B.seen board.old).clock
+        → OnOk result (IsReady ledger (B.seen board.new).told (B.seen board.new).clock) }
     ensures stop { IfErr result IsStop }
-    ensures faults { Causes BoardCause result (B.faults board.old) (B.faults board.new) }
+    ensures faults { Causes BoardCause result (B.seen board.old).faults (B.seen board.new).faults }
 {
     let done = done_line(alloc, number)?;
     match put(id, bytes, board) {
@@ -83,17 +84,18 @@ pub(crate) fn save_record<B: Board>(
     board: &mut B,
 ) -> Result<(), Exit>
     requires { CanBeSaved id bytes.now }
-    ensures ends { IfSome (B.told board.old)
+    ensures ends { IfSome (B.seen board.old).told
         (λ t. EndsUnless (saving_refusal t.volatile.slow id t.here.store) result) }
-    ensures does { (t : Told) → B.told board.old ≡ Some t
-        → DoesAsking (looks B.told B.clock B.faults) (IsDevice (device_of t))
+    ensures does { (t : Told) → (B.seen board.old).told ≡ Some t
+        → DoesAsking B.seen (IsDevice (device_of t))
         (saving_refusal t.volatile.slow id t.here.store ≡ None)
         (acts_of (write_calls driver.now bytes.now (device_of t)))
         (print_acts (done_line number)) result board.old board.new }
-    ensures ready { (ledger : Ledger) → IsReady ledger (B.told board.old) (B.clock board.old)
-        → OnOk result (IsReady ledger (B.told board.new) (B.clock board.new)) }
+    ensures ready { (ledger : Ledger) → IsReady ledger (B.seen board.old).told
+        (B.seen board.old).clock
+        → OnOk result (IsReady ledger (B.seen board.new).told (B.seen board.new).clock) }
     ensures stop { IfErr result IsStop }
-    ensures faults { Causes BoardCause result (B.faults board.old) (B.faults board.new) }
+    ensures faults { Causes BoardCause result (B.seen board.old).faults (B.seen board.new).faults }
 {
     let done = done_line(alloc, number)?;
     match driver.write(bytes, board) {

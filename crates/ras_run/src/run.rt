@@ -1,7 +1,7 @@
 //! What a run has at hand.
 
+use crate::Ledger;
 use ras_events::Settings;
-use ras_ledger::Ledger;
 
 /// What a run has at hand: what the lines told of the machine, the account with its journal, and a
 /// buffer.

@@ -6,8 +6,8 @@ use Rattle.ras_facts.specs.declared.fact.Fact.{Fact}
 use Rattle.ras_facts.specs.declared.items.Item.{Item}
 use Rattle.ras_facts.specs.declared.entry.Entry.{Entry}
 use Rattle.ras_facts.specs.declared.entry.Entry.TheVariants.{Fact as FactEntry, Limit as PageLimit, Retire, ModuleLimit}
-use Rattle.ras_reports.specs.declared.details.Detail.{Detail}
-use Rattle.ras_reports.specs.declared.details.Detail.TheVariants.{Bank, Memory, Processor, X64, Other}
+use Rattle.ras_facts.specs.declared.details.Detail.{Detail}
+use Rattle.ras_facts.specs.declared.details.Detail.TheVariants.{Bank, Memory, Processor, X64, Other}
 use Rattle.ras_account.specs.Account.{State}
 use Rattle.ras_account.specs.History.{is_retired}
 use Rattle.ras_texts.specs.Detail.{bank_detail}

@@ -11,8 +11,7 @@ use crate::pieces::{class_word, push_label, push_name, push_page};
 use crate::section::{push_memory, push_other, push_processor, push_x64};
 use ras_account::Account;
 use ras_base::{NoMemory, push_number};
-use ras_facts::{Entry, Fact, Item};
-use ras_reports::Detail;
+use ras_facts::{Detail, Entry, Fact, Item};
 
 /// Appends the lines of an entry that is new in an account. `details` are the details of its items,
 /// one for each, and none unless it is a fact.

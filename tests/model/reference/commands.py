@@ -8,7 +8,7 @@ from reference.account import CLASSES, MOST_NAMES, STATES, text_of_name
 from reference.base import Refused, Stop
 from reference.firmware import lines_ghes
 from reference.journal import recover
-from reference.kernel import LAST_SECOND, decimal_of, klog, lines_klog, lines_trace
+from reference.kernel import LAST_SECOND, decimal_of, klog, lines_klog, lines_mce, lines_trace
 from reference.reports import bit, digits, number_at
 from reference.script import lines_of, read_line
 
@@ -252,6 +252,8 @@ def answer(words, data, files):
         return klog(*numbers, data)
     if words[:2] == [b"lines", b"klog"] and (numbers := boot_and_cap(words[2:])):
         return lines_klog(*numbers, data)
+    if words[:2] == [b"lines", b"mce"] and (numbers := boot_and_cap(words[2:], is_capped=False)):
+        return lines_mce(*numbers, data)
     if words[:2] == [b"lines", b"trace"] and (numbers := boot_and_cap(words[2:], is_capped=False)):
         return lines_trace(*numbers, data)
     if words[:2] == [b"lines", b"ghes"] and (numbers := boot_and_second(words[2:])):

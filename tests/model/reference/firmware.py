@@ -7,6 +7,7 @@ START = b"Hardware error from APEI Generic Hardware Error Source: "
 SEVERITIES = b"recoverable", b"fatal", b"corrected"
 FIELDS = b"physical_address: 0x", b"physical_address_mask: 0x", b"error_type: "
 NAMES = b"node:", b"card:", b"module:"
+MARKED = rb"\{([0-9]+)\}\[Hardware Error\]: "
 MEMORY = bytes.fromhex("1411bca5646fde4eb8633e83ed7c83b1")
 MOST_ERRORS, MOST_SOURCES, PAUSE = 12, 28, SECOND // 10
 LEFT_OUT, PARTIAL = "# left out {}\n", "# partial source={} number={}\n"
@@ -148,7 +149,8 @@ class Reports:
         name, mark = number(word, MOST), b"[Hardware Error]: "
         if name is None or not rest.startswith(mark) or not is_own(head):
             late = self.work and stamp is not None and stamp - self.work["last"] > PAUSE
-            return self.end() if late else ""
+            marked = any(number(it, MOST) is not None for it in re.findall(MARKED, bytes_of_line))
+            return (self.end() if late else "") + (UNREAD.format(line) if marked else "")
         said = rest[len(mark) :]
         source = number(said[len(START) :], 65535) if said.startswith(START) else None
         if self.work and (self.work["name"] != name or source is not None):

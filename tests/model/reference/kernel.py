@@ -1,5 +1,6 @@
 """What the kernel tells of machine checks: its log and its trace, told as log lines and as lines of a script."""
 import re
+import struct
 
 from reference import reports
 from reference.base import Stop, Unreadable, check
@@ -204,6 +205,33 @@ def trace_text(boot, number, line):
 def lines_trace(boot, trace):
     """What `lines trace` prints, and its status."""
     return printed(trace, lambda number, line: trace_text(boot, number, line))
+
+
+# ---- the record that the kernel saves when it panics: struct mce of arch/x86/include/uapi/asm/mce.h
+
+# Its members up to mcgcap, and the lengths that it has had.
+MCE = struct.Struct("<7Q4BI4B3IQ")
+MCE_LENGTHS = (88, 104, 112, 120, 128)
+MOST_OF_MCE = 129
+
+
+def lines_mce(boot, record):
+    """What `lines mce` prints, and its status."""
+    record = record[:MOST_OF_MCE]
+    unread = f"# unread mce bytes={len(record)}\n", 0
+    if len(record) not in MCE_LENGTHS:
+        return unread
+    status, misc, addr, mcg, _, tsc, seconds, vendor, *_, bank, _, _, cpu, _, _, cap = MCE.unpack_from(record)
+    if cpu > 65_535:
+        return unread
+    if vendor:
+        return VENDOR.format(vendor, cpu, bank), 0
+    if not bit(status, reports.VAL):
+        return f"# no error cpu={cpu} bank={bank}\n", 0
+    if bank == 255:
+        return FIRMWARE.format(cpu), 0
+    tsc = tsc or seconds % 10**12 * SECOND
+    return bank_line(boot, seconds, cpu, bank, tsc, cap, mcg, status, addr, misc), 0
 
 
 # ---- the log as lines of a script

@@ -7,8 +7,8 @@ use Rattle.board_core.specs.declared.board.DiskCall.{DiskCall}
 use Rattle.board_core.specs.declared.board.FileNo.{FileNo}
 use Rattle.board_core.specs.declared.board.FileNo.TheVariants.{Zero, One}
 use Rattle.board_core.specs.Clock.{Clock, LeftNow, After, Passes, Leads, IsSynced, IsStored, StoreIsLeft, Adds, Rests, Always}
-use Rattle.board_core.specs.Stop.{Left, file_in, with_file_in, Same, InFile, InStore, InOut, Appends}
-use Rattle.board_core.specs.Told.{Told, file_of, with_call, after_print, Steps}
+use Rattle.board_core.specs.Stop.{Left, file_in, with_file_in, Same, InStore, InOut, Appends}
+use Rattle.board_core.specs.Told.{Told, with_call, after_print, Steps}
 
 -- a board that isn't modelled has no model
 pub not_told : (t : Told) → None ≡ Some t → ⊥
@@ -99,20 +99,6 @@ all_same t left zero one store out =
     ∙ (ap (λ (records : List Stored). record left { file0 = t.here.file0; file1 = t.here.file1; store = records }) store
     ∙ ap (λ text. record t.here { out = text }) out))
 
--- A file was changed and then synced, if a crash left just what the model said.
-pub rests_through : (file : FileNo) (Step : List ℕ → List ℕ → Type 0) (t there : Told) (told_old told_new : Option Told) (old mid new : Clock) → Rests t told_old old
-    → Passes (InFile file Step) old mid → Passes Same mid new → IsSynced file (file_of file there) new → told_new ≡ Some there
-    → there.here ≡ with_file_in file (file_of file there) t.here → Rests there told_new new
-rests_through file Step t there told_old told_new old mid new rests writes syncs synced is frame = record {
-  is = is;
-  only = λ left now.
-      (let from : After mid Same left = syncs.ends left now in
-      let wrote : InFile file Step t.here from.from = at_rest (InFile file Step) t told_old old from.from rests (writes.ends from.from from.was) in
-      let left_is : left ≡ with_file_in file wrote.bytes t.here = from.by ∙ wrote.rest in
-      let bytes_are : wrote.bytes ≡ file_of file there = sym (file_in-with file wrote.bytes t.here) ∙ (ap (file_in file) (sym left_is) ∙ synced left now) in
-      left_is ∙ (ap (λ bytes. with_file_in file bytes t.here) bytes_are ∙ sym frame));
-}
-
 -- Both files are synced: a crash leaves just what the model says. (That the store and the text are told comes of the
 -- syncs and of the board's laws.)
 pub rests_synced : (t : Told) (told : Option Told) (clock : Clock) → told ≡ Some t → IsSynced Zero t.here.file0 clock → IsSynced One t.here.file1 clock
@@ -132,13 +118,3 @@ rests_stored Step t there told_old told_new old new rests is passes stored frame
       let store_is : by.store ≡ there.here.store = sym (ap (λ (l : Left). l.store) by.rest) ∙ stored left now in
       by.rest ∙ (ap (λ (records : List Stored). record t.here { store = records }) store_is ∙ sym frame));
 }
-
--- A write and a sync of one file, of which the sync may have been left out.
-
-pub adds_synced : (Step : Left → Left → Type 0) (old mid new : Clock) → Passes Step old mid → Passes Same mid new → Adds (After old Step) old new
-adds_synced Step old mid new writes syncs = adds_both (After old Step) old mid new
-    (adds_after Step (After old Step) old mid writes (λ left after. after))
-    (adds_after Same (After old Step) mid new syncs (λ left after. subst (After old Step) (sym after.by) (writes.ends after.from after.was)))
-
-pub adds_from_rest : (Step : Left → Left → Type 0) (t : Told) (told : Option Told) (old new : Clock) → Rests t told old → Adds (After old Step) old new → Adds (Step t.here) old new
-adds_from_rest Step t told old new rests adds = adds_weaker (After old Step) (Step t.here) old new adds (λ left after. at_rest Step t told old left rests after)

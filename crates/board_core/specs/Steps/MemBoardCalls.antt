@@ -1,18 +1,32 @@
 -- The parts of a call of a board in memory.
-use Rattle.std.specs.Prelude.{◌≡◌, true, false, ◌⊎◌, Result, Ok, Err}
-use Rattle.board_core.specs.declared.mem_board.BoardCall.{BoardCall}
+use Rattle.std.specs.Prelude.{◌≡◌, Bool, true, false, ◌⊎◌, Result, Ok, Err}
+use Rattle.board_core.specs.declared.mem_board.Fault.{Fault}
+use Rattle.board_core.specs.declared.mem_board.Fault.TheVariants.{Disk, Device, Print}
 use Rattle.board_core.specs.declared.source.Failed.{Failed}
-use Rattle.board_core.specs.MemBoard.{State, fails_next, counted, listed, Faulted, with_refusal}
+use Rattle.board_core.specs.Cause.{Kind, disk_call, device_call, print_call}
+use Rattle.board_core.specs.MemBoard.{State, fails_next, counted, Faulted, with_refusal}
 
--- A call began: it is counted and listed. It fails if and only if it was chosen to, or if the list can't grow, and then
--- it isn't listed.
-abbrev pub Begins : BoardCall → State → State → Result (Unit {0}) Failed → Type 0
-Begins call old new (Ok done) = (fails_next old ≡ false) × (new ≡ listed call (counted old))
-Begins call old new (Err failed) =
-    ((fails_next old ≡ true) × Faulted call (listed call (counted old)) new) ⊎ Faulted call (with_refusal (counted old)) new
+abbrev pub kind_in : Fault → Kind
+kind_in Disk = disk_call
+kind_in Device = device_call
+kind_in Print = print_call
+
+-- A call began, and this board has listed it: it is counted. It fails if and only if it was chosen to, or if the list
+-- can't grow, and then it isn't listed.
+abbrev pub Begins : Kind → State → State → State → Result (Unit {0}) Failed → Type 0
+Begins kind listed old new (Ok done) = (fails_next old ≡ false) × (new ≡ counted listed)
+Begins kind listed old new (Err failed) =
+    ((fails_next old ≡ true) × Faulted kind (counted listed) new) ⊎ Faulted kind (with_refusal (counted old)) new
+
+-- the same of a call that is listed by now, or can't be
+abbrev pub Counts : Kind → Bool → State → State → Result (Unit {0}) Failed → Type 0
+Counts kind true old new (Ok done) = (fails_next old ≡ false) × (new ≡ counted old)
+Counts kind true old new (Err failed) = (fails_next old ≡ true) × Faulted kind (counted old) new
+Counts kind false old new (Ok done) = ⊥
+Counts kind false old new (Err failed) = Faulted kind (with_refusal (counted old)) new
 
 -- A call that began well ended: it fails if and only if its change was refused a growth.
-abbrev pub Ends : {E : Type 0} → BoardCall → Result (Unit {0}) E → State → State → Result (Unit {0}) Failed → Type 0
-Ends call (Ok made) old new (Ok done) = new ≡ old
-Ends call (Err refused) old new (Err failed) = Faulted call (with_refusal old) new
-Ends call change old new result = ⊥
+abbrev pub Ends : {E : Type 0} → Kind → Result (Unit {0}) E → State → State → Result (Unit {0}) Failed → Type 0
+Ends kind (Ok made) old new (Ok done) = new ≡ old
+Ends kind (Err refused) old new (Err failed) = Faulted kind (with_refusal old) new
+Ends kind change old new result = ⊥

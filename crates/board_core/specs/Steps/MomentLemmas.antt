@@ -24,9 +24,9 @@ call_more disk call left may = record {
   out = rw (begins_none disk.out left.out may.out) (nothing_begins (piece_of call) disk.out);
 }
 
-pub after_all-more : (calls : List Call) (call : Call) (disk : Disk) → after_all (calls ++ call ∷ []) disk ≡ after call (after_all calls disk)
-after_all-more [] call disk = refl
-after_all-more (x ∷ xs) call disk = after_all-more xs call (after x disk)
+pub after_all-append : (calls more : List Call) (disk : Disk) → after_all (calls ++ more) disk ≡ after_all more (after_all calls disk)
+after_all-append [] more disk = refl
+after_all-append (x ∷ xs) more disk = after_all-append xs more (after x disk)
 
 -- a moment of calls with one more is one of those before, or during that call, or after it
 pub since_split : (disk : Disk) (calls : List Call) (call : Call) (t : ℕ) (left : Left) → t ≤ length calls → MayLeaveSince disk (calls ++ call ∷ []) t left
@@ -84,7 +84,7 @@ pub leads_call : (disk : Disk) (calls more : List Call) (call : Call) (Step : Le
     → ((left : Left) → MayLeave (after call (after_all calls disk)) rests left → AfterDisk (after_all calls disk) Step left)
     → Leads Step (disk_clock disk calls) (disk_clock disk more)
 leads_call disk calls more call Step is ends = subst (λ (xs : List Call). Leads Step (disk_clock disk calls) (disk_clock disk xs)) (sym is) (λ left now.
-    after_disk disk calls Step left (ends left (rw after_all-more at (now_only disk (calls ++ call ∷ []) left now))))
+    after_disk disk calls Step left (ends left (rw after_all-append at (now_only disk (calls ++ call ∷ []) left now))))
 
 pub passes_call : (disk : Disk) (calls more : List Call) (call : Call) (Step : Left → Left → Type 0) → more ≡ calls ++ call ∷ []
     → ((left : Left) → MayLeave (after_all calls disk) call left → AfterDisk (after_all calls disk) Step left)

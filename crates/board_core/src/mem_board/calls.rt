@@ -6,24 +6,24 @@ ghost use Rattle.erst_store.specs.DeviceLaws.{IsDevice};
 ghost use Rattle.erst_store.specs.Store.{refusal_of};
 ghost use Rattle.board_core.specs.declared.board.Access.TheVariants.{Read, Write, RangeRead, RangeWrite};
 ghost use Rattle.board_core.specs.declared.board.DiskCall.TheVariants.{Size, ReadAt, WriteAt, Sync};
-ghost use Rattle.board_core.specs.declared.mem_board.BoardCall.TheVariants.{Disk, Device, Put, Print};
-ghost use Rattle.board_core.specs.Cause.{put_failure};
+ghost use Rattle.board_core.specs.Cause.{device_call, disk_call, print_call, put_failure};
 ghost use Rattle.board_core.specs.Steps.ChangeLemmas.{told_left, text_left};
 ghost use Rattle.board_core.specs.Steps.MomentLemmas.{since_earlier};
-ghost use Rattle.board_core.specs.MemBoard.{told_of, clock_of, settled_disk, calls_of, Performs, past_after, with_change};
-ghost use Rattle.board_core.specs.MemBoard.{wrote, synced, acted, printed, wrote_register, wrote_range, put_record};
+ghost use Rattle.board_core.specs.Doing.{writes, prints, calls, device, reg_write, range_write, put};
+ghost use Rattle.board_core.specs.MemBoard.{told_of, clock_of, settled_disk, steps_of_all, Performs, past_after, with_act};
+ghost use Rattle.board_core.specs.MemBoard.{listing, listing_access};
 ghost use Rattle.board_core.specs.Told.{file_of, device_of, register_in, ReadsBytes, AnswersPut};
 
-use super::{BoardCall, MemBoard};
+use super::{Fault, MemBoard};
 use crate::{Access, Board, BoardPut, DiskCall, Failed, FileNo, Reg};
 use ras_base::NoMemory;
 
 impl Board for MemBoard {
-    ghost told = { λ b. Some (told_of b) };
-
-    ghost clock = { λ b. clock_of b.past };
-
-    ghost faults = { λ b. b.faults };
+    ghost seen = { λ b. record {
+      told = Some (told_of b);
+      clock = clock_of b.past;
+      faults = b.faults;
+    } };
 
     ghost told_may_be_left = { λ b t is. told_left b t is };
 
@@ -31,13 +31,14 @@ impl Board for MemBoard {
 
     ghost counts_earlier = { λ b s t left within may.
         since_earlier (settled_disk b.past.first.here)
-        (calls_of b.past.changes b.past.first) s t left within may };
+        (steps_of_all b.past.acts b.past.first) s t left within may };
 
     fn size(&mut self, file: FileNo) -> Result<u64, Failed>
         ensures length { IfOk result (λ n. n ≡ length (file_of file (told_of self.old))) }
-        ensures does { Performs (Disk (Size file)) self.old.past self.old self.new result }
+        ensures does { Performs disk_call (listing (Size file) self.old) self.old.past
+            self.old self.new result }
     {
-        self.begin(BoardCall::Disk(DiskCall::Size(file)))?;
+        self.begin_disk(DiskCall::Size(file))?;
         Ok(self.file(file).len() as u64)
     }
 
@@ -45,60 +46,57 @@ impl Board for MemBoard {
         ensures within { IfOk result (λ n. n ≤ length buf.old) }
         ensures read { IfOk result
             (λ n. ReadsBytes place n buf.new (file_of file (told_of self.old))) }
-        ensures does { Performs (Disk (ReadAt file place (length buf.old))) self.old.past self.old
-            self.new result }
+        ensures does { Performs disk_call (listing (ReadAt file place (length buf.old)) self.old)
+            self.old.past self.old self.new result }
     {
-        self.begin(BoardCall::Disk(DiskCall::ReadAt(file, place, buf.len() as u64)))?;
+        self.begin_disk(DiskCall::ReadAt(file, place, buf.len() as u64))?;
         Ok(copy_from(self.file(file), place as usize, buf))
     }
 
     fn write_at(&mut self, file: FileNo, place: u64, bytes: &[u8]) -> Result<(), Failed>
         requires { place ≤ length (file_of file (told_of self.old)) }
-        ensures does { Performs (Disk (WriteAt file place (length bytes.now)))
-            (with_change (wrote file place bytes.now) self.old.past) self.old self.new result }
+        ensures does { Performs disk_call (listing (WriteAt file place (length bytes.now)) self.old)
+            (with_act (writes file place bytes.now) self.old.past) self.old self.new result }
     {
-        let call = BoardCall::Disk(DiskCall::WriteAt(file, place, bytes.len() as u64));
-        self.begin(call)?;
+        self.begin_disk(DiskCall::WriteAt(file, place, bytes.len() as u64))?;
         let made = self.history.write(file, place, bytes);
-        self.end(call, made)
+        self.end(Fault::Disk, made)
     }
 
     fn sync(&mut self, file: FileNo) -> Result<(), Failed>
-        ensures does { Performs (Disk (Sync file)) (with_change (synced file) self.old.past)
-            self.old self.new result }
+        ensures does { Performs disk_call (listing (Sync file) self.old)
+            (with_act (calls (Sync file)) self.old.past) self.old self.new result }
     {
-        let call = BoardCall::Disk(DiskCall::Sync(file));
-        self.begin(call)?;
+        self.begin_disk(DiskCall::Sync(file))?;
         let made = self.history.sync(file);
-        self.end(call, made)
+        self.end(Fault::Disk, made)
     }
 
     fn reg_read(&mut self, reg: Reg) -> Result<u64, Failed>
         ensures value { IfOk result (λ n. n ≡ register_in reg (device_of (told_of self.old))) }
         ensures device { IsDevice (device_of (told_of self.old)) }
         // A read that fails is listed with the number 0.
-        ensures does { Performs (Device (Read reg (result_unwrap_or result 0))) self.old.past
-            self.old self.new result }
+        ensures does { Performs device_call
+            (listing_access (Read reg (result_unwrap_or result 0)) self.old)
+            self.old.past self.old self.new result }
     {
         let value = if self.fails_next() {
             0
         } else {
             self.history.register(reg)
         };
-        self.begin(BoardCall::Device(Access::Read(reg, value)))?;
+        self.begin_device(Access::Read(reg, value))?;
         Ok(value)
     }
 
     fn reg_write(&mut self, reg: Reg, value: u64) -> Result<(), Failed>
         ensures device { IsDevice (device_of (told_of self.old)) }
-        ensures does { Performs (Device (Write reg value))
-            (with_change (acted (wrote_register reg value)) self.old.past) self.old self.new
-            result }
+        ensures does { Performs device_call (listing_access (Write reg value) self.old)
+            (with_act (device (reg_write reg value)) self.old.past) self.old self.new result }
     {
-        let call = BoardCall::Device(Access::Write(reg, value));
-        self.begin(call)?;
+        self.begin_device(Access::Write(reg, value))?;
         let made = self.history.write_register(reg, value);
-        self.end(call, made)
+        self.end(Fault::Device, made)
     }
 
     fn range_read(&mut self, place: u32, buf: &mut [u8]) -> Result<(), Failed>
@@ -106,10 +104,11 @@ impl Board for MemBoard {
         ensures read { OnOk result (buf.new
             ≡ take (length buf.old) (drop place (device_of (told_of self.old)).range)) }
         ensures device { IsDevice (device_of (told_of self.old)) }
-        ensures does { Performs (Device (RangeRead place (length buf.old))) self.old.past self.old
-            self.new result }
+        ensures does { Performs device_call
+            (listing_access (RangeRead place (length buf.old)) self.old)
+            self.old.past self.old self.new result }
     {
-        self.begin(BoardCall::Device(Access::RangeRead(place, buf.len() as u32)))?;
+        self.begin_device(Access::RangeRead(place, buf.len() as u32))?;
         self.history.range_read(place, buf);
         Ok(())
     }
@@ -117,14 +116,14 @@ impl Board for MemBoard {
     fn range_write(&mut self, place: u32, bytes: &[u8]) -> Result<(), Failed>
         requires { place + length bytes.now ≤ range_length }
         ensures device { IsDevice (device_of (told_of self.old)) }
-        ensures does { Performs (Device (RangeWrite place (length bytes.now)))
-            (with_change (acted (wrote_range place bytes.now)) self.old.past) self.old self.new
-            result }
+        ensures does { Performs device_call
+            (listing_access (RangeWrite place (length bytes.now)) self.old)
+            (with_act (device (range_write place bytes.now)) self.old.past)
+            self.old self.new result }
     {
-        let call = BoardCall::Device(Access::RangeWrite(place, bytes.len() as u32));
-        self.begin(call)?;
+        self.begin_device(Access::RangeWrite(place, bytes.len() as u32))?;
         let made = self.history.range_write(place, bytes);
-        self.end(call, made)
+        self.end(Fault::Device, made)
     }
 
     fn put(&mut self, id: u64, bytes: &[u8]) -> Result<(), BoardPut>
@@ -132,30 +131,30 @@ impl Board for MemBoard {
             (refusal_of id bytes.now (told_of self.old).here.store) }
         ensures device { IsDevice (device_of (told_of self.old)) }
         // A put that is refused changes nothing.
-        ensures does { Performs Put
-            (past_after result (acted (put_record id bytes.now)) self.old.past) self.old self.new
-            (put_failure result) }
+        ensures does { Performs device_call self.old
+            (past_after result (device (put id bytes.now)) self.old.past)
+            self.old self.new (put_failure result) }
     {
-        let Ok(()) = self.begin(BoardCall::Put) else {
+        let Ok(()) = self.begin(Fault::Device, true) else {
             return Err(BoardPut::Failed);
         };
         match self.history.put(id, bytes) {
             Ok(Ok(())) => Ok(()),
             Ok(Err(refused)) => Err(BoardPut::Refused(refused)),
             Err(NoMemory) => {
-                let Failed = self.starve(BoardCall::Put);
+                let Failed = self.starve(Fault::Device);
                 Err(BoardPut::Failed)
             }
         }
     }
 
     fn print(&mut self, bytes: &[u8]) -> Result<(), Failed>
-        ensures does { Performs Print (with_change (printed bytes.now) self.old.past) self.old
-            self.new result }
+        ensures does { Performs print_call self.old (with_act (prints bytes.now) self.old.past)
+            self.old self.new result }
     {
-        self.begin(BoardCall::Print)?;
+        self.begin(Fault::Print, true)?;
         let made = self.history.print(bytes);
-        self.end(BoardCall::Print, made)
+        self.end(Fault::Print, made)
     }
 }
 

@@ -146,11 +146,11 @@ impl Disks {
 }
 
 impl Board for TestBoard {
-    ghost told = { λ _. None };
-
-    ghost clock = { λ _. untold };
-
-    ghost faults = { λ b. record { disk = b.disk_faults; registers = b.device_faults; prints = b.print_faults } };
+    ghost seen = { λ b. record {
+      told = None;
+      clock = untold;
+      faults = record { disk = b.disk_faults; registers = b.device_faults; prints = b.print_faults };
+    } };
 
     ghost told_may_be_left = { λ _ t told. not_told t told };
 

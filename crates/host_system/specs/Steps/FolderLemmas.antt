@@ -10,9 +10,15 @@ use Rattle.board_core.specs.declared.board.FileNo.{FileNo}
 use Rattle.board_core.specs.declared.board.FileNo.TheVariants.{Zero, One}
 use Rattle.host_system.specs.declared.system.FileName.{FileName}
 use Rattle.host_system.specs.declared.system.FileName.TheVariants.{Journal, Store, New}
-use Rattle.host_system.specs.Folder.{FolderFile, NameEntry, Folder, entry_named, Uses, with_use, shut, opened, locked, lost, after_writing, after_syncing, with_now, on_disk, renewed, settled_name, empty_file, FolderChange, wrote, synced, made, opens, locks, loses, removed, renamed, synced_names, printed, change_name, folder_after, folder_after_all, Stopped, MayLeaveOne, MayLeaveName, MayLeaveFolder, settled_file_of, entry_from, settled_folder, bytes_now, here_in}
+use Rattle.host_system.specs.Folder.{FolderFile, NameEntry, Folder, entry_named, FileUse, shut, opened, locked, lost, after_writing, with_now, on_disk, renewed, used, settled_name, FolderChange, wrote, synced, made, opens, locks, loses, removed, renamed, synced_names, printed, change_name, folder_after, folder_after_all, Stopped, MayLeaveOne, MayLeaveName, MayLeaveFolder, settled_file_of, entry_from, settled_folder, bytes_now, here_in}
 use Rattle.host_system.specs.FolderPast.{bytes_or}
 use Rattle.host_system.specs.View.{store_in, seen_as}
+
+abbrev pub empty_file : FolderFile
+empty_file = settled_file_of []
+
+abbrev pub after_syncing : FolderFile → FolderFile
+after_syncing file = settled_file_of file.bytes
 
 -- ---- what is there now may be left
 
@@ -43,11 +49,11 @@ written_consistent : (place count : ℕ) (bytes : List ℕ) (file : FolderFile) 
 written_consistent place count bytes file may =
     wider file.disk place (length (take count bytes)) count (overlay place (take count bytes) file.bytes) (omega (arith, length-take count bytes)) (overlay_more file.disk place (take count bytes) file.bytes may)
 
-wrote_now : (place count : ℕ) (bytes : List ℕ) (now : Option FolderFile) (others : List (Option DiskFile)) → IsConsistent (record { now = now; others = others }) → IsConsistent (with_now (after_writing place count bytes) (record { now = now; others = others }))
+wrote_now : (place count : ℕ) (bytes : List ℕ) (now : Option FolderFile) (others : List (Option DiskFile)) → IsConsistent (record { now = now; others = others; how = shut }) → IsConsistent (with_now (after_writing place count bytes) (record { now = now; others = others; how = shut }))
 wrote_now place count bytes None others may = tt
 wrote_now place count bytes (Some file) others may = written_consistent place count bytes file may
 
-synced_now : (now : Option FolderFile) (others : List (Option DiskFile)) → IsConsistent (record { now = now; others = others }) → IsConsistent (with_now after_syncing (record { now = now; others = others }))
+synced_now : (now : Option FolderFile) (others : List (Option DiskFile)) → IsConsistent (record { now = now; others = others; how = shut }) → IsConsistent (with_now after_syncing (record { now = now; others = others; how = shut }))
 synced_now None others may = tt
 synced_now (Some file) others may = settled_left file.bytes
 
@@ -57,21 +63,14 @@ one_entry (Journal One) step folder are keeps = record { zero = are.zero; one = 
 one_entry Store step folder are keeps = record { zero = are.zero; one = are.one; store = keeps folder.store are.store; new = are.new }
 one_entry New step folder are keeps = record { zero = are.zero; one = are.one; store = are.store; new = keeps folder.new are.new }
 
-consistent_using : (uses : Uses) (folder : Folder) → AreConsistent folder → AreConsistent (record folder { uses = uses })
-consistent_using uses folder are = record { zero = are.zero; one = are.one; store = are.store; new = are.new }
-
 pub consistent_after : (change : FolderChange) (folder : Folder) → AreConsistent folder → AreConsistent (folder_after change folder)
 consistent_after (wrote name place count bytes) folder are = one_entry name (with_now (after_writing place count bytes)) folder are (λ entry may. wrote_now place count bytes entry.now entry.others may)
 consistent_after (synced name) folder are = one_entry name (with_now after_syncing) folder are (λ entry may. synced_now entry.now entry.others may)
-consistent_after (made name) folder are =
-    let step : NameEntry → NameEntry = renewed (Some empty_file) in
-    consistent_using (with_use name opened (change_name name step folder).uses) (change_name name step folder) (one_entry name step folder are (λ entry may. settled_left []))
-consistent_after (opens name) folder are = consistent_using (with_use name opened folder.uses) folder are
-consistent_after (locks name) folder are = consistent_using (with_use name locked folder.uses) folder are
-consistent_after (loses name) folder are = consistent_using (with_use name lost folder.uses) folder are
-consistent_after (removed name) folder are =
-    let step : NameEntry → NameEntry = renewed None in
-    consistent_using (with_use name shut (change_name name step folder).uses) (change_name name step folder) (one_entry name step folder are (λ entry may. tt))
+consistent_after (made name) folder are = one_entry name (renewed (Some empty_file) opened) folder are (λ entry may. settled_left [])
+consistent_after (opens name) folder are = one_entry name (used opened) folder are (λ entry may. may)
+consistent_after (locks name) folder are = one_entry name (used locked) folder are (λ entry may. may)
+consistent_after (loses name) folder are = one_entry name (used lost) folder are (λ entry may. may)
+consistent_after (removed name) folder are = one_entry name (renewed None shut) folder are (λ entry may. tt)
 consistent_after renamed folder are = record { zero = are.zero; one = are.one; store = are.new; new = tt }
 consistent_after synced_names folder are = record { zero = are.zero; one = are.one; store = are.store; new = are.new }
 consistent_after (printed piece) folder are = record { zero = are.zero; one = are.one; store = are.store; new = are.new }
@@ -98,15 +97,18 @@ pub record AfterFolder (folder : Folder) (Step : Left → Left → Type 0) (left
   pub by : Step (seen_as from) (seen_as left)
 
 -- nothing of it is seen
-pub new_before : (step : NameEntry → NameEntry) (uses : Uses) (folder : Folder) → AreConsistent folder → (left : Stopped) → MayLeaveFolder (record folder { new = step folder.new; uses = uses }) left → AfterFolder folder Same left
-new_before step uses folder are left may = record {
+pub new_before : (step : NameEntry → NameEntry) (folder : Folder) → AreConsistent folder → (left : Stopped) → MayLeaveFolder (record folder { new = step folder.new }) left → AfterFolder folder Same left
+new_before step folder are left may = record {
   from = record left { new = bytes_now folder.new };
   was = record { zero = may.zero; one = may.one; store = may.store; new = inl are.new; out = may.out };
   by = refl;
 }
 
-pub uses_before : (uses : Uses) (folder : Folder) (left : Stopped) → MayLeaveFolder (record folder { uses = uses }) left → MayLeaveFolder folder left
-uses_before uses folder left may = record { zero = may.zero; one = may.one; store = may.store; new = may.new; out = may.out }
+pub used_before : (name : FileName) (how : FileUse) (folder : Folder) (left : Stopped) → MayLeaveFolder (change_name name (used how) folder) left → MayLeaveFolder folder left
+used_before (Journal Zero) how folder left may = record { zero = may.zero; one = may.one; store = may.store; new = may.new; out = may.out }
+used_before (Journal One) how folder left may = record { zero = may.zero; one = may.one; store = may.store; new = may.new; out = may.out }
+used_before Store how folder left may = record { zero = may.zero; one = may.one; store = may.store; new = may.new; out = may.out }
+used_before New how folder left may = record { zero = may.zero; one = may.one; store = may.store; new = may.new; out = may.out }
 
 pub none_before : (Step : Left → Left → Type 0) → ((left : Left) → Step left left) → (folder : Folder) (left : Stopped) → MayLeaveFolder folder left → AfterFolder folder Step left
 none_before Step same folder left may = record { from = left; was = may; by = same (seen_as left) }
@@ -126,8 +128,8 @@ names_before folder left may = record {
 }
 
 -- a file is synced
-synced_before : (now : Option FolderFile) (others : List (Option DiskFile)) → IsConsistent (record { now = now; others = others }) → (left : Option (List ℕ))
-    → MayLeaveName (with_now after_syncing (record { now = now; others = others })) left → MayLeaveName (record { now = now; others = others }) left
+synced_before : (now : Option FolderFile) (others : List (Option DiskFile)) → IsConsistent (record { now = now; others = others; how = shut }) → (left : Option (List ℕ))
+    → MayLeaveName (with_now after_syncing (record { now = now; others = others; how = shut })) left → MayLeaveName (record { now = now; others = others; how = shut }) left
 synced_before None others is left may = may
 synced_before (Some file) others is None (inl may) = absurd may
 synced_before (Some file) others is (Some bytes) (inl may) = inl (subst (λ (b : List ℕ). MayLeaveFile file.disk b) (sym (settled_only file.bytes bytes may)) is)
@@ -176,20 +178,20 @@ print_before piece part missing folder splits left may = record {
 
 -- a write, at most at the end of its file
 
-record IsBefore (entry : NameEntry) (place count : ℕ) (left : Option (List ℕ)) : Type 0 where
+record IsBefore (now : Option FolderFile) (others : List (Option DiskFile)) (place count : ℕ) (left : Option (List ℕ)) : Type 0 where
   from : Option (List ℕ)
-  may : MayLeaveName entry from
+  may : MayLeaveName (record { now = now; others = others; how = shut }) from
   torn : Torn place count (bytes_or from) (bytes_or left)
 
-found_before : (file : DiskFile) (others : List (Option DiskFile)) (now : Option FolderFile) (place count : ℕ) (bytes : List ℕ) → on_disk now ≡ Some file → (from : List ℕ) × MayLeaveFile file from × Torn place count from bytes → IsBefore (record { now = now; others = others }) place count (Some bytes)
+found_before : (file : DiskFile) (others : List (Option DiskFile)) (now : Option FolderFile) (place count : ℕ) (bytes : List ℕ) → on_disk now ≡ Some file → (from : List ℕ) × MayLeaveFile file from × Torn place count from bytes → IsBefore now others place count (Some bytes)
 found_before file others now place count bytes is found = record {
   from = Some found.0;
   may = inl (subst (λ (d : Option DiskFile). MayLeaveOne d (Some found.0)) (sym is) found.1);
   torn = found.2;
 }
 
-written_before : (now : Option FolderFile) (others : List (Option DiskFile)) (place count : ℕ) (bytes : List ℕ) → IsConsistent (record { now = now; others = others }) → place ≤ length (bytes_or (bytes_now (record { now = now; others = others })))
-    → (left : Option (List ℕ)) → MayLeaveName (with_now (after_writing place count bytes) (record { now = now; others = others })) left → IsBefore (record { now = now; others = others }) place count left
+written_before : (now : Option FolderFile) (others : List (Option DiskFile)) (place count : ℕ) (bytes : List ℕ) → IsConsistent (record { now = now; others = others; how = shut }) → place ≤ length (bytes_or (bytes_now (record { now = now; others = others; how = shut })))
+    → (left : Option (List ℕ)) → MayLeaveName (with_now (after_writing place count bytes) (record { now = now; others = others; how = shut })) left → IsBefore now others place count left
 written_before None others place count bytes is within left may = record { from = left; may = may; torn = torn_same place count (bytes_or left) }
 written_before (Some file) others place count bytes is within None (inl may) = absurd may
 written_before (Some file) others place count bytes is within (Some found) (inl may) =
@@ -199,14 +201,14 @@ written_before (Some file) others place count bytes is within left (inr may) = r
 pub write_before : (file : FileNo) (folder : Folder) (place count : ℕ) (bytes : List ℕ) → AreConsistent folder → place ≤ length (bytes_or (bytes_now (entry_named (Journal file) folder))) → (left : Stopped)
     → MayLeaveFolder (folder_after (wrote (Journal file) place count bytes) folder) left → AfterFolder folder (InFile file (Torn place count)) left
 write_before Zero folder place count bytes are within left may =
-    let found : IsBefore folder.zero place count left.zero = written_before folder.zero.now folder.zero.others place count bytes are.zero within left.zero may.zero in
+    let found : IsBefore folder.zero.now folder.zero.others place count left.zero = written_before folder.zero.now folder.zero.others place count bytes are.zero within left.zero may.zero in
     record {
       from = record left { zero = found.from };
       was = record { zero = found.may; one = may.one; store = may.store; new = may.new; out = may.out };
       by = record { bytes = bytes_or left.zero; step = found.torn; rest = refl };
     }
 write_before One folder place count bytes are within left may =
-    let found : IsBefore folder.one place count left.one = written_before folder.one.now folder.one.others place count bytes are.one within left.one may.one in
+    let found : IsBefore folder.one.now folder.one.others place count left.one = written_before folder.one.now folder.one.others place count bytes are.one within left.one may.one in
     record {
       from = record left { one = found.from };
       was = record { zero = may.zero; one = found.may; store = may.store; new = may.new; out = may.out };
@@ -215,8 +217,8 @@ write_before One folder place count bytes are within left may =
 
 -- a missing file is made, and is empty
 
-made_bytes : (now : Option FolderFile) (others : List (Option DiskFile)) → bytes_now (record { now = now; others = others }) ≡ None → (left : Option (List ℕ)) → MayLeaveName (renewed (Some empty_file) (record { now = now; others = others })) left
-    → (from : Option (List ℕ)) × MayLeaveName (record { now = now; others = others }) from × (bytes_or left ≡ bytes_or from)
+made_bytes : (now : Option FolderFile) (others : List (Option DiskFile)) → bytes_now (record { now = now; others = others; how = shut }) ≡ None → (left : Option (List ℕ)) → MayLeaveName (renewed (Some empty_file) opened (record { now = now; others = others; how = shut })) left
+    → (from : Option (List ℕ)) × MayLeaveName (record { now = now; others = others; how = shut }) from × (bytes_or left ≡ bytes_or from)
 made_bytes None others missing None (inl may) = absurd may
 made_bytes None others missing (Some bytes) (inl may) = (None, inl tt, settled_only [] bytes may)
 made_bytes None others missing left (inr may) = (left, may, refl)

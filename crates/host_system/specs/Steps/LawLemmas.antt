@@ -1,5 +1,5 @@
 -- Only for proofs: the laws of a board over a system. They hold of each past, whatever was done in it.
-use Rattle.std.specs.Prelude.{◌≡◌, ℕ, ◌≤◌, List, [], ◌∷◌, length, Bool, true, false, ◌&&◌, Option, None, Some, refl}
+use Rattle.std.specs.Prelude.{◌≡◌, ℕ, ◌≤◌, List, [], length, Option, None, Some, refl}
 use Rattle.std.specs.Option.{option_map}
 use Rattle.std.proofs.Common.{sym, ◌∙◌, ap, subst, inl, inr, arith}
 use Rattle.ras_base.specs.LittleEndian.{AreBytes}
@@ -9,7 +9,8 @@ use Rattle.board_core.specs.DiskModel.{Range, DiskFile, MayLeaveFile}
 use Rattle.board_core.specs.Stop.{Left}
 use Rattle.host_system.specs.Folder.{FolderFile, NameEntry, shut, lost, on_disk, entry_from, Stopped, MayLeaveOne, MayLeaveAny, MayLeaveName, MayLeaveFolder, bytes_now, here_in, settled_folder}
 use Rattle.host_system.specs.Steps.FolderLemmas.{IsConsistent}
-use Rattle.host_system.specs.View.{HasSettledStore, is_none_of, is_settled_file, is_settled, told_over}
+use Rattle.host_system.specs.View.{IsDurable, told_over}
+use Rattle.host_system.specs.BoardFile.{HasSettledStore, IsSettled}
 use Rattle.host_system.specs.FolderPast.{FolderPast, folder_of, bytes_or}
 use Rattle.host_system.specs.Steps.FolderPastLemmas.{consistent_of, here_left, now_only, now_counts, since_earlier}
 use Rattle.host_system.specs.View.{MayBegin, store_in, seen_now, clock_over}
@@ -38,40 +39,18 @@ text_left (Some past) t left is now =
 
 -- a file none of whose writes is on its way
 
-no_ranges : (synced : List ℕ) (written : List Range) (left : List ℕ) → is_none_of written ≡ true → MayLeaveFile (record { synced = synced; written = written }) left → left ≡ synced
-no_ranges synced [] left is may = settled_only synced left may
-no_ranges synced (x ∷ xs) left is may = absurd (false_true is)
-  where
-    false_true : false ≡ true → ⊥
-    false_true e = cc
+no_ranges : (synced : List ℕ) (written : List Range) (left : List ℕ) → written ≡ [] → MayLeaveFile (record { synced = synced; written = written }) left → left ≡ synced
+no_ranges synced written left is may = settled_only synced left (subst (λ (ranges : List Range). MayLeaveFile (record { synced = synced; written = ranges }) left) is may)
 
-both : (a b : Bool) → (a && b) ≡ true → (a ≡ true) × (b ≡ true)
-both true true is = (refl, refl)
-both true false is = absurd (false_true is)
-  where
-    false_true : false ≡ true → ⊥
-    false_true e = cc
-both false b is = absurd (false_true is)
-  where
-    false_true : false ≡ true → ⊥
-    false_true e = cc
-
-no_others : (others : List (Option DiskFile)) (left : Option (List ℕ)) → is_none_of others ≡ true → MayLeaveAny others left → ⊥
-no_others [] left is may = absurd may
-no_others (x ∷ xs) left is may = absurd (false_true is)
-  where
-    false_true : false ≡ true → ⊥
-    false_true e = cc
-
-only_now : (now : Option FolderFile) (left : Option (List ℕ)) → is_settled_file now ≡ true → MayLeaveOne (on_disk now) (option_map (λ (f : FolderFile). f.bytes) now) → MayLeaveOne (on_disk now) left → left ≡ option_map (λ (f : FolderFile). f.bytes) now
+only_now : (now : Option FolderFile) (left : Option (List ℕ)) → IsDurable now → MayLeaveOne (on_disk now) (option_map (λ (f : FolderFile). f.bytes) now) → MayLeaveOne (on_disk now) left → left ≡ option_map (λ (f : FolderFile). f.bytes) now
 only_now None None is here_in may = refl
 only_now None (Some bytes) is here_in may = absurd may
 only_now (Some file) None is here_in may = absurd may
 only_now (Some file) (Some bytes) is here_in may = ap Some (no_ranges file.disk.synced file.disk.written bytes is may ∙ sym (no_ranges file.disk.synced file.disk.written file.bytes is here_in))
 
-only_here : (entry : NameEntry) (left : Option (List ℕ)) → is_settled entry ≡ true → IsConsistent entry → MayLeaveName entry left → left ≡ bytes_now entry
-only_here entry left is here_in (inl may) = only_now entry.now left (both (is_none_of entry.others) (is_settled_file entry.now) is).1 here_in may
-only_here entry left is here_in (inr may) = absurd (no_others entry.others left (both (is_none_of entry.others) (is_settled_file entry.now) is).0 may)
+only_here : (entry : NameEntry) (left : Option (List ℕ)) → IsSettled entry → IsConsistent entry → MayLeaveName entry left → left ≡ bytes_now entry
+only_here entry left is here_in (inl may) = only_now entry.now left is.1 here_in may
+only_here entry left is here_in (inr may) = absurd (subst (λ (others : List (Option DiskFile)). MayLeaveAny others left) is.0 may)
 
 pub store_left : (past : FolderPast) (left : Left) → HasSettledStore past → LeftNow (clock_over (Some past)) left → left.store ≡ (seen_now past).store
 store_left past left is now = ap (λ (l : Left). l.store) now.is ∙ ap store_in (only_here (folder_of past).store now.stopped.store is (consistent_of past).store (may_now past left now).store)
@@ -85,8 +64,8 @@ earlier_left (Some past) s t left within may = record { stopped = may.stopped; m
 shut_lost : shut ≡ lost → ⊥
 shut_lost e = cc
 
-begins_whole : (bytes : Option (List ℕ)) → is_settled_file (entry_from bytes).now ≡ true
-begins_whole None = refl
+begins_whole : (bytes : Option (List ℕ)) → IsDurable (entry_from bytes).now
+begins_whole None = tt
 begins_whole (Some bytes) = refl
 
 begins_bytes : (bytes : Option (List ℕ)) → bytes_or bytes ≡ bytes_or (bytes_now (entry_from bytes))

@@ -1,8 +1,8 @@
 -- Calls of which a board sees nothing, and the one that gives the record store a new file.
-use Rattle.std.specs.Prelude.{◌≡◌, ℕ, ◌⊎◌, List, Option, Some}
+use Rattle.std.specs.Prelude.{◌≡◌, ℕ, ◌⊎◌, List, [], Option, Some}
 use Rattle.board_core.specs.Clock.{Passes}
 use Rattle.board_core.specs.Stop.{Same}
-use Rattle.host_system.specs.Folder.{Folder, FolderFile, opened, settled_name, settled_file_of, entry_from}
+use Rattle.host_system.specs.Folder.{Folder, FolderFile, opened, settled_name, settled_file_of}
 use Rattle.host_system.specs.FolderPast.{FolderPast, folder_of, IfTold}
 use Rattle.host_system.specs.View.{clock_over}
 
@@ -12,8 +12,6 @@ pub record KeepsSeen (old new : Folder) : Type 0 where
   pub one : new.one ≡ old.one
   pub store : new.store ≡ old.store
   pub out : new.out ≡ old.out
-  pub zero_use : new.uses.zero ≡ old.uses.zero
-  pub one_use : new.uses.one ≡ old.uses.one
 
 abbrev pub SeesNothing : FolderPast → FolderPast → Type 0
 SeesNothing old new = KeepsSeen (folder_of old) (folder_of new)
@@ -27,7 +25,7 @@ pub record Quiet (old new : Option FolderPast) : Type 0 where
 -- `rasd.new` is this file, and open.
 pub record HasNew (file : FolderFile) (past : FolderPast) : Type 0 where
   pub is : (folder_of past).new.now ≡ Some file
-  pub is_open : (folder_of past).uses.new ≡ opened
+  pub is_open : (folder_of past).new.how ≡ opened
 
 -- The store's file has these bytes, all of them on the disk. Its name may be on its way. All else is
 -- as it was.
@@ -36,8 +34,6 @@ pub record Moved (bytes : List ℕ) (old new : Folder) : Type 0 where
   pub one : new.one ≡ old.one
   pub store : new.store.now ≡ Some (settled_file_of bytes)
   pub out : new.out ≡ old.out
-  pub zero_use : new.uses.zero ≡ old.uses.zero
-  pub one_use : new.uses.one ≡ old.uses.one
 
 abbrev pub HasMoved : List ℕ → FolderPast → FolderPast → Type 0
 HasMoved bytes old new = Moved bytes (folder_of old) (folder_of new)
@@ -47,10 +43,9 @@ HasMoved bytes old new = Moved bytes (folder_of old) (folder_of new)
 pub record Replaced (bytes : List ℕ) (old new : Folder) : Type 0 where
   pub zero : new.zero ≡ settled_name old.zero
   pub one : new.one ≡ settled_name old.one
-  pub store : new.store ≡ entry_from (Some bytes)
+  pub store : new.store.now ≡ Some (settled_file_of bytes)
+  pub others : new.store.others ≡ []
   pub out : new.out ≡ old.out
-  pub zero_use : new.uses.zero ≡ old.uses.zero
-  pub one_use : new.uses.one ≡ old.uses.one
 
 abbrev pub IsReplaced : List ℕ → FolderPast → FolderPast → Type 0
 IsReplaced bytes old new = Replaced bytes (folder_of old) (folder_of new)

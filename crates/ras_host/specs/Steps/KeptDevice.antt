@@ -10,9 +10,10 @@ use Rattle.board_core.specs.declared.board.FileNo.{FileNo}
 use Rattle.erst_store.specs.Device.{Device, Volatile, device_with, volatile_of, new_device, with_put}
 use Rattle.erst_store.specs.DeviceLaws.{IsDevice}
 use Rattle.erst_store.specs.Store.{Stored, refusal_of}
-use Rattle.host_system.specs.BoardFile.{KeepsFile}
+use Rattle.host_system.specs.BoardFile.{KeepsFile, HasSettledStore, with_store}
 use Rattle.host_system.specs.FolderPast.{FolderPast, IfTold}
-use Rattle.host_system.specs.View.{HasSettledStore, HasWholeStore, clock_over, seen_now, with_store}
+use Rattle.host_system.specs.View.{HasWholeStore, clock_over, seen_now}
+use Rattle.ras_host.specs.declared.kept.Change.{Change}
 use Rattle.ras_host.specs.declared.kept.Kept.{Kept}
 use Rattle.ras_host.specs.declared.saved.Saved.{Saved}
 use Rattle.ras_host.specs.declared.kept.Kept.TheVariants.{Unread, Here, Lost, Unreadable}
@@ -104,6 +105,26 @@ IfRefused result P = Unit {0}
 pub record Stays (old new : Kept) (before after : Option FolderPast) : Type 0 where
   pub told : after ≡ before
   pub keeps : IfSome before (Keeps old new)
+
+-- What was made of a device by a step, before its store comes into the file.
+pub record IsChange (step : Device → Device) (saved : Saved) (change : Change) : Type 0 where
+  pub before : change.before ≡ record saved.device { store = [] }
+  pub made : change.made.device ≡ step saved.device
+  pub device : IsDevice change.made.device
+  pub had : change.had.items ≡ saved.file.items
+
+-- A device is lost after this step, which didn't come into the file.
+pub record Loses (step : Device → Device) (saved : Saved) (new : Kept) : Type 0 where
+  pub before : Device
+  pub made : Device
+  pub lost : new ≡ Lost before made
+  pub was : before ≡ record saved.device { store = [] }
+  pub same : made ≡ step saved.device
+  pub device : IsDevice made
+
+-- A device that was taken out is kept as it was, or is lost.
+abbrev pub StaysOrLoses : (Device → Device) → Saved → Kept → Type 0
+StaysOrLoses step saved new = Acts (λ d. d) saved.device new ⊎ Loses step saved new
 
 -- A device is kept if its store came into the file, and else is lost, together with the one from
 -- before.

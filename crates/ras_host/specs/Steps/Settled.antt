@@ -1,6 +1,6 @@
 -- When nothing of the record store's file is on its way to the disk.
 use Rattle.host_system.specs.FolderPast.{FolderPast}
-use Rattle.host_system.specs.View.{HasSettledStore}
+use Rattle.host_system.specs.BoardFile.{HasSettledStore}
 use Rattle.ras_host.specs.JournalFiles.{IsOneSound}
 use Rattle.ras_host.specs.Steps.KeptDevice.{IsSaved}
 use Rattle.ras_host.specs.declared.journal.JournalFiles.{JournalFiles}

@@ -2,6 +2,7 @@
 use Rattle.std.specs.Prelude.{Option}
 use Rattle.std.specs.Option.{option_map}
 use Rattle.board_core.specs.Clock.{Clock}
+use Rattle.board_core.specs.Doing.{Seen}
 use Rattle.board_core.specs.Stop.{Left}
 use Rattle.board_core.specs.Told.{Told}
 use Rattle.host_system.specs.View.{told_over, clock_over}
@@ -24,3 +25,7 @@ told_of b = option_map (told_with b) (told_over b.past)
 -- its moments
 abbrev pub clock_of : BoardState → Clock
 clock_of b = clock_over b.past
+
+-- what contracts see of it
+abbrev pub seen_of : BoardState → Seen
+seen_of b = record { told = told_of b; clock = clock_of b; faults = b.faults }

@@ -1,11 +1,11 @@
 -- What was read of both files.
-use Rattle.std.specs.Prelude.{◌≡◌, ℕ, List, OnOk, Option, Some, Result, Ok}
+use Rattle.std.specs.Prelude.{◌≡◌, ℕ, ◌⊎◌, List, OnOk, Option, Some, Result, Ok}
 use Rattle.board_core.specs.Told.{Relates, Told}
 use Rattle.std.specs.Option.{option_map}
 use Rattle.ras_journal.specs.Recovered.{is_shut, journal_of}
 use Rattle.ras_recover.specs.declared.pair.BothRead.{BothRead}
 use Rattle.ras_recover.specs.declared.refused.OpenRefused.{OpenRefused}
-use Rattle.ras_recover.specs.declared.refused.OpenRefused.TheVariants.{Disk, TooLong, Damaged, NoMemory}
+use Rattle.ras_recover.specs.declared.window.SizedFile.{SizedFile}
 use Rattle.ras_recover.specs.DiskCalls.{Calls}
 use Rattle.ras_recover.specs.OpeningCalls.{AfterRecovery, IsRecoveryOf}
 use Rattle.ras_recover.specs.Steps.Reading.{front_at}
@@ -17,16 +17,13 @@ pub record AreRead (both : BothRead) (file0 file1 : List ℕ) : Type 0 where
   pub one : both.shut.1 ≡ is_shut file1
 
 -- what holds if something was found
-abbrev pub IfFound : {T : Type 0} → Result (Option T) OpenRefused → Type 0 → Type 0
+abbrev pub IfFound : {T E : Type 0} → Result (Option T) E → Type 0 → Type 0
 IfFound (Ok (Some x)) P = P
 IfFound other P = Unit {0}
 
--- A disk call failed or memory ran out, which tells nothing of what the files hold.
-abbrev pub TellsNothing : OpenRefused → Type 0
-TellsNothing Disk = Unit {0}
-TellsNothing TooLong = ⊥
-TellsNothing (Damaged file place) = ⊥
-TellsNothing NoMemory = Unit {0}
+-- These two files are those two, in one order or the other.
+abbrev pub AreBoth : SizedFile → SizedFile → SizedFile → SizedFile → Type 0
+AreBoth zero one older newer = ((older ≡ zero) × (newer ≡ one)) ⊎ ((older ≡ one) × (newer ≡ zero))
 
 -- Both files were synced and then read: all that counts of them, if it was answered Ok.
 pub record DoesRecovery {T : Type 0} (result : Result T OpenRefused) (before now : Option Told) : Type 0 where

@@ -1,9 +1,8 @@
 -- The piece of a journal file that is held while the file is read.
 use Rattle.std.specs.Prelude.{◌≡◌, ℕ, ◌+◌, ◌≤◌, ◌<◌, ◌⊎◌, min, List, length, take, drop, Option, None, Some, Result, Ok, Err, IfSome, true, false}
-use Rattle.board_core.specs.declared.board.DiskCall.{DiskCall}
-use Rattle.board_core.specs.Cause.{Faults, disk_call, FailsAs}
-use Rattle.board_core.specs.Clock.{Clock}
-use Rattle.board_core.specs.Told.{Told, Relates, file_of}
+use Rattle.board_core.specs.Cause.{disk_call}
+use Rattle.board_core.specs.Doing.{Ended, broke, ended_by, gave_up}
+use Rattle.board_core.specs.Told.{Told, file_of}
 use Rattle.ras_journal.specs.declared.limits.TheConstants.{LONGEST_FILE}
 use Rattle.ras_journal.specs.Fields.{field, number_of, is_open_of, version_of}
 use Rattle.ras_journal.specs.File.{FileFront, has_open_gate, first_front}
@@ -12,9 +11,6 @@ use Rattle.ras_recover.specs.declared.place.ReadRefused.{ReadRefused}
 use Rattle.ras_recover.specs.declared.place.ReadRefused.TheVariants.{Disk, Damaged, NoMemory}
 use Rattle.ras_recover.specs.declared.window.SizedFile.{SizedFile}
 use Rattle.ras_recover.specs.declared.window.Window.{Window}
-use Rattle.ras_recover.specs.Steps.Looking.{AreReads}
-use Rattle.ras_recover.specs.DiskCalls.{Calls}
-use Rattle.ras_recover.specs.Recovering.{KeepsTold}
 
 -- the place after the bytes that are held
 abbrev pub end_of : Window → ℕ
@@ -66,24 +62,15 @@ IsBroken taken bytes Disk = Unit {0}
 IsBroken taken bytes (Damaged place) = (has_open_gate bytes ≡ true) × (first_front taken bytes ≡ Err place)
 IsBroken taken bytes NoMemory = Unit {0}
 
--- ---- calls that only read
+-- A failed disk call is a fault; each other refusal comes from a call that gave up.
+abbrev pub read_refused_end : ReadRefused → Ended
+read_refused_end Disk = broke disk_call
+read_refused_end (Damaged place) = gave_up
+read_refused_end NoMemory = gave_up
 
--- Only a disk call that failed is a fault of the disk.
-abbrev pub read_failure : {T : Type 0} → Result T ReadRefused → Result (Unit {0}) ReadRefused
-read_failure (Ok x) = Ok tt
-read_failure (Err Disk) = Err Disk
-read_failure (Err (Damaged place)) = Ok tt
-read_failure (Err NoMemory) = Ok tt
-
--- Size and ReadAt calls alone were made, of which this holds if all went well.
-pub record LooksAt {T E : Type 0} (failure : Result T E → Result (Unit {0}) E) (result : Result T E) (Done : Told → List DiskCall → Type 0)
-    (told_old : Option Told) (old : Clock) (before : Faults) (told_new : Option Told) (new : Clock) (now : Faults) : Type 0 where
-  pub keeps : KeepsTold told_old old told_new new
-  pub calls : Relates (λ t. Calls (AreReads result (Done t)) t) told_old told_new
-  pub cause : FailsAs disk_call before now (failure result)
-
-abbrev pub Looks : {T E : Type 0} → (Result T E → Result (Unit {0}) E) → Result T E → (List DiskCall → Type 0) → Option Told → Clock → Faults → Option Told → Clock → Faults → Type 0
-Looks failure result Done told_old old before told_new new now = LooksAt failure result (λ t. Done) told_old old before told_new new now
+-- how reading a file ended
+abbrev pub read_end : {T : Type 0} → Result T ReadRefused → Ended
+read_end result = ended_by read_refused_end result
 
 -- ---- pieces that suffice
 

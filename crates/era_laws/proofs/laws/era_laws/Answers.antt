@@ -1,6 +1,7 @@
 use Rattle.era_laws.proofs.EraLemmas.{accounts-along, each-counts, era-cut, histories-along, logs-along, logs-once-along, records-kept}
 use Rattle.era_laws.proofs.EraOrderLemmas.{module-stands-along, modules-along, orders-along, page-stands-along, pages-along}
 use Rattle.era_laws.proofs.PollLemmas.{era-polled, era-polled-whole}
+use Rattle.era_laws.proofs.PrintedLemmas.{era-printed, printed-once}
 use Rattle.era_laws.proofs.ReplayLemmas.{replayed-counts, replayed-same, replayed-together}
 use Rattle.era_laws.proofs.laws.era_laws.Goals as goal
 
@@ -18,6 +19,12 @@ returns-clause-logged c = λ history here eras counts opens follow counted. logs
 
 pub returns-clause-once : goal.returns-clause-once
 returns-clause-once c = logs-once-along
+
+pub returns-clause-printed : goal.returns-clause-printed
+returns-clause-printed c = era-printed
+
+pub returns-clause-printed_once : goal.returns-clause-printed_once
+returns-clause-printed_once c = printed-once
 
 pub returns-clause-ordered : goal.returns-clause-ordered
 returns-clause-ordered c = orders-along

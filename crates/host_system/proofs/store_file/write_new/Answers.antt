@@ -1,6 +1,7 @@
 use Rattle.std.proofs.Common.{length}
 use Rattle.host_system.specs.declared.system.FileName.TheVariants.{New}
-use Rattle.host_system.specs.Folder.{made, wrote, empty_file, after_writing}
+use Rattle.host_system.specs.Folder.{made, wrote, after_writing}
+use Rattle.host_system.specs.Steps.FolderLemmas.{empty_file}
 use Rattle.host_system.proofs.QuietLemmas.{quiet_then, quiet_done, quiet_failed, quiet_wrote, of_make, of_write, sync_end, new_made, new_serves, new_written, new_end}
 use Rattle.host_system.proofs.store_file.write_new.Goals as goal
 

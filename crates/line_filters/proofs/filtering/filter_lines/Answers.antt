@@ -1,5 +1,4 @@
 use Rattle.board_core.specs.Steps.ClockLemmas.{adds_none}
-use Rattle.board_core.specs.Doing.{looks}
 use Rattle.ras_exit.specs.Telling.{PrintMoment}
 use Rattle.line_filters.specs.Filters.{filter_output}
 use Rattle.line_filters.proofs.CallLemmas.{filters_nothing, filters_on, filters_stop, of_both, stops_both, takes_at}
@@ -11,23 +10,23 @@ returns-in-Err-clause-filters g c = filters_nothing _ _ _ (g.met.F.LineFilter.no
 
 pub returns-in-Err-clause-stops : goal.returns-in-Err-clause-stops
 returns-in-Err-clause-stops g c =
-    stops_both (g.F.LineFilter.makes c.args.filter.now) (g.S.Source.left c.args.source.now) (g.B.Board.told c.args.board.now) _ _ (λ script t left told. adds_none (PrintMoment (g.B.Board.clock c.args.board.now) (filter_output (g.F.LineFilter.makes c.args.filter.now) script)) (g.B.Board.clock c.args.board.now))
+    stops_both (g.F.LineFilter.makes c.args.filter.now) (g.S.Source.left c.args.source.now) (g.B.Board.seen c.args.board.now).told _ _ (λ script t left told. adds_none (PrintMoment (g.B.Board.seen c.args.board.now).clock (filter_output (g.F.LineFilter.makes c.args.filter.now) script)) (g.B.Board.seen c.args.board.now).clock)
 
 pub returns-clause-filters : goal.returns-clause-filters
 returns-clause-filters g c = of_both _ _ _ _ _ (λ script t left told.
-    filters_on (looks g.B.Board.told g.B.Board.clock g.B.Board.faults) (g.F.LineFilter.makes c.args.filter.now) script t (g.B.Board.clock c.args.board.now) c.take_lines-exit.result c.end_lines.result
+    filters_on g.B.Board.seen (g.F.LineFilter.makes c.args.filter.now) script t (g.B.Board.seen c.args.board.now).clock c.take_lines-exit.result c.end_lines.result
     (g.F.LineFilter.makes c.take_lines-exit.new.filter) c.take_lines-exit.new.lines.reader (g.S.Source.left c.take_lines-exit.new.source) c.take_lines-exit.new.board c.end_lines.new.board
     (c.take_lines-exit.ensures.ends script t left told) c.end_lines.ensures.ends)
 
 pub returns-clause-stops : goal.returns-clause-stops
-returns-clause-stops g c = stops_both (g.F.LineFilter.makes c.args.filter.now) (g.S.Source.left c.args.source.now) (g.B.Board.told c.args.board.now) _ _ (λ script t left told.
-    filters_stop (looks g.B.Board.told g.B.Board.clock g.B.Board.faults) (g.F.LineFilter.makes c.args.filter.now) script t (g.B.Board.clock c.args.board.now) c.take_lines-exit.result c.end_lines.result
+returns-clause-stops g c = stops_both (g.F.LineFilter.makes c.args.filter.now) (g.S.Source.left c.args.source.now) (g.B.Board.seen c.args.board.now).told _ _ (λ script t left told.
+    filters_stop g.B.Board.seen (g.F.LineFilter.makes c.args.filter.now) script t (g.B.Board.seen c.args.board.now).clock c.take_lines-exit.result c.end_lines.result
     (g.F.LineFilter.makes c.take_lines-exit.new.filter) c.take_lines-exit.new.lines.reader (g.S.Source.left c.take_lines-exit.new.source) c.take_lines-exit.new.board c.end_lines.new.board
     (c.take_lines-exit.ensures.ends script t left told) c.end_lines.ensures.ends)
 
 pub returns-clause-takes : goal.returns-clause-takes
 returns-clause-takes g c =
-    takes_at (looks g.B.Board.told g.B.Board.clock g.B.Board.faults) c.take_lines-exit.result c.end_lines.result _ c.take_lines-exit.new.board c.end_lines.new.board (g.S.Source.left c.args.source.now)
+    takes_at g.B.Board.seen c.take_lines-exit.result c.end_lines.result _ c.take_lines-exit.new.board c.end_lines.new.board (g.S.Source.left c.args.source.now)
     (g.S.Source.left c.take_lines-exit.new.source) c.end_lines.ensures.ends c.take_lines-exit.ensures.takes
 
 pub returns-clause-device : goal.returns-clause-device

@@ -1,7 +1,6 @@
 use Rattle.std.proofs.Common.{◌≡◌, ◌+◌, Ok, Err, true, false, ap, refl, subst, sym, ◌∙◌, arith}
 use Rattle.std.specs.Prelude.{Contains}
 use Rattle.std.proofs.lemmas.Result.{err_from_is_err_and}
-use Rattle.board_core.specs.Doing.{looks}
 use Rattle.ras_exit.specs.Causes.{BoardCause, SourceCause}
 use Rattle.ras_exit.specs.declared.exit.Exit.TheVariants.{Done}
 use Rattle.ras_exit.proofs.DeviceLemmas.{device_goes_on, device_stays}
@@ -13,7 +12,7 @@ use Rattle.line_filters.proofs.filtering.gather.Goals as goal
 
 pub loop-lines-init : goal.loop-lines-init
 loop-lines-init g c = record {
-  along = λ script t left told. start_on (g.F.LineFilter.makes c.args.filter.now) script t c.args.lines.now c.args.waiting.now.items (g.S.Source.left c.args.source.now) (g.B.Board.told c.args.board.now) (g.B.Board.clock c.args.board.now) c.requires.begins.0 (g.met.F.LineFilter.none c.args.filter.now) c.requires.begins.2 left told;
+  along = λ script t left told. start_on (g.F.LineFilter.makes c.args.filter.now) script t c.args.lines.now c.args.waiting.now.items (g.S.Source.left c.args.source.now) (g.B.Board.seen c.args.board.now).told (g.B.Board.seen c.args.board.now).clock c.requires.begins.0 (g.met.F.LineFilter.none c.args.filter.now) c.requires.begins.2 left told;
   taken = λ script left. takes_none script c.args.lines.now.reader (g.S.Source.left c.args.source.now) (ap (λ (l : Numbered). l.reader) c.requires.begins.0) left;
   counted = omega (arith, ap (λ (l : Numbered). l.number) c.requires.begins.0);
   few = omega (arith, ap (λ (l : Numbered). l.number) c.requires.begins.0);
@@ -45,10 +44,10 @@ loop-lines-preserved g c =
     let so_far = c.loop-lines.invariant.counted in
     record {
       along = λ script t left told.
-          line_on (g.F.LineFilter.makes c.args.filter.now) script t (g.B.Board.clock c.args.board.now) c.loop-lines.lines c.next.new.self (g.F.LineFilter.makes c.loop-lines.filter) c.print_waiting.new.waiting.items (g.B.Board.clock c.print_waiting.new.board) (g.met.F.LineFilter.none c.loop-lines.filter)
-          (free_of (looks g.B.Board.told g.B.Board.clock g.B.Board.faults) (Contains c.loop-lines.lines.reader.held 10) c.loop-lines.waiting.items c.print_waiting.new.waiting.items c.loop-lines.board c.print_waiting.new.board c.in_ok-print_waiting.ensures.prints)
-          (g.F.LineFilter.makes c.take_line.new.filter) c.take_line.new.waiting.items (g.S.Source.left c.loop-lines.source) (g.S.Source.left c.next.new.source) (g.B.Board.told c.print_waiting.new.board)
-          (wait_on (looks g.B.Board.told g.B.Board.clock g.B.Board.faults) (g.F.LineFilter.makes c.args.filter.now) script t (g.B.Board.clock c.args.board.now) c.loop-lines.lines (g.F.LineFilter.makes c.loop-lines.filter) c.loop-lines.waiting.items c.print_waiting.new.waiting.items (Contains c.loop-lines.lines.reader.held 10) c.loop-lines.board c.print_waiting.new.board (g.S.Source.left c.loop-lines.source) (c.loop-lines.invariant.along script t left told) c.in_ok-print_waiting.ensures.prints)
+          line_on (g.F.LineFilter.makes c.args.filter.now) script t (g.B.Board.seen c.args.board.now).clock c.loop-lines.lines c.next.new.self (g.F.LineFilter.makes c.loop-lines.filter) c.print_waiting.new.waiting.items (g.B.Board.seen c.print_waiting.new.board).clock (g.met.F.LineFilter.none c.loop-lines.filter)
+          (free_of g.B.Board.seen (Contains c.loop-lines.lines.reader.held 10) c.loop-lines.waiting.items c.print_waiting.new.waiting.items c.loop-lines.board c.print_waiting.new.board c.in_ok-print_waiting.ensures.prints)
+          (g.F.LineFilter.makes c.take_line.new.filter) c.take_line.new.waiting.items (g.S.Source.left c.loop-lines.source) (g.S.Source.left c.next.new.source) (g.B.Board.seen c.print_waiting.new.board).told
+          (wait_on g.B.Board.seen (g.F.LineFilter.makes c.args.filter.now) script t (g.B.Board.seen c.args.board.now).clock c.loop-lines.lines (g.F.LineFilter.makes c.loop-lines.filter) c.loop-lines.waiting.items c.print_waiting.new.waiting.items (Contains c.loop-lines.lines.reader.held 10) c.loop-lines.board c.print_waiting.new.board (g.S.Source.left c.loop-lines.source) (c.loop-lines.invariant.along script t left told) c.in_ok-print_waiting.ensures.prints)
           (λ held. ap g.S.Source.left (c.in_ok-next.ensures.held_first held)) (gave_as (Ok c.in_ok-next.field-0) (Ok true) c.loop-lines.lines c.next.new.self (g.S.Source.left c.loop-lines.source) (g.S.Source.left c.next.new.source) (ap Ok c.if-not-branch.false) c.in_ok-next.ensures.gives) moves (takes_more (Ok true) script c.loop-lines.lines.reader c.next.new.self.reader (g.S.Source.left c.loop-lines.source) (g.S.Source.left c.next.new.source) moves (c.loop-lines.invariant.taken script left)) counts c.in_ok-take_line.ensures.takes;
       taken = λ script left. (takes_more (Ok true) script c.loop-lines.lines.reader c.next.new.self.reader (g.S.Source.left c.loop-lines.source) (g.S.Source.left c.next.new.source) moves (c.loop-lines.invariant.taken script left));
       counted = omega arith;
@@ -66,7 +65,7 @@ pub returns-in_err-print_waiting-clause-ends : goal.returns-in_err-print_waiting
 returns-in_err-print_waiting-clause-ends g c = λ script t left told.
     let p = err_from_is_err_and c.from_residual.result c.from_residual.ensures.1 in
     rw (p.1, p.2)
-    (unprinted_on (looks g.B.Board.told g.B.Board.clock g.B.Board.faults) (g.F.LineFilter.makes c.args.filter.now) script t (g.B.Board.clock c.args.board.now) c.loop-lines.lines (g.F.LineFilter.makes c.loop-lines.filter) c.loop-lines.waiting.items c.print_waiting.new.waiting.items (Contains c.loop-lines.lines.reader.held 10) c.loop-lines.board c.print_waiting.new.board c.in_err-print_waiting.field-0.0 (g.S.Source.left c.loop-lines.source)
+    (unprinted_on g.B.Board.seen (g.F.LineFilter.makes c.args.filter.now) script t (g.B.Board.seen c.args.board.now).clock c.loop-lines.lines (g.F.LineFilter.makes c.loop-lines.filter) c.loop-lines.waiting.items c.print_waiting.new.waiting.items (Contains c.loop-lines.lines.reader.held 10) c.loop-lines.board c.print_waiting.new.board c.in_err-print_waiting.field-0.0 (g.S.Source.left c.loop-lines.source)
     (c.loop-lines.invariant.along script t left told) c.in_err-print_waiting.ensures.prints)
 
 pub returns-in_err-print_waiting-clause-takes : goal.returns-in_err-print_waiting-clause-takes
@@ -85,7 +84,7 @@ returns-in_err-print_waiting-clause-causes g c =
     let p = err_from_is_err_and c.from_residual.result c.from_residual.ensures.1 in
     rw (p.1, p.2) (
       subst (λ e. SourceCause e (g.S.Source.faults c.args.source.now) (g.S.Source.faults c.loop-lines.source)) (sym c.in_err-print_waiting.ensures.prints.0) c.loop-lines.invariant.source,
-      subst (λ f. BoardCause c.in_err-print_waiting.field-0.0 f (g.B.Board.faults c.print_waiting.new.board)) c.loop-lines.invariant.faults c.in_err-print_waiting.ensures.faults,
+      subst (λ f. BoardCause c.in_err-print_waiting.field-0.0 f (g.B.Board.seen c.print_waiting.new.board).faults) c.loop-lines.invariant.faults c.in_err-print_waiting.ensures.faults,
     )
 
 pub returns-in_err-print_waiting-clause-device : goal.returns-in_err-print_waiting-clause-device
@@ -97,10 +96,10 @@ pub returns-in_err-next-clause-ends : goal.returns-in_err-next-clause-ends
 returns-in_err-next-clause-ends g c = λ script t left told.
     let p = err_from_is_err_and c.from_residual-in_err-next.result c.from_residual-in_err-next.ensures.1 in
     rw (p.1, p.2)
-    (failed_on (g.F.LineFilter.makes c.args.filter.now) script t (g.B.Board.clock c.args.board.now) c.loop-lines.lines c.next.new.self (g.F.LineFilter.makes c.loop-lines.filter) c.print_waiting.new.waiting.items (g.B.Board.clock c.print_waiting.new.board) (g.met.F.LineFilter.none c.loop-lines.filter)
-    (free_of (looks g.B.Board.told g.B.Board.clock g.B.Board.faults) (Contains c.loop-lines.lines.reader.held 10) c.loop-lines.waiting.items c.print_waiting.new.waiting.items c.loop-lines.board c.print_waiting.new.board c.in_ok-print_waiting.ensures.prints)
-    c.in_err-next.field-0.0 (g.S.Source.left c.loop-lines.source) (g.S.Source.left c.next.new.source) (g.B.Board.told c.print_waiting.new.board)
-    (wait_on (looks g.B.Board.told g.B.Board.clock g.B.Board.faults) (g.F.LineFilter.makes c.args.filter.now) script t (g.B.Board.clock c.args.board.now) c.loop-lines.lines (g.F.LineFilter.makes c.loop-lines.filter) c.loop-lines.waiting.items c.print_waiting.new.waiting.items (Contains c.loop-lines.lines.reader.held 10) c.loop-lines.board c.print_waiting.new.board (g.S.Source.left c.loop-lines.source) (c.loop-lines.invariant.along script t left told) c.in_ok-print_waiting.ensures.prints)
+    (failed_on (g.F.LineFilter.makes c.args.filter.now) script t (g.B.Board.seen c.args.board.now).clock c.loop-lines.lines c.next.new.self (g.F.LineFilter.makes c.loop-lines.filter) c.print_waiting.new.waiting.items (g.B.Board.seen c.print_waiting.new.board).clock (g.met.F.LineFilter.none c.loop-lines.filter)
+    (free_of g.B.Board.seen (Contains c.loop-lines.lines.reader.held 10) c.loop-lines.waiting.items c.print_waiting.new.waiting.items c.loop-lines.board c.print_waiting.new.board c.in_ok-print_waiting.ensures.prints)
+    c.in_err-next.field-0.0 (g.S.Source.left c.loop-lines.source) (g.S.Source.left c.next.new.source) (g.B.Board.seen c.print_waiting.new.board).told
+    (wait_on g.B.Board.seen (g.F.LineFilter.makes c.args.filter.now) script t (g.B.Board.seen c.args.board.now).clock c.loop-lines.lines (g.F.LineFilter.makes c.loop-lines.filter) c.loop-lines.waiting.items c.print_waiting.new.waiting.items (Contains c.loop-lines.lines.reader.held 10) c.loop-lines.board c.print_waiting.new.board (g.S.Source.left c.loop-lines.source) (c.loop-lines.invariant.along script t left told) c.in_ok-print_waiting.ensures.prints)
     (λ held. ap g.S.Source.left (c.in_err-next.ensures.held_first held)) c.in_err-next.ensures.gives c.in_err-next.ensures.moves (takes_more (Err c.in_err-next.field-0.0) script c.loop-lines.lines.reader c.next.new.self.reader (g.S.Source.left c.loop-lines.source) (g.S.Source.left c.next.new.source) c.in_err-next.ensures.moves (c.loop-lines.invariant.taken script left)) c.in_err-next.ensures.counts c.in_err-next.ensures.ends.exits)
 
 pub returns-in_err-next-clause-takes : goal.returns-in_err-next-clause-takes
@@ -120,7 +119,7 @@ returns-in_err-next-clause-causes g c =
     let p = err_from_is_err_and c.from_residual-in_err-next.result c.from_residual-in_err-next.ensures.1 in
     rw (p.1, p.2) (
       subst (λ n. SourceCause c.in_err-next.field-0.0 n (g.S.Source.faults c.next.new.source)) c.loop-lines.invariant.source c.in_err-next.ensures.ends.source,
-      next_board c.in_err-next.field-0.0 (g.B.Board.faults c.args.board.now) (g.B.Board.faults c.print_waiting.new.board) c.in_err-next.ensures.ends.exits (c.in_ok-print_waiting.ensures.faults ∙ c.loop-lines.invariant.faults),
+      next_board c.in_err-next.field-0.0 (g.B.Board.seen c.args.board.now).faults (g.B.Board.seen c.print_waiting.new.board).faults c.in_err-next.ensures.ends.exits (c.in_ok-print_waiting.ensures.faults ∙ c.loop-lines.invariant.faults),
     )
 
 pub returns-in_err-next-clause-device : goal.returns-in_err-next-clause-device
@@ -131,10 +130,10 @@ returns-in_err-next-clause-device g c = device_goes_on _ _ _ _ _ _ c.loop-lines.
 pub returns-then-not-branch-clause-ends : goal.returns-then-not-branch-clause-ends
 returns-then-not-branch-clause-ends g c = λ script t left told.
     let moves = (moved_as (Ok c.in_ok-next.field-0) (Ok false) c.loop-lines.lines.reader c.next.new.self.reader (g.S.Source.left c.loop-lines.source) (g.S.Source.left c.next.new.source) (ap Ok c.if-not-branch.true) c.in_ok-next.ensures.moves) in
-    none_on (g.F.LineFilter.makes c.args.filter.now) script t (g.B.Board.clock c.args.board.now) c.loop-lines.lines c.next.new.self (g.F.LineFilter.makes c.loop-lines.filter) c.print_waiting.new.waiting.items (g.B.Board.clock c.print_waiting.new.board) (g.met.F.LineFilter.none c.loop-lines.filter)
-    (free_of (looks g.B.Board.told g.B.Board.clock g.B.Board.faults) (Contains c.loop-lines.lines.reader.held 10) c.loop-lines.waiting.items c.print_waiting.new.waiting.items c.loop-lines.board c.print_waiting.new.board c.in_ok-print_waiting.ensures.prints)
-    (g.S.Source.left c.loop-lines.source) (g.S.Source.left c.next.new.source) (g.B.Board.told c.print_waiting.new.board)
-    (wait_on (looks g.B.Board.told g.B.Board.clock g.B.Board.faults) (g.F.LineFilter.makes c.args.filter.now) script t (g.B.Board.clock c.args.board.now) c.loop-lines.lines (g.F.LineFilter.makes c.loop-lines.filter) c.loop-lines.waiting.items c.print_waiting.new.waiting.items (Contains c.loop-lines.lines.reader.held 10) c.loop-lines.board c.print_waiting.new.board (g.S.Source.left c.loop-lines.source) (c.loop-lines.invariant.along script t left told) c.in_ok-print_waiting.ensures.prints)
+    none_on (g.F.LineFilter.makes c.args.filter.now) script t (g.B.Board.seen c.args.board.now).clock c.loop-lines.lines c.next.new.self (g.F.LineFilter.makes c.loop-lines.filter) c.print_waiting.new.waiting.items (g.B.Board.seen c.print_waiting.new.board).clock (g.met.F.LineFilter.none c.loop-lines.filter)
+    (free_of g.B.Board.seen (Contains c.loop-lines.lines.reader.held 10) c.loop-lines.waiting.items c.print_waiting.new.waiting.items c.loop-lines.board c.print_waiting.new.board c.in_ok-print_waiting.ensures.prints)
+    (g.S.Source.left c.loop-lines.source) (g.S.Source.left c.next.new.source) (g.B.Board.seen c.print_waiting.new.board).told
+    (wait_on g.B.Board.seen (g.F.LineFilter.makes c.args.filter.now) script t (g.B.Board.seen c.args.board.now).clock c.loop-lines.lines (g.F.LineFilter.makes c.loop-lines.filter) c.loop-lines.waiting.items c.print_waiting.new.waiting.items (Contains c.loop-lines.lines.reader.held 10) c.loop-lines.board c.print_waiting.new.board (g.S.Source.left c.loop-lines.source) (c.loop-lines.invariant.along script t left told) c.in_ok-print_waiting.ensures.prints)
     (λ held. ap g.S.Source.left (c.in_ok-next.ensures.held_first held)) (gave_as (Ok c.in_ok-next.field-0) (Ok false) c.loop-lines.lines c.next.new.self (g.S.Source.left c.loop-lines.source) (g.S.Source.left c.next.new.source) (ap Ok c.if-not-branch.true) c.in_ok-next.ensures.gives) moves (takes_more (Ok false) script c.loop-lines.lines.reader c.next.new.self.reader (g.S.Source.left c.loop-lines.source) (g.S.Source.left c.next.new.source) moves (c.loop-lines.invariant.taken script left)) (counts_as (Ok c.in_ok-next.field-0) (Ok false) c.loop-lines.lines c.next.new.self (ap Ok c.if-not-branch.true) c.in_ok-next.ensures.counts)
 
 pub returns-then-not-branch-clause-takes : goal.returns-then-not-branch-clause-takes
@@ -159,10 +158,10 @@ returns-in_err-take_line-clause-ends g c = λ script t left told.
     let p = err_from_is_err_and c.from_residual-in_err-take_line.result c.from_residual-in_err-take_line.ensures.1 in
     let moves = (moved_as (Ok c.in_ok-next.field-0) (Ok true) c.loop-lines.lines.reader c.next.new.self.reader (g.S.Source.left c.loop-lines.source) (g.S.Source.left c.next.new.source) (ap Ok c.if-not-branch.false) c.in_ok-next.ensures.moves) in
     rw (p.1, p.2)
-    (stops_on (g.F.LineFilter.makes c.args.filter.now) script t (g.B.Board.clock c.args.board.now) c.loop-lines.lines c.next.new.self (g.F.LineFilter.makes c.loop-lines.filter) c.print_waiting.new.waiting.items (g.B.Board.clock c.print_waiting.new.board) (g.met.F.LineFilter.none c.loop-lines.filter)
-    (free_of (looks g.B.Board.told g.B.Board.clock g.B.Board.faults) (Contains c.loop-lines.lines.reader.held 10) c.loop-lines.waiting.items c.print_waiting.new.waiting.items c.loop-lines.board c.print_waiting.new.board c.in_ok-print_waiting.ensures.prints)
-    c.in_err-take_line.field-0.0 (g.F.LineFilter.makes c.take_line.new.filter) c.take_line.new.waiting.items (g.S.Source.left c.loop-lines.source) (g.S.Source.left c.next.new.source) (g.B.Board.told c.print_waiting.new.board)
-    (wait_on (looks g.B.Board.told g.B.Board.clock g.B.Board.faults) (g.F.LineFilter.makes c.args.filter.now) script t (g.B.Board.clock c.args.board.now) c.loop-lines.lines (g.F.LineFilter.makes c.loop-lines.filter) c.loop-lines.waiting.items c.print_waiting.new.waiting.items (Contains c.loop-lines.lines.reader.held 10) c.loop-lines.board c.print_waiting.new.board (g.S.Source.left c.loop-lines.source) (c.loop-lines.invariant.along script t left told) c.in_ok-print_waiting.ensures.prints)
+    (stops_on (g.F.LineFilter.makes c.args.filter.now) script t (g.B.Board.seen c.args.board.now).clock c.loop-lines.lines c.next.new.self (g.F.LineFilter.makes c.loop-lines.filter) c.print_waiting.new.waiting.items (g.B.Board.seen c.print_waiting.new.board).clock (g.met.F.LineFilter.none c.loop-lines.filter)
+    (free_of g.B.Board.seen (Contains c.loop-lines.lines.reader.held 10) c.loop-lines.waiting.items c.print_waiting.new.waiting.items c.loop-lines.board c.print_waiting.new.board c.in_ok-print_waiting.ensures.prints)
+    c.in_err-take_line.field-0.0 (g.F.LineFilter.makes c.take_line.new.filter) c.take_line.new.waiting.items (g.S.Source.left c.loop-lines.source) (g.S.Source.left c.next.new.source) (g.B.Board.seen c.print_waiting.new.board).told
+    (wait_on g.B.Board.seen (g.F.LineFilter.makes c.args.filter.now) script t (g.B.Board.seen c.args.board.now).clock c.loop-lines.lines (g.F.LineFilter.makes c.loop-lines.filter) c.loop-lines.waiting.items c.print_waiting.new.waiting.items (Contains c.loop-lines.lines.reader.held 10) c.loop-lines.board c.print_waiting.new.board (g.S.Source.left c.loop-lines.source) (c.loop-lines.invariant.along script t left told) c.in_ok-print_waiting.ensures.prints)
     (λ held. ap g.S.Source.left (c.in_ok-next.ensures.held_first held)) (gave_as (Ok c.in_ok-next.field-0) (Ok true) c.loop-lines.lines c.next.new.self (g.S.Source.left c.loop-lines.source) (g.S.Source.left c.next.new.source) (ap Ok c.if-not-branch.false) c.in_ok-next.ensures.gives) moves (takes_more (Ok true) script c.loop-lines.lines.reader c.next.new.self.reader (g.S.Source.left c.loop-lines.source) (g.S.Source.left c.next.new.source) moves (c.loop-lines.invariant.taken script left)) (counts_as (Ok c.in_ok-next.field-0) (Ok true) c.loop-lines.lines c.next.new.self (ap Ok c.if-not-branch.false) c.in_ok-next.ensures.counts) c.in_err-take_line.ensures.exits c.in_err-take_line.ensures.takes.0 c.in_err-take_line.ensures.takes.1)
 
 pub returns-in_err-take_line-clause-takes : goal.returns-in_err-take_line-clause-takes
@@ -188,7 +187,7 @@ pub returns-in_err-take_line-clause-causes : goal.returns-in_err-take_line-claus
 returns-in_err-take_line-clause-causes g c =
     let p = err_from_is_err_and c.from_residual-in_err-take_line.result c.from_residual-in_err-take_line.ensures.1 in
     rw (p.1, p.2)
-    (take_causes c.in_err-take_line.field-0.0 (g.S.Source.faults c.args.source.now) (g.S.Source.faults c.next.new.source) (g.B.Board.faults c.args.board.now) (g.B.Board.faults c.print_waiting.new.board) c.in_err-take_line.ensures.exits
+    (take_causes c.in_err-take_line.field-0.0 (g.S.Source.faults c.args.source.now) (g.S.Source.faults c.next.new.source) (g.B.Board.seen c.args.board.now).faults (g.B.Board.seen c.print_waiting.new.board).faults c.in_err-take_line.ensures.exits
     (c.in_ok-next.ensures.ends.source ∙ c.loop-lines.invariant.source) (c.in_ok-print_waiting.ensures.faults ∙ c.loop-lines.invariant.faults))
 
 pub returns-in_err-take_line-clause-device : goal.returns-in_err-take_line-clause-device

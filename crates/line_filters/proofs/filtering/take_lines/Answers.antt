@@ -1,5 +1,4 @@
 use Rattle.std.proofs.Common.{◌≡◌, sym, ap, ◌∙◌}
-use Rattle.board_core.specs.Doing.{looks}
 use Rattle.ras_exit.specs.declared.exit.Exit.TheVariants.{PrintFault}
 use Rattle.ras_exit.proofs.DeviceLemmas.{device_goes_on}
 use Rattle.line_filters.specs.Steps.Filtering.{has_failed}
@@ -15,7 +14,7 @@ gather-ended-requires g c = record { begins = (c.requires.begins.0, c.requires.b
 
 pub returns-then-has_failed-clause-ends : goal.returns-then-has_failed-clause-ends
 returns-then-has_failed-clause-ends g c = λ script t left told.
-    failed_both (g.F.LineFilter.makes c.args.filter.now) script t (g.B.Board.clock c.args.board.now) c.exit_of-exit.result (g.F.LineFilter.makes c.gather-ended.new.filter) c.gather-ended.new.waiting.items c.gather-ended.new.lines.reader (g.S.Source.left c.gather-ended.new.source) (g.B.Board.told c.gather-ended.new.board) (g.B.Board.clock c.gather-ended.new.board) (sym c.has_failed.ensures ∙ c.if-has_failed.true) (rw c.exit_of-exit.ensures (c.gather-ended.ensures.ends script t left told))
+    failed_both (g.F.LineFilter.makes c.args.filter.now) script t (g.B.Board.seen c.args.board.now).clock c.exit_of-exit.result (g.F.LineFilter.makes c.gather-ended.new.filter) c.gather-ended.new.waiting.items c.gather-ended.new.lines.reader (g.S.Source.left c.gather-ended.new.source) (g.B.Board.seen c.gather-ended.new.board).told (g.B.Board.seen c.gather-ended.new.board).clock (sym c.has_failed.ensures ∙ c.if-has_failed.true) (rw c.exit_of-exit.ensures (c.gather-ended.ensures.ends script t left told))
 
 pub returns-then-has_failed-clause-takes : goal.returns-then-has_failed-clause-takes
 returns-then-has_failed-clause-takes g c = rw c.exit_of-exit.ensures c.gather-ended.ensures.takes
@@ -30,8 +29,8 @@ returns-then-has_failed-clause-causes g c = rw c.exit_of-exit.ensures (causes_of
 
 pub returns-in-Ok-clause-ends : goal.returns-in-Ok-clause-ends
 returns-in-Ok-clause-ends g c = λ script t left told.
-    printed_both (g.F.LineFilter.makes c.args.filter.now) script t (g.B.Board.clock c.args.board.now) c.exit_of-exit.result (g.F.LineFilter.makes c.gather-ended.new.filter) c.gather-ended.new.waiting.items c.gather-ended.new.lines.reader (looks g.B.Board.told g.B.Board.clock g.B.Board.faults) c.gather-ended.new.board c.print.new.board (g.S.Source.left c.gather-ended.new.source) (sym c.has_failed.ensures ∙ c.if-has_failed.false) (rw c.exit_of-exit.ensures (c.gather-ended.ensures.ends script t left told))
-    (text_printed (looks g.B.Board.told g.B.Board.clock g.B.Board.faults) c.gather-ended.new.board c.print.new.board c.gather-ended.new.waiting.items
+    printed_both (g.F.LineFilter.makes c.args.filter.now) script t (g.B.Board.seen c.args.board.now).clock c.exit_of-exit.result (g.F.LineFilter.makes c.gather-ended.new.filter) c.gather-ended.new.waiting.items c.gather-ended.new.lines.reader g.B.Board.seen c.gather-ended.new.board c.print.new.board (g.S.Source.left c.gather-ended.new.source) (sym c.has_failed.ensures ∙ c.if-has_failed.false) (rw c.exit_of-exit.ensures (c.gather-ended.ensures.ends script t left told))
+    (text_printed g.B.Board.seen c.gather-ended.new.board c.print.new.board c.gather-ended.new.waiting.items
     (rw (← c.deref.ensures.value) c.in-Ok.ensures.does) (rw (← c.deref.ensures.value) c.in-Ok.ensures.stops) (rw (← c.deref.ensures.value) c.in-Ok.ensures.printed))
 
 pub returns-in-Ok-clause-takes : goal.returns-in-Ok-clause-takes
@@ -51,9 +50,9 @@ returns-in-Ok-clause-device g c = device_goes_on _ _ _ _ _ _ c.gather-ended.ensu
 
 pub returns-clause-ends : goal.returns-clause-ends
 returns-clause-ends g c = λ script t left told.
-    unprinted_both (g.F.LineFilter.makes c.args.filter.now) script t (g.B.Board.clock c.args.board.now) c.exit_of-exit.result (g.F.LineFilter.makes c.gather-ended.new.filter) c.gather-ended.new.waiting.items c.gather-ended.new.lines.reader (looks g.B.Board.told g.B.Board.clock g.B.Board.faults) c.in-Err.fault c.gather-ended.new.board c.print.new.board (g.S.Source.left c.gather-ended.new.source) (sym c.has_failed.ensures ∙ c.if-has_failed.false) (rw c.exit_of-exit.ensures (c.gather-ended.ensures.ends script t left told))
+    unprinted_both (g.F.LineFilter.makes c.args.filter.now) script t (g.B.Board.seen c.args.board.now).clock c.exit_of-exit.result (g.F.LineFilter.makes c.gather-ended.new.filter) c.gather-ended.new.waiting.items c.gather-ended.new.lines.reader g.B.Board.seen c.in-Err.fault c.gather-ended.new.board c.print.new.board (g.S.Source.left c.gather-ended.new.source) (sym c.has_failed.ensures ∙ c.if-has_failed.false) (rw c.exit_of-exit.ensures (c.gather-ended.ensures.ends script t left told))
     (let same : c.in-Err.fault ≡ PrintFault = (let e = c.in-Err.ensures.exit in cc) in same)
-    (not_all_printed (looks g.B.Board.told g.B.Board.clock g.B.Board.faults) c.gather-ended.new.board c.print.new.board c.in-Err.fault c.gather-ended.new.waiting.items (rw (← c.deref.ensures.value) c.in-Err.ensures.does) (rw (← c.deref.ensures.value) c.in-Err.ensures.stops))
+    (not_all_printed g.B.Board.seen c.gather-ended.new.board c.print.new.board c.in-Err.fault c.gather-ended.new.waiting.items (rw (← c.deref.ensures.value) c.in-Err.ensures.does) (rw (← c.deref.ensures.value) c.in-Err.ensures.stops))
 
 pub returns-clause-takes : goal.returns-clause-takes
 returns-clause-takes g c = takes_fault c.in-Err.fault _ _ _ (let same : c.in-Err.fault ≡ PrintFault = (let e = c.in-Err.ensures.exit in cc) in same) c.gather-ended.ensures.takes

@@ -1,5 +1,4 @@
 use Rattle.std.proofs.Common.{◌++◌, ◌∙◌, ap}
-use Rattle.board_core.specs.Doing.{looks}
 use Rattle.mce_records.specs.Records.{record_text}
 use Rattle.mce_records.proofs.PrintingLemmas.{text_cut, text_printed}
 use Rattle.mce_records.proofs.printing.print_bytes.Goals as goal
@@ -8,10 +7,10 @@ pub returns-in-Ok-clause-prints : goal.returns-in-Ok-clause-prints
 returns-in-Ok-clause-prints g c =
     let text = record_text c.args.boot c.args.bytes.now in
     let is = c.deref.ensures.value ∙ (c.in_default.ensures ∙ ap (λ front. front ++ text) c.new-text.ensures.items) in
-    text_printed text (looks g.B.Board.told g.B.Board.clock g.B.Board.faults) c.args.board.now c.print.new.board (rw (← is) c.in-Ok.ensures.does)
+    text_printed text g.B.Board.seen c.args.board.now c.print.new.board (rw (← is) c.in-Ok.ensures.does)
 
 pub returns-clause-prints : goal.returns-clause-prints
 returns-clause-prints g c =
     let text = record_text c.args.boot c.args.bytes.now in
     let is = c.deref.ensures.value ∙ (c.in_default.ensures ∙ ap (λ front. front ++ text) c.new-text.ensures.items) in
-    text_cut text (looks g.B.Board.told g.B.Board.clock g.B.Board.faults) c.args.board.now c.print.new.board c.in-Err-print.fault c.in-Err-print.ensures.exit (rw (← is) c.in-Err-print.ensures.does)
+    text_cut text g.B.Board.seen c.args.board.now c.print.new.board c.in-Err-print.fault c.in-Err-print.ensures.exit (rw (← is) c.in-Err-print.ensures.does)

@@ -4,7 +4,7 @@ use Rattle.mce_records.proofs.printing.print_record.Goals as goal
 pub returns-in-Ok-clause-prints : goal.returns-in-Ok-clause-prints
 returns-in-Ok-clause-prints g c =
     prints_input c.args.boot c.in-Ok.count c.read_front.new.buffer c.print_bytes.result (g.S.Source.left c.args.source.now) (g.S.Source.left c.read_front.new.source)
-    (g.B.Board.told c.args.board.now) (g.B.Board.told c.print_bytes.new.board) c.in-Ok.ensures.reads c.print_bytes.ensures.prints
+    (g.B.Board.seen c.args.board.now).told (g.B.Board.seen c.print_bytes.new.board).told c.in-Ok.ensures.reads c.print_bytes.ensures.prints
 
 pub returns-in-Ok-clause-takes : goal.returns-in-Ok-clause-takes
 returns-in-Ok-clause-takes g c =
@@ -13,7 +13,7 @@ returns-in-Ok-clause-takes g c =
 pub returns-in-Ok-clause-stops : goal.returns-in-Ok-clause-stops
 returns-in-Ok-clause-stops g c =
     stops_input c.args.boot c.in-Ok.count c.read_front.new.buffer (g.S.Source.left c.args.source.now) (g.S.Source.left c.read_front.new.source)
-    (g.B.Board.clock c.args.board.now) (g.B.Board.clock c.print_bytes.new.board) c.in-Ok.ensures.reads c.print_bytes.ensures.stops
+    (g.B.Board.seen c.args.board.now).clock (g.B.Board.seen c.print_bytes.new.board).clock c.in-Ok.ensures.reads c.print_bytes.ensures.stops
 
 pub returns-in-Ok-clause-exits : goal.returns-in-Ok-clause-exits
 returns-in-Ok-clause-exits g c = record_exit c.print_bytes.result c.print_bytes.ensures.exits

@@ -18,7 +18,7 @@ returns-clause-stored g c = λ first last start script left before now ran. ran_
 
 pub returns-clause-few : goal.returns-clause-few
 returns-clause-few g c = λ exit first last start script t old new tells stops always.
-    stops_few g.B.Board.told g.B.Board.clock exit (last ≡ first) start script t old new (g.met.B.Board.told_may_be_left old t tells) stops always
+    stops_few g.B.Board.seen exit (last ≡ first) start script t old new (g.met.B.Board.told_may_be_left old t tells) stops always
 
 pub returns-clause-complete : goal.returns-clause-complete
 returns-clause-complete g c = λ exit first last start script left before now count after faults then ran caused quiet_source quiet_board done.

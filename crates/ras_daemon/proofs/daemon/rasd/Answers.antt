@@ -1,6 +1,5 @@
 -- Each clause of a run from what it did.
 use Rattle.std.proofs.Common.{◌≡◌, Some, ap, refl, sym, ◌∙◌}
-use Rattle.board_core.specs.Doing.{looks}
 use Rattle.ras_exit.specs.StopLine.{stop_line}
 use Rattle.ras_exit.specs.declared.exit.Exit.TheVariants.{Done, Usage}
 use Rattle.ras_daemon.specs.Help.{help_text, version_line}
@@ -15,10 +14,10 @@ use Rattle.ras_daemon.proofs.daemon.rasd.Goals as goal
 
 pub returns-in-Some-Run-clause-ran : goal.returns-in-Some-Run-clause-ran
 returns-in-Some-Run-clause-ran g c =
-    let see = looks g.B.Board.told g.B.Board.clock g.B.Board.faults in
+    let see = g.B.Board.seen in
     over_comes see (c.run.new.source ≡ c.args.source.now)
-    (λ start script told. StillTell (Ran c.run.result (c.run.new.source ≡ c.args.source.now) start script told) (g.S.Source.left c.run.new.source) (g.B.Board.told c.run.new.board))
-    (task_of c.args.words.now) (g.S.Source.left c.args.source.now) (g.S.Source.left c.run.new.source) (g.B.Board.told c.args.board.now) c.run.result c.args.board.now c.run.new.board
+    (λ start script told. StillTell (Ran c.run.result (c.run.new.source ≡ c.args.source.now) start script told) (g.S.Source.left c.run.new.source) (g.B.Board.seen c.run.new.board).told)
+    (task_of c.args.words.now) (g.S.Source.left c.args.source.now) (g.S.Source.left c.run.new.source) (g.B.Board.seen c.args.board.now).told c.run.result c.args.board.now c.run.new.board
     (sym c.task_of.ensures.task ∙ c.in-Some-Run.is ∙ ap Some c.in-Some-Run.field-0-is)
     (λ account script t left is recovers comes. run-ran see (c.run.new.source ≡ c.args.source.now) account script c.run.result t (g.S.Source.left c.run.new.source) c.args.board.now c.run.new.board is recovers
     (record {
@@ -37,10 +36,10 @@ returns-in-Some-Run-clause-ran g c =
 
 pub returns-in-Some-Run-clause-stops : goal.returns-in-Some-Run-clause-stops
 returns-in-Some-Run-clause-stops g c =
-    let see = looks g.B.Board.told g.B.Board.clock g.B.Board.faults in
+    let see = g.B.Board.seen in
     over_comes see (c.run.new.source ≡ c.args.source.now)
-    (λ start script told. RunStops g.B.Board.told g.B.Board.clock c.run.result (c.run.new.source ≡ c.args.source.now) start script told c.args.board.now c.run.new.board)
-    (task_of c.args.words.now) (g.S.Source.left c.args.source.now) (g.S.Source.left c.run.new.source) (g.B.Board.told c.args.board.now) c.run.result c.args.board.now c.run.new.board
+    (λ start script told. RunStops g.B.Board.seen c.run.result (c.run.new.source ≡ c.args.source.now) start script told c.args.board.now c.run.new.board)
+    (task_of c.args.words.now) (g.S.Source.left c.args.source.now) (g.S.Source.left c.run.new.source) (g.B.Board.seen c.args.board.now).told c.run.result c.args.board.now c.run.new.board
     (sym c.task_of.ensures.task ∙ c.in-Some-Run.is ∙ ap Some c.in-Some-Run.field-0-is)
     (λ account script t left is recovers comes. run-stops see (c.run.new.source ≡ c.args.source.now) account script c.run.result t (g.S.Source.left c.run.new.source) c.args.board.now c.run.new.board is recovers
     (record {
@@ -95,31 +94,31 @@ pub returns-in-Some-Help-clause-commands : goal.returns-in-Some-Help-clause-comm
 returns-in-Some-Help-clause-commands g c =
     rw (sym c.task_of.ensures.task ∙ c.in-Some-Help.is ∙ ap Some c.in-Some-Help.field-0-is)
     (printed_commands Done c.last_line.result help_text _ _ _ _
-    (says_printed (looks g.B.Board.told g.B.Board.clock g.B.Board.faults) Done c.last_line.result help_text c.args.board.now c.last_line.new.board (rw c.help_text.ensures at c.last_line.ensures.says))
+    (says_printed g.B.Board.seen Done c.last_line.result help_text c.args.board.now c.last_line.new.board (rw c.help_text.ensures at c.last_line.ensures.says))
     (rw c.help_text.ensures at c.last_line.ensures.stops) c.last_line.ensures.device)
 
 pub returns-in-Some-Help-clause-causes : goal.returns-in-Some-Help-clause-causes
 returns-in-Some-Help-clause-causes g c =
-    says_causes (looks g.B.Board.told g.B.Board.clock g.B.Board.faults) Done c.last_line.result help_text c.args.board.now c.last_line.new.board _ refl (rw c.help_text.ensures at c.last_line.ensures.says)
+    says_causes g.B.Board.seen Done c.last_line.result help_text c.args.board.now c.last_line.new.board _ refl (rw c.help_text.ensures at c.last_line.ensures.says)
 
 pub returns-in-Some-Version-clause-commands : goal.returns-in-Some-Version-clause-commands
 returns-in-Some-Version-clause-commands g c =
     rw (sym c.task_of.ensures.task ∙ c.in-Some-Version.is ∙ ap Some c.in-Some-Version.field-0-is)
     (printed_commands Done c.last_line-in-Some-Version.result version_line _ _ _ _
-    (says_printed (looks g.B.Board.told g.B.Board.clock g.B.Board.faults) Done c.last_line-in-Some-Version.result version_line c.args.board.now c.last_line-in-Some-Version.new.board (rw c.version_line.ensures at c.last_line-in-Some-Version.ensures.says))
+    (says_printed g.B.Board.seen Done c.last_line-in-Some-Version.result version_line c.args.board.now c.last_line-in-Some-Version.new.board (rw c.version_line.ensures at c.last_line-in-Some-Version.ensures.says))
     (rw c.version_line.ensures at c.last_line-in-Some-Version.ensures.stops) c.last_line-in-Some-Version.ensures.device)
 
 pub returns-in-Some-Version-clause-causes : goal.returns-in-Some-Version-clause-causes
 returns-in-Some-Version-clause-causes g c =
-    says_causes (looks g.B.Board.told g.B.Board.clock g.B.Board.faults) Done c.last_line-in-Some-Version.result version_line c.args.board.now c.last_line-in-Some-Version.new.board _ refl (rw c.version_line.ensures at c.last_line-in-Some-Version.ensures.says)
+    says_causes g.B.Board.seen Done c.last_line-in-Some-Version.result version_line c.args.board.now c.last_line-in-Some-Version.new.board _ refl (rw c.version_line.ensures at c.last_line-in-Some-Version.ensures.says)
 
 pub returns-in-None-clause-commands : goal.returns-in-None-clause-commands
 returns-in-None-clause-commands g c =
     rw (sym c.task_of.ensures.task ∙ c.in-None.is)
     (printed_commands Usage c.last_line-in-None.result (stop_line Usage) _ _ _ _
-    (says_printed (looks g.B.Board.told g.B.Board.clock g.B.Board.faults) Usage c.last_line-in-None.result (stop_line Usage) c.args.board.now c.last_line-in-None.new.board (rw c.usage_line.ensures at c.last_line-in-None.ensures.says))
+    (says_printed g.B.Board.seen Usage c.last_line-in-None.result (stop_line Usage) c.args.board.now c.last_line-in-None.new.board (rw c.usage_line.ensures at c.last_line-in-None.ensures.says))
     (rw c.usage_line.ensures at c.last_line-in-None.ensures.stops) c.last_line-in-None.ensures.device)
 
 pub returns-in-None-clause-causes : goal.returns-in-None-clause-causes
 returns-in-None-clause-causes g c =
-    says_causes (looks g.B.Board.told g.B.Board.clock g.B.Board.faults) Usage c.last_line-in-None.result (stop_line Usage) c.args.board.now c.last_line-in-None.new.board _ refl (rw c.usage_line.ensures at c.last_line-in-None.ensures.says)
+    says_causes g.B.Board.seen Usage c.last_line-in-None.result (stop_line Usage) c.args.board.now c.last_line-in-None.new.board _ refl (rw c.usage_line.ensures at c.last_line-in-None.ensures.says)

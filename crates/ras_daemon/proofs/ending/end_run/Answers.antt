@@ -1,6 +1,5 @@
 use Rattle.std.proofs.Common.{◌≡◌, ◌∙◌, ap, inl, subst, sym}
 use Rattle.board_core.specs.Clock.{Adds}
-use Rattle.board_core.specs.Doing.{looks}
 use Rattle.ras_exit.specs.Endings.{is_answer}
 use Rattle.ras_exit.specs.StopLine.{stop_line}
 use Rattle.ras_exit.specs.Telling.{PrintMoment}
@@ -14,10 +13,10 @@ returns-in-ErstBusy-clause-ends g c =
     let busy : closing_line c.args.account.now.state c.args.exit ≡ stop_line ErstBusy = ap (closing_line c.args.account.now.state) c.in-ErstBusy.is in
     inl (
       ap is_answer c.in-ErstBusy.is,
-      subst (λ line. Says (looks g.B.Board.told g.B.Board.clock g.B.Board.faults) c.args.exit c.last_line.result line c.args.board.now c.last_line.new.board) (c.busy_line.ensures ∙ sym busy) c.last_line.ensures.says,
+      subst (λ line. Says g.B.Board.seen c.args.exit c.last_line.result line c.args.board.now c.last_line.new.board) (c.busy_line.ensures ∙ sym busy) c.last_line.ensures.says,
     )
 
 pub returns-in-ErstBusy-clause-stops : goal.returns-in-ErstBusy-clause-stops
 returns-in-ErstBusy-clause-stops g c =
     let busy : closing_line c.args.account.now.state c.args.exit ≡ stop_line ErstBusy = ap (closing_line c.args.account.now.state) c.in-ErstBusy.is in
-    subst (λ line. Adds (PrintMoment (g.B.Board.clock c.args.board.now) line) (g.B.Board.clock c.args.board.now) (g.B.Board.clock c.last_line.new.board)) (c.busy_line.ensures ∙ sym busy) c.last_line.ensures.stops
+    subst (λ line. Adds (PrintMoment (g.B.Board.seen c.args.board.now).clock line) (g.B.Board.seen c.args.board.now).clock (g.B.Board.seen c.last_line.new.board).clock) (c.busy_line.ensures ∙ sym busy) c.last_line.ensures.stops

@@ -1,6 +1,6 @@
 use Rattle.std.proofs.Common.{◌≡◌, ℕ, List, ◌+◌, false, Ok, Err, Some, ap, refl, subst, sym, true, ◌∙◌}
 use Rattle.std.proofs.lemmas.Result.{err_from_is_err_and}
-use Rattle.board_core.specs.Doing.{after_acts, looks}
+use Rattle.board_core.specs.Doing.{after_acts}
 use Rattle.line_filters.specs.Numbered.{Numbered, number_after}
 use Rattle.ras_script.specs.Line.{line_of}
 use Rattle.ras_exit.specs.declared.exit.Exit.TheVariants.{Done}
@@ -17,7 +17,7 @@ pub loop-alloc-init : goal.loop-alloc-init
 loop-alloc-init g c = record {
   took = λ start script t after left is holds.
       rw (ap (λ (l : Numbered). l.number) c.requires.fresh)
-      (took_none (looks g.B.Board.told g.B.Board.clock g.B.Board.faults) start script t _ _ _ c.args.board.now (ap (λ (l : Numbered). l.reader) c.requires.fresh) after holds left);
+      (took_none g.B.Board.seen start script t _ _ _ c.args.board.now (ap (λ (l : Numbered). l.reader) c.requires.fresh) after holds left);
   tells = tells_same _;
   few = subst (λ n. TakesOf n (g.S.Source.left c.args.source.now) (g.S.Source.left c.args.source.now)) (sym (ap (λ (l : Numbered). l.reader.taken) c.requires.fresh)) (takes_none (g.S.Source.left c.args.source.now));
   ready = c.requires.ready;
@@ -32,11 +32,11 @@ loop-alloc-preserved g c =
       took = λ start script t after left is holds.
           (let took = c.loop-alloc.invariant.took start script t after left is holds in
           let taking = took.0 in
-          let there = told_after taking.acts t (g.B.Board.told c.args.board.now) (g.B.Board.told c.loop-alloc.board) is took.1.told in
+          let there = told_after taking.acts t (g.B.Board.seen c.args.board.now).told (g.B.Board.seen c.loop-alloc.board).told is took.1.told in
           let takes = c.in_ok-take_line.ensures.takes start (reads_in taking.done) taking.after (after_acts taking.acts t) there (board_then start script t c.loop-alloc.lines.number c.loop-alloc.lines.reader (g.S.Source.left c.loop-alloc.source) c.loop-alloc.run taking) in
           let does = c.in_ok-take_line.ensures.does start (reads_in taking.done) taking.after (after_acts taking.acts t) there (board_then start script t c.loop-alloc.lines.number c.loop-alloc.lines.reader (g.S.Source.left c.loop-alloc.source) c.loop-alloc.run taking) in
           rw number
-          (took_line start script t c.loop-alloc.lines.number c.loop-alloc.lines.reader c.next.new.self.reader (g.S.Source.left c.loop-alloc.source) (g.S.Source.left c.next.new.source) c.loop-alloc.run c.line.result.now c.line.ensures taking (looks g.B.Board.told g.B.Board.clock g.B.Board.faults) _ does.0 c.args.board.now c.loop-alloc.board c.take_line.new.board took.1 does.2
+          (took_line start script t c.loop-alloc.lines.number c.loop-alloc.lines.reader c.next.new.self.reader (g.S.Source.left c.loop-alloc.source) (g.S.Source.left c.next.new.source) c.loop-alloc.run c.line.result.now c.line.ensures taking g.B.Board.seen _ does.0 c.args.board.now c.loop-alloc.board c.take_line.new.board took.1 does.2
           (c.in_ok-next.ensures.counts.bytes.line (ap Ok c.if-not-branch.false)) (c.in_ok-next.ensures.counts.bytes.grows (ap Ok c.if-not-branch.false)) (gave_as (Ok c.in_ok-next.field-0) (Ok true) c.loop-alloc.lines.number c.loop-alloc.lines.reader c.next.new.self.reader (g.S.Source.left c.loop-alloc.source) (g.S.Source.left c.next.new.source) (ap Ok c.if-not-branch.false) c.in_ok-next.ensures.gives) (moved_as (Ok c.in_ok-next.field-0) (Ok true) c.loop-alloc.lines.reader c.next.new.self.reader (g.S.Source.left c.loop-alloc.source) (g.S.Source.left c.next.new.source) (ap Ok c.if-not-branch.false) c.in_ok-next.ensures.moves)
           (rw (c.number.ensures, number) at takes) (rw (c.number.ensures, number) at does.1)));
       tells = if_more _ _ _ c.loop-alloc.invariant.tells (λ script (now : (rest : List ℕ) × ((g.S.Source.left c.loop-alloc.source) ≡ Some rest)). moved_tells (Ok c.in_ok-next.field-0) c.loop-alloc.lines.reader c.next.new.self.reader now.0 _ _ now.1 c.in_ok-next.ensures.moves);
@@ -54,16 +54,16 @@ returns-in_err-take_line-clause-comes g c = λ start script t after left is hold
     let number : c.next.new.self.number ≡ c.loop-alloc.lines.number + 1 = subst (λ r. c.next.new.self.number ≡ number_after r c.loop-alloc.lines.number) (ap Ok c.if-not-branch.false) c.in_ok-next.ensures.counts.number in
     let took = c.loop-alloc.invariant.took start script t after left is holds in
     let taking = took.0 in
-    let there = told_after taking.acts t (g.B.Board.told c.args.board.now) (g.B.Board.told c.loop-alloc.board) is took.1.told in
+    let there = told_after taking.acts t (g.B.Board.seen c.args.board.now).told (g.B.Board.seen c.loop-alloc.board).told is took.1.told in
     let line = (given start script t c.loop-alloc.lines.number c.loop-alloc.lines.reader c.next.new.self.reader (g.S.Source.left c.loop-alloc.source) (g.S.Source.left c.next.new.source) c.loop-alloc.run c.line.result.now c.line.ensures taking (gave_as (Ok c.in_ok-next.field-0) (Ok true) c.loop-alloc.lines.number c.loop-alloc.lines.reader c.next.new.self.reader (g.S.Source.left c.loop-alloc.source) (g.S.Source.left c.next.new.source) (ap Ok c.if-not-branch.false) c.in_ok-next.ensures.gives) (moved_as (Ok c.in_ok-next.field-0) (Ok true) c.loop-alloc.lines.reader c.next.new.self.reader (g.S.Source.left c.loop-alloc.source) (g.S.Source.left c.next.new.source) (ap Ok c.if-not-branch.false) c.in_ok-next.ensures.moves)) in
     let takes = c.in_err-take_line.ensures.takes start (reads_in taking.done) taking.after (after_acts taking.acts t) there (board_then start script t c.loop-alloc.lines.number c.loop-alloc.lines.reader (g.S.Source.left c.loop-alloc.source) c.loop-alloc.run taking) in
     let does = c.in_err-take_line.ensures.does start (reads_in taking.done) taking.after (after_acts taking.acts t) there (board_then start script t c.loop-alloc.lines.number c.loop-alloc.lines.reader (g.S.Source.left c.loop-alloc.source) c.loop-alloc.run taking) in
     rw (p.1, p.2) (record {
-      does = stopped (looks g.B.Board.told g.B.Board.clock g.B.Board.faults) start script t (reads_in taking.done) line.0 (c.loop-alloc.lines.number + 1, line_of c.line.result.now) line.1 taking.accepted taking.acts does.0 taking.along
+      does = stopped g.B.Board.seen start script t (reads_in taking.done) line.0 (c.loop-alloc.lines.number + 1, line_of c.line.result.now) line.1 taking.accepted taking.acts does.0 taking.along
           c.args.board.now c.loop-alloc.board c.take_line.new.board took.1 c.in_err-take_line.field-0.0 c.take_line.new.run there (rw (c.number.ensures, number) at takes) (rw (c.number.ensures, number) at does.1) does.2;
-      ahead = ahead_given _ (λ fault. not_fault c.in_err-take_line.field-0.0 c.in_err-take_line.ensures.stop fault) start script t c.loop-alloc.lines.number c.loop-alloc.lines.reader c.next.new.self.reader (g.S.Source.left c.loop-alloc.source) (g.S.Source.left c.next.new.source) c.loop-alloc.run (g.B.Board.told c.take_line.new.board) c.line.result.now c.line.ensures taking
+      ahead = ahead_given _ (λ fault. not_fault c.in_err-take_line.field-0.0 c.in_err-take_line.ensures.stop fault) start script t c.loop-alloc.lines.number c.loop-alloc.lines.reader c.next.new.self.reader (g.S.Source.left c.loop-alloc.source) (g.S.Source.left c.next.new.source) c.loop-alloc.run (g.B.Board.seen c.take_line.new.board).told c.line.result.now c.line.ensures taking
           (c.in_ok-next.ensures.counts.bytes.line (ap Ok c.if-not-branch.false)) (c.in_ok-next.ensures.counts.bytes.grows (ap Ok c.if-not-branch.false)) c.in_ok-next.ensures.counts.bytes.ahead (moved_as (Ok c.in_ok-next.field-0) (Ok true) c.loop-alloc.lines.reader c.next.new.self.reader (g.S.Source.left c.loop-alloc.source) (g.S.Source.left c.next.new.source) (ap Ok c.if-not-branch.false) c.in_ok-next.ensures.moves) line
-          (part_grows (looks g.B.Board.told g.B.Board.clock g.B.Board.faults) does.0 (ending_of c.in_err-take_line.field-0.0) (after_acts taking.acts t) c.loop-alloc.board c.take_line.new.board there does.2);
+          (part_grows g.B.Board.seen does.0 (ending_of c.in_err-take_line.field-0.0) (after_acts taking.acts t) c.loop-alloc.board c.take_line.new.board there does.2);
     })
 
 pub returns-in_err-take_line-clause-takes : goal.returns-in_err-take_line-clause-takes
@@ -86,9 +86,9 @@ returns-then-not-branch-clause-comes g c = λ start script t after left is holds
     let took = c.loop-alloc.invariant.took start script t after left is holds in
     let taking = took.0 in
     record {
-      does = none_given (looks g.B.Board.told g.B.Board.clock g.B.Board.faults) start script t c.loop-alloc.lines.number c.loop-alloc.lines.reader (g.S.Source.left c.loop-alloc.source) c.loop-alloc.run taking c.args.board.now c.loop-alloc.board took.1 c.next.new.self.reader (g.S.Source.left c.next.new.source) (moved_as (Ok c.in_ok-next.field-0) (Ok false) c.loop-alloc.lines.reader c.next.new.self.reader (g.S.Source.left c.loop-alloc.source) (g.S.Source.left c.next.new.source) (ap Ok c.if-not-branch.true) c.in_ok-next.ensures.moves) (gave_as (Ok c.in_ok-next.field-0) (Ok false) c.loop-alloc.lines.number c.loop-alloc.lines.reader c.next.new.self.reader (g.S.Source.left c.loop-alloc.source) (g.S.Source.left c.next.new.source) (ap Ok c.if-not-branch.true) c.in_ok-next.ensures.gives);
+      does = none_given g.B.Board.seen start script t c.loop-alloc.lines.number c.loop-alloc.lines.reader (g.S.Source.left c.loop-alloc.source) c.loop-alloc.run taking c.args.board.now c.loop-alloc.board took.1 c.next.new.self.reader (g.S.Source.left c.next.new.source) (moved_as (Ok c.in_ok-next.field-0) (Ok false) c.loop-alloc.lines.reader c.next.new.self.reader (g.S.Source.left c.loop-alloc.source) (g.S.Source.left c.next.new.source) (ap Ok c.if-not-branch.true) c.in_ok-next.ensures.moves) (gave_as (Ok c.in_ok-next.field-0) (Ok false) c.loop-alloc.lines.number c.loop-alloc.lines.reader c.next.new.self.reader (g.S.Source.left c.loop-alloc.source) (g.S.Source.left c.next.new.source) (ap Ok c.if-not-branch.true) c.in_ok-next.ensures.gives);
       ahead = ahead_none _ start script t c.loop-alloc.lines.number c.loop-alloc.lines.reader c.next.new.self.reader (g.S.Source.left c.loop-alloc.source) (g.S.Source.left c.next.new.source) c.loop-alloc.run _ taking
-          (told_after taking.acts t (g.B.Board.told c.args.board.now) (g.B.Board.told c.loop-alloc.board) is took.1.told) c.in_ok-next.ensures.counts.bytes.ahead (λ fault. absurd cc) (moved_as (Ok c.in_ok-next.field-0) (Ok false) c.loop-alloc.lines.reader c.next.new.self.reader (g.S.Source.left c.loop-alloc.source) (g.S.Source.left c.next.new.source) (ap Ok c.if-not-branch.true) c.in_ok-next.ensures.moves).0;
+          (told_after taking.acts t (g.B.Board.seen c.args.board.now).told (g.B.Board.seen c.loop-alloc.board).told is took.1.told) c.in_ok-next.ensures.counts.bytes.ahead (λ fault. absurd cc) (moved_as (Ok c.in_ok-next.field-0) (Ok false) c.loop-alloc.lines.reader c.next.new.self.reader (g.S.Source.left c.loop-alloc.source) (g.S.Source.left c.next.new.source) (ap Ok c.if-not-branch.true) c.in_ok-next.ensures.moves).0;
     }
 
 pub returns-then-not-branch-clause-takes : goal.returns-then-not-branch-clause-takes
@@ -102,9 +102,9 @@ returns-in_err-next-clause-comes g c = λ start script t after left is holds.
     let took = c.loop-alloc.invariant.took start script t after left is holds in
     let taking = took.0 in
     rw (p.1, p.2) (record {
-      does = next_failed (looks g.B.Board.told g.B.Board.clock g.B.Board.faults) start script t c.loop-alloc.lines.number c.loop-alloc.lines.reader (g.S.Source.left c.loop-alloc.source) c.loop-alloc.run taking c.args.board.now c.loop-alloc.board took.1 c.in_err-next.field-0.0 c.next.new.self.reader (g.S.Source.left c.next.new.source) c.in_err-next.ensures.ends.exits c.in_err-next.ensures.moves c.in_err-next.ensures.gives;
+      does = next_failed g.B.Board.seen start script t c.loop-alloc.lines.number c.loop-alloc.lines.reader (g.S.Source.left c.loop-alloc.source) c.loop-alloc.run taking c.args.board.now c.loop-alloc.board took.1 c.in_err-next.field-0.0 c.next.new.self.reader (g.S.Source.left c.next.new.source) c.in_err-next.ensures.ends.exits c.in_err-next.ensures.moves c.in_err-next.ensures.gives;
       ahead = ahead_none _ start script t c.loop-alloc.lines.number c.loop-alloc.lines.reader c.next.new.self.reader (g.S.Source.left c.loop-alloc.source) (g.S.Source.left c.next.new.source) c.loop-alloc.run _ taking
-          (told_after taking.acts t (g.B.Board.told c.args.board.now) (g.B.Board.told c.loop-alloc.board) is took.1.told) c.in_err-next.ensures.counts.bytes.ahead (λ fault. c.in_err-next.ensures.counts.bytes.none (failed_same c.in_err-next.field-0.0 fault)) c.in_err-next.ensures.moves;
+          (told_after taking.acts t (g.B.Board.seen c.args.board.now).told (g.B.Board.seen c.loop-alloc.board).told is took.1.told) c.in_err-next.ensures.counts.bytes.ahead (λ fault. c.in_err-next.ensures.counts.bytes.none (failed_same c.in_err-next.field-0.0 fault)) c.in_err-next.ensures.moves;
     })
 
 pub returns-in_err-next-clause-takes : goal.returns-in_err-next-clause-takes

@@ -1,5 +1,4 @@
 use Rattle.std.proofs.Common.{◌≡◌, ℕ, ◌+◌, ◌-◌, List, [], Some, IfSome}
-use Rattle.board_core.specs.Doing.{looks}
 use Rattle.board_core.specs.Told.{Told}
 use Rattle.ras_script.specs.declared.reader.TheConstants.{LONGEST_SCRIPT}
 use Rattle.ras_script.specs.Reader.{given_count}
@@ -14,13 +13,13 @@ use Rattle.ras_daemon.proofs.lines.take_lines.Given as goal
 -- byte of the script.
 abbrev pub invariant-loop-alloc : goal.invariant-loop-alloc
 invariant-loop-alloc g l = record {
-  took : (start : Start) (script : List ℕ) (t : Told) → IsRunAfter start [] l.fn.run → g.S.Source.left l.fn.source ≡ Some script → g.B.Board.told l.fn.board ≡ Some t → HoldsAfter start [] t
-      → Took (looks g.B.Board.told g.B.Board.clock g.B.Board.faults) start script t l.lines.number l.lines.reader (g.S.Source.left l.source) l.run l.fn.board l.board;
+  took : (start : Start) (script : List ℕ) (t : Told) → IsRunAfter start [] l.fn.run → g.S.Source.left l.fn.source ≡ Some script → (g.B.Board.seen l.fn.board).told ≡ Some t → HoldsAfter start [] t
+      → Took g.B.Board.seen start script t l.lines.number l.lines.reader (g.S.Source.left l.source) l.run l.fn.board l.board;
   tells : IfSome (g.S.Source.left l.fn.source) (λ script. (now : List ℕ) × (g.S.Source.left l.source ≡ Some now));
   few : TakesOf l.lines.reader.taken (g.S.Source.left l.fn.source) (g.S.Source.left l.source);
-  ready : IsReady l.run.ledger (g.B.Board.told l.board) (g.B.Board.clock l.board);
+  ready : IsReady l.run.ledger (g.B.Board.seen l.board).told (g.B.Board.seen l.board).clock;
   source : g.S.Source.faults l.source ≡ g.S.Source.faults l.fn.source;
-  faults : g.B.Board.faults l.board ≡ g.B.Board.faults l.fn.board;
+  faults : (g.B.Board.seen l.board).faults ≡ (g.B.Board.seen l.fn.board).faults;
 }
 
 abbrev pub decreases-loop-alloc : goal.decreases-loop-alloc

@@ -1,6 +1,6 @@
 use Rattle.std.proofs.Common.{◌≡◌, ◌∙◌, [], Err, inl, inr, refl, sym, ap, subst}
 use Rattle.board_core.specs.Cause.{Faults}
-use Rattle.board_core.specs.Doing.{Does, GoesWell, after_acts, looks}
+use Rattle.board_core.specs.Doing.{Does, GoesWell, after_acts}
 use Rattle.line_filters.specs.Steps.Filtering.{exit_of}
 use Rattle.ras_exit.specs.Acts.{end_of, print_acts}
 use Rattle.ras_exit.specs.Causes.{BoardCause, Causes}
@@ -21,7 +21,7 @@ use Rattle.ras_daemon.proofs.running.take_from.Goals.{in-Ok, in-Err-take_lines}
 
 pub returns-in-Err-clause-comes : goal.returns-in-Err-clause-comes
 returns-in-Err-clause-comes g c = λ start script t after left is holds.
-    let see = looks g.B.Board.told g.B.Board.clock g.B.Board.faults in
+    let see = g.B.Board.seen in
     record {
       does = no_orders see start script t _ _ _ c.in-Err.ensures.exit
           (subst (λ s. Does see (print_acts (standing_lines s)) (end_of (ending_of c.in-Err.exit)) c.args.board.now c.print_standing.new.board) after.account c.in-Err.ensures.does);
@@ -33,7 +33,7 @@ returns-in-Err-clause-takes g c = takes_no_byte c.in-Err.exit (g.S.Source.left c
 
 pub returns-in-Err-clause-causes : goal.returns-in-Err-clause-causes
 returns-in-Err-clause-causes g c =
-    orders_causes (looks g.B.Board.told g.B.Board.clock g.B.Board.faults) _ c.in-Err.exit c.args.board.now c.print_standing.new.board _ c.in-Err.ensures.exit c.in-Err.ensures.does
+    orders_causes g.B.Board.seen _ c.in-Err.exit c.args.board.now c.print_standing.new.board _ c.in-Err.ensures.exit c.in-Err.ensures.does
 
 pub returns-in-Err-clause-exits : goal.returns-in-Err-clause-exits
 returns-in-Err-clause-exits g c = print_exit c.in-Err.exit c.in-Err.ensures.exit
@@ -45,7 +45,7 @@ done_no_fault is = absurd cc
 
 pub returns-clause-comes : goal.returns-clause-comes
 returns-clause-comes g c = λ start script t after left is holds.
-    let see = looks g.B.Board.told g.B.Board.clock g.B.Board.faults in
+    let see = g.B.Board.seen in
     let ends_as : EndsAs c.take_lines.result c.match-take_lines.exit = (elim c.match-take_lines.branch [
       | in-Ok w ↦ rw w.in-Ok.is w.exit-is
       | in-Err-take_lines w ↦ rw w.in-Err-take_lines.is (w.exit-is, w.in-Err-take_lines.ensures.ends.stop)
@@ -65,7 +65,7 @@ returns-clause-comes g c = λ start script t after left is holds.
           ahead_end (c.take_lines.result ≡ Err SourceFault) (c.end_run.result ≡ SourceFault)
           (λ fault. lines_fault (fault_before see _ _ _ c.take_lines.new.board c.end_run.new.board c.end_run.ensures.ends fault))
           start script (lines_from start t.here.out) _ _ c.end_run.result _ _ _ (ends_printed see _ _ _ c.take_lines.new.board c.end_run.new.board c.end_run.ensures.ends)
-          (subst (λ out. EndsAhead (c.take_lines.result ≡ Err SourceFault) start script out (g.S.Source.left c.take_lines.new.source) (g.B.Board.told c.take_lines.new.board)) (printed_out (standing_lines start.account) t)
+          (subst (λ out. EndsAhead (c.take_lines.result ≡ Err SourceFault) start script out (g.S.Source.left c.take_lines.new.source) (g.B.Board.seen c.take_lines.new.board).told) (printed_out (standing_lines start.account) t)
           taken.ahead)
           );
     }
@@ -77,7 +77,7 @@ returns-clause-takes g c =
       | in-Err-take_lines w ↦ rw w.in-Err-take_lines.is (w.exit-is, w.in-Err-take_lines.ensures.ends.stop)
     ]) in
     takes_as (exit_of c.take_lines.result) c.end_run.result (g.S.Source.left c.args.source.now) (g.S.Source.left c.take_lines.new.source)
-    (done_before (looks g.B.Board.told g.B.Board.clock g.B.Board.faults) c.take_lines.result c.match-take_lines.exit c.end_run.result _ c.take_lines.new.board c.end_run.new.board ends_as c.end_run.ensures.ends) c.take_lines.ensures.takes
+    (done_before g.B.Board.seen c.take_lines.result c.match-take_lines.exit c.end_run.result _ c.take_lines.new.board c.end_run.new.board ends_as c.end_run.ensures.ends) c.take_lines.ensures.takes
 
 pub returns-clause-causes : goal.returns-clause-causes
 returns-clause-causes g c =
@@ -85,8 +85,8 @@ returns-clause-causes g c =
       | in-Ok w ↦ rw w.in-Ok.is w.exit-is
       | in-Err-take_lines w ↦ rw w.in-Err-take_lines.is (w.exit-is, w.in-Err-take_lines.ensures.ends.stop)
     ]) in
-    ends_causes (looks g.B.Board.told g.B.Board.clock g.B.Board.faults) c.take_lines.result c.match-take_lines.exit c.end_run.result _ c.take_lines.new.board c.end_run.new.board _ _ _ ends_as c.take_lines.ensures.ends.source
-    (subst (λ f. Causes {C = Faults} BoardCause c.take_lines.result f (g.B.Board.faults c.take_lines.new.board)) c.in_default.ensures.does.faults c.take_lines.ensures.ends.board) c.end_run.ensures.ends
+    ends_causes g.B.Board.seen c.take_lines.result c.match-take_lines.exit c.end_run.result _ c.take_lines.new.board c.end_run.new.board _ _ _ ends_as c.take_lines.ensures.ends.source
+    (subst (λ f. Causes {C = Faults} BoardCause c.take_lines.result f (g.B.Board.seen c.take_lines.new.board).faults) c.in_default.ensures.does.faults c.take_lines.ensures.ends.board) c.end_run.ensures.ends
 
 pub returns-clause-exits : goal.returns-clause-exits
 returns-clause-exits g c =
@@ -94,4 +94,4 @@ returns-clause-exits g c =
       | in-Ok w ↦ rw w.in-Ok.is w.exit-is
       | in-Err-take_lines w ↦ rw w.in-Err-take_lines.is (w.exit-is, w.in-Err-take_lines.ensures.ends.stop)
     ]) in
-    ends_exit (looks g.B.Board.told g.B.Board.clock g.B.Board.faults) c.take_lines.result c.match-take_lines.exit c.end_run.result _ c.take_lines.new.board c.end_run.new.board ends_as c.end_run.ensures.ends
+    ends_exit g.B.Board.seen c.take_lines.result c.match-take_lines.exit c.end_run.result _ c.take_lines.new.board c.end_run.new.board ends_as c.end_run.ensures.ends

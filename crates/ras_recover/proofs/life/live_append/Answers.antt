@@ -1,6 +1,5 @@
 use Rattle.std.proofs.Common.{refl, ap, Some}
 use Rattle.ras_journal.specs.declared.journal.Journal.{Journal}
-use Rattle.board_core.specs.Doing.{looks}
 use Rattle.ras_journal.specs.Appending.{append_end}
 use Rattle.ras_recover.proofs.LiveLemmas.{appended, has_room}
 use Rattle.ras_recover.proofs.life.live_append.Goals as goal
@@ -14,7 +13,7 @@ returns-clause-works g c = λ entries can. (
 )
 
 pub returns-clause-answered : goal.returns-clause-answered
-returns-clause-answered g c = appended (looks g.B.Board.told g.B.Board.clock g.B.Board.faults) c.append.result c.args.journal.now.standing _ c.args.link.now _ _ c.append.ensures.does c.append.ensures.journal c.append.ensures.full (λ journal full does entries can. (
+returns-clause-answered g c = appended g.B.Board.seen c.append.result c.args.journal.now.standing _ c.args.link.now _ _ c.append.ensures.does c.append.ensures.journal c.append.ensures.full (λ journal full does entries can. (
   record { standing = c.args.journal.now.standing; link = c.args.link.now; journal = refl; links = can },
   ap (λ (journal : Journal). Some journal.standing) journal,
   record { version = c.requires.version; room = full },

@@ -1,6 +1,5 @@
 use Rattle.std.proofs.Common.{refl, ap, Some}
 use Rattle.ras_journal.specs.declared.journal.Journal.{Journal}
-use Rattle.board_core.specs.Doing.{looks}
 use Rattle.ras_recover.specs.Switching.{switch_end}
 use Rattle.ras_recover.proofs.LiveLemmas.{switched}
 use Rattle.ras_recover.proofs.life.live_switch.Goals as goal
@@ -14,7 +13,7 @@ returns-clause-works g c = (
 )
 
 pub returns-clause-answered : goal.returns-clause-answered
-returns-clause-answered g c = switched (looks g.B.Board.told g.B.Board.clock g.B.Board.faults) c.switch_file.result c.args.journal.now.standing _ c.args.account.now.state _ _ c.switch_file.ensures.does c.switch_file.ensures.can c.switch_file.ensures.journal (λ journal can does. (
+returns-clause-answered g c = switched g.B.Board.seen c.switch_file.result c.args.journal.now.standing _ c.args.account.now.state _ _ c.switch_file.ensures.does c.switch_file.ensures.can c.switch_file.ensures.journal (λ journal can does. (
   record { standing = c.args.journal.now.standing; account = c.args.account.now.state; journal = refl; held = c.requires.held },
   ap (λ (journal : Journal). Some journal.standing) journal,
   can,

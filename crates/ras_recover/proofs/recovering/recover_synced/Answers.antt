@@ -1,13 +1,28 @@
-use Rattle.std.proofs.Common.{Ok, Err}
-use Rattle.ras_recover.proofs.BothLemmas.{fails_told, reads_as, reads_refused}
-use Rattle.ras_recover.proofs.OpeningCallsLemmas.{files_read}
+use Rattle.std.proofs.lemmas.Result.{err_from_is_err_and}
+use Rattle.board_core.specs.Cause.{disk_call}
+use Rattle.board_core.specs.Doing.{broke, went_well}
+use Rattle.ras_recover.proofs.AgeLemmas.{reads_later}
+use Rattle.ras_recover.proofs.BothLemmas.{fails_told}
+use Rattle.ras_recover.proofs.LooksLemmas.{looks_given_up, looks_then, looks_weaker, open_then}
 use Rattle.ras_recover.proofs.recovering.recover_synced.Goals as goal
 
-pub returns-in-Ok-clause-reads : goal.returns-in-Ok-clause-reads
-returns-in-Ok-clause-reads g c = files_read (Ok (c.recovered_of.result, c.in-Ok.both.shut)) _ _ _ c.short_sizes.ensures.reads (reads_as c.in-Ok.both (c.recovered_of.result, c.in-Ok.both.shut) _ _ c.in-Ok.ensures.looks.calls)
+pub returns-in_err-sizes-clause-looks : goal.returns-in_err-sizes-clause-looks
+returns-in_err-sizes-clause-looks g c =
+    let p = err_from_is_err_and c.from_residual.result c.from_residual.ensures.1 in
+    rw (p.1, p.2) (looks_weaker (broke disk_call) _ _ _ _ tt c.in_err-sizes.ensures.looks)
 
-pub returns-in-Err-read_both-clause-recovers : goal.returns-in-Err-read_both-clause-recovers
-returns-in-Err-read_both-clause-recovers g c = fails_told c.in-Err-read_both.refused _ _ c.short_sizes.ensures.keeps.here c.in-Err-read_both.ensures.read
+pub returns-in_default-clause-looks : goal.returns-in_default-clause-looks
+returns-in_default-clause-looks g c = looks_given_up _ _ _ _ c.in_ok-sizes.ensures.looks
 
-pub returns-in-Err-read_both-clause-reads : goal.returns-in-Err-read_both-clause-reads
-returns-in-Err-read_both-clause-reads g c = files_read (Err c.in-Err-read_both.refused) _ _ _ c.short_sizes.ensures.reads (reads_refused _ _ c.in-Err-read_both.refused _ _ c.in-Err-read_both.ensures.looks.calls)
+pub returns-in_err-both-clause-recovers : goal.returns-in_err-both-clause-recovers
+returns-in_err-both-clause-recovers g c =
+    let p = err_from_is_err_and c.from_residual-in_err-both.result c.from_residual-in_err-both.ensures.1 in
+    rw (p.1, p.2) (fails_told c.in_err-both.field-0.0 _ _ c.short_sizes.ensures.looks.keeps.here c.in_err-both.ensures.read)
+
+pub returns-in_err-both-clause-looks : goal.returns-in_err-both-clause-looks
+returns-in_err-both-clause-looks g c =
+    let p = err_from_is_err_and c.from_residual-in_err-both.result c.from_residual-in_err-both.ensures.1 in
+    rw (p.1, p.2) (open_then c.in_err-both.field-0.0 _ _ _ _ _ _ c.in_ok-sizes.ensures.looks c.in_err-both.ensures.looks)
+
+pub returns-clause-looks : goal.returns-clause-looks
+returns-clause-looks g c = looks_then went_well _ _ _ _ _ _ (reads_later _) c.in_ok-sizes.ensures.looks c.in_ok-both.ensures.looks

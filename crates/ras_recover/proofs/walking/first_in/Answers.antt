@@ -1,40 +1,48 @@
-use Rattle.std.proofs.Common.{◌∙◌, Ok, Err, sym}
-use Rattle.ras_recover.proofs.LooksLemmas.{looks_as}
+use Rattle.std.proofs.Common.{◌∙◌, Ok, sym}
+use Rattle.std.proofs.lemmas.Result.{err_from_is_err_and}
+use Rattle.ras_recover.proofs.LooksLemmas.{front_refused, read_refused}
 use Rattle.ras_recover.specs.Steps.Reading.{front_at}
 use Rattle.ras_recover.proofs.HoldingLemmas.{seen_before}
-use Rattle.ras_recover.proofs.StandingLemmas.{begun_none, begun_some, open_there, shut_there}
+use Rattle.ras_recover.proofs.StandingLemmas.{begun_none, begun_refused, begun_some, open_there, shut_there}
 use Rattle.ras_recover.proofs.walking.first_in.Goals as goal
 
 pub returns-then-not-has_open_gate-clause-begun : goal.returns-then-not-has_open_gate-clause-begun
 returns-then-not-has_open_gate-clause-begun g c =
-    begun_none c.args.file c.hold_front.new.window c.rest-front.result.now _ c.in-Ok.ensures.covers.spans
-    (seen_before c.args.file c.hold_front.new.window _ _ c.hold_front.ensures.looks.keeps.here c.in-Ok.ensures.covers.sees) c.in-Ok.ensures.held c.rest-front.ensures
+    begun_none c.args.file c.hold_front.new.window c.rest-front.result.now _ c.in_ok-hold_front.ensures.covers.spans
+    (seen_before c.args.file c.hold_front.new.window _ _ c.hold_front.ensures.looks.keeps.here c.in_ok-hold_front.ensures.covers.sees) c.in_ok-hold_front.ensures.held c.rest-front.ensures
     (sym c.has_open_gate.ensures ∙ c.if-not-has_open_gate.true)
 
 pub returns-then-not-has_open_gate-clause-shut : goal.returns-then-not-has_open_gate-clause-shut
 returns-then-not-has_open_gate-clause-shut g c =
-    shut_there c.is_shut.result c.args.file c.hold_front.new.window c.rest-front.result.now _ c.in-Ok.ensures.covers.spans
-    (seen_before c.args.file c.hold_front.new.window _ _ c.hold_front.ensures.looks.keeps.here c.in-Ok.ensures.covers.sees) c.in-Ok.ensures.held c.rest-front.ensures c.is_shut.ensures
+    shut_there c.is_shut.result c.args.file c.hold_front.new.window c.rest-front.result.now _ c.in_ok-hold_front.ensures.covers.spans
+    (seen_before c.args.file c.hold_front.new.window _ _ c.hold_front.ensures.looks.keeps.here c.in_ok-hold_front.ensures.covers.sees) c.in_ok-hold_front.ensures.held c.rest-front.ensures c.is_shut.ensures
 
-pub returns-then-not-has_open_gate-clause-looks : goal.returns-then-not-has_open_gate-clause-looks
-returns-then-not-has_open_gate-clause-looks g c = looks_as _ _ _ _ _ _ _ _ _ c.in-Ok.ensures.looks
+pub returns-clause-begun : goal.returns-clause-begun
+returns-clause-begun g c =
+    begun_some c.args.taken c.args.file c.hold_front.new.window c.rest-front.result.now _ (Ok (front_at c.in_ok-first.first.0 c.in_ok-first.first.1.state)) c.in_ok-hold_front.ensures.covers.spans
+    (seen_before c.args.file c.hold_front.new.window _ _ c.hold_front.ensures.looks.keeps.here c.in_ok-hold_front.ensures.covers.sees) c.in_ok-hold_front.ensures.held c.rest-front.ensures
+    (sym c.has_open_gate.ensures ∙ c.if-not-has_open_gate.false) c.in_ok-first.ensures.read
 
-pub returns-in-Ok-first_place-clause-begun : goal.returns-in-Ok-first_place-clause-begun
-returns-in-Ok-first_place-clause-begun g c =
-    begun_some c.args.taken c.args.file c.hold_front.new.window c.rest-front.result.now _ (Ok (front_at c.in-Ok-first_place.first.0 c.in-Ok-first_place.first.1.state)) c.in-Ok.ensures.covers.spans
-    (seen_before c.args.file c.hold_front.new.window _ _ c.hold_front.ensures.looks.keeps.here c.in-Ok.ensures.covers.sees) c.in-Ok.ensures.held c.rest-front.ensures
-    (sym c.has_open_gate.ensures ∙ c.if-not-has_open_gate.false) c.in-Ok-first_place.ensures.read
+pub returns-clause-shut : goal.returns-clause-shut
+returns-clause-shut g c =
+    open_there c.args.file (Ok (front_at c.in_ok-first.first.0 c.in_ok-first.first.1.state)) c.args.taken _
+    (begun_some c.args.taken c.args.file c.hold_front.new.window c.rest-front.result.now _ (Ok (front_at c.in_ok-first.first.0 c.in_ok-first.first.1.state)) c.in_ok-hold_front.ensures.covers.spans
+    (seen_before c.args.file c.hold_front.new.window _ _ c.hold_front.ensures.looks.keeps.here c.in_ok-hold_front.ensures.covers.sees) c.in_ok-hold_front.ensures.held c.rest-front.ensures
+    (sym c.has_open_gate.ensures ∙ c.if-not-has_open_gate.false) c.in_ok-first.ensures.read)
 
-pub returns-in-Ok-first_place-clause-shut : goal.returns-in-Ok-first_place-clause-shut
-returns-in-Ok-first_place-clause-shut g c =
-    open_there c.args.file (Ok (front_at c.in-Ok-first_place.first.0 c.in-Ok-first_place.first.1.state)) c.args.taken _
-    (begun_some c.args.taken c.args.file c.hold_front.new.window c.rest-front.result.now _ (Ok (front_at c.in-Ok-first_place.first.0 c.in-Ok-first_place.first.1.state)) c.in-Ok.ensures.covers.spans
-    (seen_before c.args.file c.hold_front.new.window _ _ c.hold_front.ensures.looks.keeps.here c.in-Ok.ensures.covers.sees) c.in-Ok.ensures.held c.rest-front.ensures
-    (sym c.has_open_gate.ensures ∙ c.if-not-has_open_gate.false) c.in-Ok-first_place.ensures.read)
+pub returns-in_err-hold_front-clause-looks : goal.returns-in_err-hold_front-clause-looks
+returns-in_err-hold_front-clause-looks g c =
+    let p = err_from_is_err_and c.from_residual.result c.from_residual.ensures.1 in
+    rw (p.1, p.2) (read_refused c.in_err-hold_front.field-0.0 _ _ _ _ c.in_err-hold_front.ensures.looks)
 
-pub returns-in-Err-Damaged-clause-broken : goal.returns-in-Err-Damaged-clause-broken
-returns-in-Err-Damaged-clause-broken g c =
-    let told = rw c.in-Err-Damaged.field-0-is at c.in-Err-Damaged.ensures in
-    begun_some c.args.taken c.args.file c.hold_front.new.window c.rest-front.result.now _ (Err c.in-Err-Damaged.at) c.in-Ok.ensures.covers.spans
-    (seen_before c.args.file c.hold_front.new.window _ _ c.hold_front.ensures.looks.keeps.here c.in-Ok.ensures.covers.sees) c.in-Ok.ensures.held c.rest-front.ensures
-    (sym c.has_open_gate.ensures ∙ c.if-not-has_open_gate.false) told.read
+pub returns-in_err-first-clause-broken : goal.returns-in_err-first-clause-broken
+returns-in_err-first-clause-broken g c =
+    let p = err_from_is_err_and c.from_residual-in_err-first.result c.from_residual-in_err-first.ensures.1 in
+    rw (p.1, p.2) (begun_refused c.in_err-first.field-0.0 c.args.taken c.args.file c.hold_front.new.window c.rest-front.result.now _ c.in_ok-hold_front.ensures.covers.spans
+    (seen_before c.args.file c.hold_front.new.window _ _ c.hold_front.ensures.looks.keeps.here c.in_ok-hold_front.ensures.covers.sees) c.in_ok-hold_front.ensures.held c.rest-front.ensures
+    (sym c.has_open_gate.ensures ∙ c.if-not-has_open_gate.false) c.in_err-first.ensures.read)
+
+pub returns-in_err-first-clause-looks : goal.returns-in_err-first-clause-looks
+returns-in_err-first-clause-looks g c =
+    let p = err_from_is_err_and c.from_residual-in_err-first.result c.from_residual-in_err-first.ensures.1 in
+    rw (p.1, p.2) (front_refused c.in_err-first.field-0.0 _ _ _ _ _ c.in_err-first.ensures.read c.in_ok-hold_front.ensures.looks)

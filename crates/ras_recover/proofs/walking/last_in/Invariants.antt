@@ -1,7 +1,8 @@
-use Rattle.std.proofs.Common.{◌≡◌, Ok}
-use Rattle.ras_recover.specs.Steps.Looking.{ReadsPart}
+use Rattle.std.proofs.Common.{◌≡◌}
+use Rattle.board_core.specs.Doing.{went_well}
+use Rattle.ras_recover.specs.Steps.Looking.{Looks, ReadsPart}
 use Rattle.ras_recover.specs.Steps.Reading.{front_at}
-use Rattle.ras_recover.specs.Steps.Windows.{Covers, end_of, Looks, read_failure}
+use Rattle.ras_recover.specs.Steps.Windows.{Covers, end_of}
 use Rattle.ras_recover.proofs.HoldingLemmas.{GoesOn}
 use Rattle.ras_recover.proofs.walking.last_in.Given as goal
 
@@ -9,8 +10,8 @@ use Rattle.ras_recover.proofs.walking.last_in.Given as goal
 abbrev pub invariant-loop : goal.invariant-loop
 invariant-loop g l = record {
   links : l.place.links ≡ l.counter;
-  covers : Covers l.file l.place.gate (g.B.Board.told l.board) l.window;
-  goes_on : GoesOn l.file (g.B.Board.told l.fn.board) l.counter (front_at l.fn.first l.fn.account.state) (front_at l.place l.account.state);
-  looks : Looks read_failure (Ok (tt {0})) (ReadsPart l.file.no (end_of l.fn.window) (end_of l.window))
-      (g.B.Board.told l.fn.board) (g.B.Board.clock l.fn.board) (g.B.Board.faults l.fn.board) (g.B.Board.told l.board) (g.B.Board.clock l.board) (g.B.Board.faults l.board);
+  covers : Covers l.file l.place.gate (g.B.Board.seen l.board).told l.window;
+  goes_on : GoesOn l.file (g.B.Board.seen l.fn.board).told l.counter (front_at l.fn.first l.fn.account.state) (front_at l.place l.account.state);
+  looks : Looks went_well (λ t. ReadsPart l.file.no (end_of l.fn.window) (end_of l.window))
+      (g.B.Board.seen l.fn.board) (g.B.Board.seen l.board);
 }

@@ -1,12 +1,12 @@
 use Rattle.std.proofs.Common.{List, ap, subst, ◌∙◌}
 use Rattle.board_core.specs.Cause.{disk_call}
-use Rattle.board_core.specs.Doing.{Act, Does, broke, looks}
+use Rattle.board_core.specs.Doing.{Act, Does, broke}
 use Rattle.ras_account.specs.Continued.{account_after_all}
 use Rattle.ras_account.specs.View.{View}
 use Rattle.ras_events.specs.Preparing.{CanTake}
 use Rattle.ras_journal.specs.View.{JournalView}
-use Rattle.ras_ledger.specs.Keeping.{Stands, keeping_acts, standing_kept}
-use Rattle.ras_ledger.proofs.KeepingLemmas.{keeping_ends}
+use Rattle.ras_run.specs.Keeping.{Stands, keeping_acts, standing_kept}
+use Rattle.ras_run.proofs.KeepingLemmas.{keeping_ends}
 use Rattle.ras_run.specs.Taking.{CanBeKept}
 use Rattle.ras_run.proofs.NewsLemmas.{acts_of, links_of}
 use Rattle.ras_run.proofs.StandsLemmas.{stands_on}
@@ -14,7 +14,7 @@ use Rattle.ras_run.proofs.counting.keep.Goals as goal
 
 pub returns-in-Err-Disk-clause-does : goal.returns-in-Err-Disk-clause-does
 returns-in-Err-Disk-clause-does g c =
-    let see = looks g.B.Board.told g.B.Board.clock g.B.Board.faults in
+    let see = g.B.Board.seen in
     let s = c.args.ledger.now.journal.standing in
     let a = c.args.ledger.now.account.state in
     let can : CanBeKept c.in-Some.news = rw c.in-Some.is at c.requires.can_keep in
@@ -23,7 +23,7 @@ returns-in-Err-Disk-clause-does g c =
 
 pub returns-clause-ready : goal.returns-clause-ready
 returns-clause-ready g c =
-    let see = looks g.B.Board.told g.B.Board.clock g.B.Board.faults in
+    let see = g.B.Board.seen in
     let s = c.args.ledger.now.journal.standing in
     let a = c.args.ledger.now.account.state in
     let news = c.in-Some.news in

@@ -1,6 +1,5 @@
 use Rattle.std.proofs.Common.{Err, Ok, Result, refl, ◌∙◌}
 use Rattle.std.proofs.lemmas.Result.{err_from_is_err_and}
-use Rattle.board_core.specs.Doing.{looks}
 use Rattle.ras_events.specs.Preparing.{news_entries}
 use Rattle.ras_exit.specs.declared.exit.Exit.{Exit}
 use Rattle.ras_run.proofs.CountLemmas.{cut_short, made_counted, print_exit, text_told, told_kept, told_not_kept}
@@ -19,7 +18,7 @@ returns-in_err-keep-clause-does g c =
     let now = record c.args.ledger.now { account = c.prepare.new.account } in
     rw (p.1, p.2)
     (told_not_kept c.args.made (news_entries c.in-Ok.event.news) c.args.ledger.now now now c.in-Ok.ensures.state refl c.in-Ok.ensures.prepared.news c.in-Ok.ensures.room
-    (looks g.B.Board.told g.B.Board.clock g.B.Board.faults) c.in_err-keep.field-0.0 _ _ c.in_err-keep.ensures.does)
+    g.B.Board.seen c.in_err-keep.field-0.0 _ _ c.in_err-keep.ensures.does)
 
 pub returns-in_err-print-clause-counts : goal.returns-in_err-print-clause-counts
 returns-in_err-print-clause-counts g c =
@@ -36,7 +35,7 @@ returns-in_err-print-clause-does g c =
     let now = record c.args.ledger.now { account = c.prepare.new.account } in
     rw (p.1, p.2)
     (told_kept c.args.made (news_entries c.in-Ok.event.news) c.args.ledger.now now c.keep.new.ledger c.in-Ok.ensures.state refl c.in-Ok.ensures.prepared.news c.in-Ok.ensures.room
-    (looks g.B.Board.told g.B.Board.clock g.B.Board.faults) c.deref.result.now (Err c.in_err-print.field-0.0) _ _ _
+    g.B.Board.seen c.deref.result.now (Err c.in_err-print.field-0.0) _ _ _
     (text_told c.args.ledger.now.account.state c.prepare.new.account.state c.args.made (news_entries c.in-Ok.event.news) c.in-Ok.event.text.items _
     c.in-Ok.ensures.state c.in-Ok.ensures.prepared.news c.in-Ok.ensures.prepared.text (c.deref.ensures.value ∙ c.in_ok-keep.ensures.text))
     c.in_ok-keep.ensures.does c.in_err-print.ensures.does c.in_err-print.ensures.exit)
@@ -51,11 +50,11 @@ pub returns-clause-does : goal.returns-clause-does
 returns-clause-does g c =
     let now = record c.args.ledger.now { account = c.prepare.new.account } in
     told_kept c.args.made (news_entries c.in-Ok.event.news) c.args.ledger.now now c.keep.new.ledger c.in-Ok.ensures.state refl c.in-Ok.ensures.prepared.news c.in-Ok.ensures.room
-    (looks g.B.Board.told g.B.Board.clock g.B.Board.faults) c.deref.result.now (Ok tt) _ _ _
+    g.B.Board.seen c.deref.result.now (Ok tt) _ _ _
     (text_told c.args.ledger.now.account.state c.prepare.new.account.state c.args.made (news_entries c.in-Ok.event.news) c.in-Ok.event.text.items _
     c.in-Ok.ensures.state c.in-Ok.ensures.prepared.news c.in-Ok.ensures.prepared.text (c.deref.ensures.value ∙ c.in_ok-keep.ensures.text))
     c.in_ok-keep.ensures.does c.in_ok-print.ensures.does tt
 
 pub returns-clause-ready : goal.returns-clause-ready
 returns-clause-ready g c =
-    ready_print (looks g.B.Board.told g.B.Board.clock g.B.Board.faults) c.deref.result.now c.keep.new.ledger (Ok tt) c.keep.new.board c.print.new.board c.in_ok-keep.ensures.ready c.in_ok-print.ensures.does
+    ready_print g.B.Board.seen c.deref.result.now c.keep.new.ledger (Ok tt) c.keep.new.board c.print.new.board c.in_ok-keep.ensures.ready c.in_ok-print.ensures.does

@@ -1,5 +1,5 @@
 use Rattle.std.proofs.Common.{◌∙◌, List, Ok, ap, refl, subst, sym}
-use Rattle.board_core.specs.Doing.{Act, Does, looks}
+use Rattle.board_core.specs.Doing.{Act, Does}
 use Rattle.ras_events.specs.declared.event.Event.{Event}
 use Rattle.ras_events.specs.declared.event.Event.TheVariants.{Counted, Nothing, Polled, Put, Reopened, Saved, Settled}
 use Rattle.ras_events.specs.Repeats.{IsRepeat}
@@ -19,7 +19,7 @@ use Rattle.ras_run.proofs.line.take_read.Goals as goal
 
 pub returns-in-Some-clause-takes : goal.returns-in-Some-clause-takes
 returns-in-Some-clause-takes g c = λ t at drivable.
-    let see = looks g.B.Board.told g.B.Board.clock g.B.Board.faults in
+    let see = g.B.Board.seen in
     let old = c.args.run.now in
     let text = known_line old.ledger.account.state c.in-Some.name in
     let repeat : IsRepeat old.ledger.account.state old.settings c.args.line text = c.in-Some.ensures.repeats in
@@ -31,22 +31,22 @@ returns-in-Some-clause-takes g c = λ t at drivable.
 
 pub returns-in-Some-clause-ready : goal.returns-in-Some-clause-ready
 returns-in-Some-clause-ready g c =
-    ready_printed (looks g.B.Board.told g.B.Board.clock g.B.Board.faults) (known_line c.args.run.now.ledger.account.state c.in-Some.name) (done_line c.args.number) c.args.run.now.ledger c.end_repeat.result _ _
+    ready_printed g.B.Board.seen (known_line c.args.run.now.ledger.account.state c.in-Some.name) (done_line c.args.number) c.args.run.now.ledger c.end_repeat.result _ _
     c.requires.ready c.end_repeat.ensures.does
 
 pub returns-in-Err-Refused-clause-takes : goal.returns-in-Err-Refused-clause-takes
 returns-in-Err-Refused-clause-takes g c = λ t at drivable.
     rw (c.refused_exit.ensures, c.in-Err-Refused.field-0-is)
-    (refused_for (looks g.B.Board.told g.B.Board.clock g.B.Board.faults) c.args.run.now (record c.args.run.now { settings = c.take.new.self }) c.args.number t c.args.board.now c.args.line c.in-Err-Refused.refusal
+    (refused_for g.B.Board.seen c.args.run.now (record c.args.run.now { settings = c.take.new.self }) c.args.number t c.args.board.now c.args.line c.in-Err-Refused.refusal
     (rw c.in-Err-Refused.field-0-is at c.in-Err-Refused.ensures.event))
 
 pub returns-in-Err-NoMemory-clause-takes : goal.returns-in-Err-NoMemory-clause-takes
 returns-in-Err-NoMemory-clause-takes g c = λ t at drivable.
-    starved_in (looks g.B.Board.told g.B.Board.clock g.B.Board.faults) _ c.args.number t (record c.args.run.now { settings = c.take.new.self }) c.args.board.now _ _
+    starved_in g.B.Board.seen _ c.args.number t (record c.args.run.now { settings = c.take.new.self }) c.args.board.now _ _
 
 pub returns-in-Nothing-clause-takes : goal.returns-in-Nothing-clause-takes
 returns-in-Nothing-clause-takes g c = λ t at drivable.
-    let see = looks g.B.Board.told g.B.Board.clock g.B.Board.faults in
+    let see = g.B.Board.seen in
     let old = c.args.run.now in
     let run = record old { settings = c.take.new.self } in
     asked_for see old run c.args.number t (Ok tt) c.args.board.now c.args.board.now c.args.line c.in-Ok.ensures.settings (Ok Nothing) (c.in-Ok.ensures.event ∙ ap (λ (e : Event). Ok e) c.in-Nothing.is)
@@ -54,7 +54,7 @@ returns-in-Nothing-clause-takes g c = λ t at drivable.
 
 pub returns-in-Settled-clause-takes : goal.returns-in-Settled-clause-takes
 returns-in-Settled-clause-takes g c = λ t at drivable.
-    let see = looks g.B.Board.told g.B.Board.clock g.B.Board.faults in
+    let see = g.B.Board.seen in
     let old = c.args.run.now in
     let run = record old { settings = c.take.new.self } in
     asked_for see old run c.args.number t c.end_event.result c.args.board.now c.end_event.new.board c.args.line c.in-Ok.ensures.settings (Ok Settled) (c.in-Ok.ensures.event ∙ ap (λ (e : Event). Ok e) c.in-Settled.is)
@@ -62,7 +62,7 @@ returns-in-Settled-clause-takes g c = λ t at drivable.
 
 pub returns-in-Counted-clause-takes : goal.returns-in-Counted-clause-takes
 returns-in-Counted-clause-takes g c = λ t at drivable.
-    let see = looks g.B.Board.told g.B.Board.clock g.B.Board.faults in
+    let see = g.B.Board.seen in
     let old = c.args.run.now in
     let run = record old { settings = c.take.new.self; ledger = c.take_made.new.ledger } in
     let fit : IsFit c.in-Counted.made = rw c.in-Counted.is at c.in-Ok.ensures.fit in
@@ -71,11 +71,11 @@ returns-in-Counted-clause-takes g c = λ t at drivable.
 
 pub returns-in-Put-clause-takes : goal.returns-in-Put-clause-takes
 returns-in-Put-clause-takes g c = λ t at drivable.
-    let see = looks g.B.Board.told g.B.Board.clock g.B.Board.faults in
+    let see = g.B.Board.seen in
     let old = c.args.run.now in
     let run = record old { settings = c.take.new.self } in
     let bytes = c.bytes-in-Put.result.now in
-    let ends = at_told (λ u. EndsUnless (put_refusal c.args.number (refusal_of c.in-Put.id bytes u.here.store)) c.put_record.result) (g.B.Board.told c.args.board.now) t c.put_record.ensures.ends at in
+    let ends = at_told (λ u. EndsUnless (put_refusal c.args.number (refusal_of c.in-Put.id bytes u.here.store)) c.put_record.result) (g.B.Board.seen c.args.board.now).told t c.put_record.ensures.ends at in
     asked_for see old run c.args.number t c.put_record.result c.args.board.now c.put_record.new.board c.args.line c.in-Ok.ensures.settings (Ok (Put c.in-Put.id bytes))
     (c.in-Ok.ensures.event ∙ ap (λ (e : Event). Ok e) (c.in-Put.is ∙ ap (Put c.in-Put.id) (sym c.bytes-in-Put.ensures)))
     (put_in see old run c.args.number t c.put_record.result c.args.board.now c.put_record.new.board c.in-Put.id bytes refl refl ends (c.put_record.ensures.does t at))
@@ -87,12 +87,12 @@ returns-in_err-driver-in-Saved-clause-takes g c = λ t at drivable.
 
 pub returns-in_ok-driver-in-Saved-clause-takes : goal.returns-in_ok-driver-in-Saved-clause-takes
 returns-in_ok-driver-in-Saved-clause-takes g c = λ t at drivable.
-    let see = looks g.B.Board.told g.B.Board.clock g.B.Board.faults in
+    let see = g.B.Board.seen in
     let old = c.args.run.now in
     let run = record old { settings = c.take.new.self } in
     let asked = c.in-Ok.ensures.event ∙ ap (λ (e : Event). Ok e) c.in-Saved.is in
     let can : CanBeSaved c.in-Saved.id c.in-Saved.bytes = rw c.in-Saved.is at c.in-Ok.ensures.fit in
-    let ends = at_told (λ u. EndsUnless (saving_refusal u.volatile.slow c.in-Saved.id u.here.store) c.save_record.result) (g.B.Board.told c.args.board.now) t c.save_record.ensures.ends at in
+    let ends = at_told (λ u. EndsUnless (saving_refusal u.volatile.slow c.in-Saved.id u.here.store) c.save_record.result) (g.B.Board.seen c.args.board.now).told t c.save_record.ensures.ends at in
     saved_in see old run c.args.number t c.save_record.result c.args.board.now c.save_record.new.board c.args.line c.in-Ok.ensures.settings c.in_ok-driver-in-Saved.driver.now c.in_ok-driver-in-Saved.ensures
     c.in-Saved.id c.in-Saved.bytes asked refl refl can ends (c.save_record.ensures.does t at)
 
@@ -103,7 +103,7 @@ returns-in_err-driver-in-Polled-clause-takes g c = λ t at drivable.
 
 pub returns-in_ok-driver-in-Polled-clause-takes : goal.returns-in_ok-driver-in-Polled-clause-takes
 returns-in_ok-driver-in-Polled-clause-takes g c = λ t at drivable.
-    let see = looks g.B.Board.told g.B.Board.clock g.B.Board.faults in
+    let see = g.B.Board.seen in
     let old = c.args.run.now in
     let run = record old { settings = c.take.new.self; ledger = c.poll_store.new.ledger } in
     let asked = c.in-Ok.ensures.event ∙ ap (λ (e : Event). Ok e) c.in-Polled.is in
@@ -115,7 +115,7 @@ returns-in_ok-driver-in-Polled-clause-takes g c = λ t at drivable.
 
 pub returns-in-Reopened-clause-takes : goal.returns-in-Reopened-clause-takes
 returns-in-Reopened-clause-takes g c = λ t at drivable.
-    let see = looks g.B.Board.told g.B.Board.clock g.B.Board.faults in
+    let see = g.B.Board.seen in
     let old = c.args.run.now in
     let run = record old { settings = c.take.new.self; ledger = c.reopen.new.ledger } in
     asked_for see old run c.args.number t c.reopen.result c.args.board.now c.reopen.new.board c.args.line c.in-Ok.ensures.settings (Ok Reopened) (c.in-Ok.ensures.event ∙ ap (λ (e : Event). Ok e) c.in-Reopened.is)

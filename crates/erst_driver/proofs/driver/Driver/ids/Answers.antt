@@ -1,14 +1,13 @@
 use Rattle.std.proofs.Common.{ℕ, Vec, Global}
 use Rattle.std.specs.Prelude.{Err}
 use Rattle.std.proofs.lemmas.Result.{err_from_is_err_and}
-use Rattle.board_core.specs.Doing.{looks}
 use Rattle.erst_driver.proofs.ClauseLemmas.{lists_records}
 use Rattle.erst_driver.proofs.ListLemmas.{all_few, all_ids, lists_refused, lists_then}
 use Rattle.erst_driver.proofs.driver.Driver.ids.Goals as goal
 
 pub returns : goal.returns
 returns g c =
-    let see = looks g.B.Board.told g.B.Board.clock g.B.Board.faults in
+    let see = g.B.Board.seen in
     let lists = c.args.self.now in
     let has = c.in_ok-list_to_end.ensures.device in
     let a = c.args.board.now in
@@ -22,7 +21,7 @@ returns g c =
 
 pub returns-in_err-list_to_end : goal.returns-in_err-list_to_end
 returns-in_err-list_to_end g c =
-    let see = looks g.B.Board.told g.B.Board.clock g.B.Board.faults in
+    let see = g.B.Board.seen in
     let lists = c.args.self.now in
     let why = c.in_err-list_to_end.field-0.0 in
     let has = c.in_err-list_to_end.ensures.device in

@@ -14,7 +14,7 @@ use Rattle.erst_driver.proofs.driver.Driver.list_to_end.Goals as goal
 pub loop-init : goal.loop-init
 loop-init g c = record {
   listing = listing_begins c.args.self.now _ (nothing_done c.args.self.now _);
-  called = called_none c.args.self.now (g.B.Board.told c.args.board.now);
+  called = called_none c.args.self.now (g.B.Board.seen c.args.board.now).told;
 }
 
 pub returns-in_err-run-clause-lists : goal.returns-in_err-run-clause-lists

@@ -14,7 +14,7 @@ use Rattle.erst_driver.proofs.driver.Driver.operate.Goals as goal
 pub loop-step-init : goal.loop-step-init
 loop-step-init g c = record {
   done = nothing_done c.args.self.now _;
-  called = called_none c.args.self.now (g.B.Board.told c.args.board.now);
+  called = called_none c.args.self.now (g.B.Board.seen c.args.board.now).told;
 }
 
 pub loop-step-preserved : goal.loop-step-preserved

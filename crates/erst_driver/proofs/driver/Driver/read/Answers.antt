@@ -1,12 +1,11 @@
 use Rattle.std.proofs.Common.{◌≡◌, ℕ, List, arith, refl, subst, take, drop}
 use Rattle.std.specs.Prelude.{Ok, Err, IfSome}
 use Rattle.std.proofs.lemmas.Result.{err_from_is_err_and}
-use Rattle.board_core.specs.declared.board.Access.TheVariants.{RangeRead}
-use Rattle.board_core.specs.Doing.{looks, range_read}
-use Rattle.board_core.specs.Told.{Relates, Steps, MayListAccess, device_of, with_access}
+use Rattle.board_core.specs.Doing.{range_read}
+use Rattle.board_core.specs.Told.{device_of}
 use Rattle.erst_store.specs.Actions.{range_length}
 use Rattle.erst_interp.proofs.BreakLemmas.{one_fails}
-use Rattle.erst_interp.proofs.CallLemmas.{quiet_fails, quiet_well}
+use Rattle.erst_interp.proofs.CallLemmas.{quiet_fails, quiet_well, read_of}
 use Rattle.erst_driver.specs.declared.refusals.DriverRefused.TheVariants.{Register}
 use Rattle.erst_driver.specs.declared.step.Step.{Step}
 use Rattle.erst_driver.specs.Answers.{answer_of}
@@ -18,7 +17,7 @@ use Rattle.erst_driver.proofs.driver.Driver.read.Goals as goal
 
 pub returns-in_err-operate : goal.returns-in_err-operate
 returns-in_err-operate g c =
-    let see = looks g.B.Board.told g.B.Board.clock g.B.Board.faults in
+    let see = g.B.Board.seen in
     let lists = c.args.self.now in
     let id = c.args.id in
     let a = c.args.board.now in
@@ -35,16 +34,16 @@ returns-in_err-operate g c =
 
 pub returns-in_err-range_read : goal.returns-in_err-range_read
 returns-in_err-range_read g c =
-    let see = looks g.B.Board.told g.B.Board.clock g.B.Board.faults in
+    let see = g.B.Board.seen in
     let lists = c.args.self.now in
     let id = c.args.id in
     let a = c.args.board.now in
     let m = c.operate.new.board in
     let b = c.range_read.new.self in
     let read = c.in_err-range_read.ensures in
-    let failed = subst (λ (n : ℕ). Relates (MayListAccess (RangeRead 0 n)) (g.B.Board.told m) (g.B.Board.told b)) c.requires read.failed in
+    let made = read_of (Err c.in_err-range_read.field-0.0) 0 _ range_length (see m) (see b) c.requires read.does in
     let done = fetch_failed lists (read_steps id) (see a) (see m) (see b) (rw c.read_steps-steps.ensures at c.in_ok-operate.ensures.operates)
-    (one_fails (range_read 0 range_length) (g.B.Board.told m) (g.B.Board.told b) failed) (quiet_fails (range_read 0 range_length) (see m) (see b) read.stops failed read.cause) in
+    (one_fails (range_read 0 range_length) (g.B.Board.seen m).told (g.B.Board.seen b).told made.failed) (quiet_fails (range_read 0 range_length) (see m) (see b) made.stops made) in
     let p = err_from_is_err_and c.from_residual-in_err-range_read.result c.from_residual-in_err-range_read.ensures.1 in
     rw (p.1, p.2) (record {
       reads = reads see lists a b id (omega (arith, c.ranges.id.fits)) c.range_read.new.buf (Err Register) done
@@ -54,7 +53,7 @@ returns-in_err-range_read g c =
 
 pub returns : goal.returns
 returns g c =
-    let see = looks g.B.Board.told g.B.Board.clock g.B.Board.faults in
+    let see = g.B.Board.seen in
     let lists = c.args.self.now in
     let id = c.args.id in
     let a = c.args.board.now in
@@ -62,10 +61,10 @@ returns g c =
     let b = c.range_read.new.self in
     let buffer = c.range_read.new.buf in
     let read = c.in_ok-range_read.ensures in
-    let told = subst (λ (n : ℕ). Steps (with_access (RangeRead 0 n)) (g.B.Board.told m) (g.B.Board.told b)) c.requires read.told in
-    let bytes = subst (λ (n : ℕ). IfSome (g.B.Board.told m) (λ t. buffer ≡ take n (drop 0 (device_of t).range))) c.requires read.read in
-    let done = fetched lists (read_steps id) buffer (see a) (see m) (see b) (rw c.read_steps-steps.ensures at c.in_ok-operate.ensures.operates) bytes told
-    (quiet_well (range_read 0 range_length) (see m) (see b) read.stops (λ t. refl) told read.cause) in
+    let made = read_of (Ok tt) 0 _ range_length (see m) (see b) c.requires read.does in
+    let bytes = subst (λ (n : ℕ). IfSome (g.B.Board.seen m).told (λ t. buffer ≡ take n (drop 0 (device_of t).range))) c.requires read.read in
+    let done = fetched lists (read_steps id) buffer (see a) (see m) (see b) (rw c.read_steps-steps.ensures at c.in_ok-operate.ensures.operates) bytes made.told
+    (quiet_well (range_read 0 range_length) (see m) (see b) (λ t. refl) made.stops made) in
     record {
       reads = reads see lists a b id (omega (arith, c.ranges.id.fits)) buffer (Ok tt) done
           tt c.in_ok-operate.ensures.device;

@@ -2,7 +2,7 @@ use Rattle.std.proofs.Common.{◌≡◌, ◌-◌, ◌+◌, ◌<◌, ℕ, zero, s
 use Rattle.std.specs.Prelude.{Ok, Err, slice_get}
 use Rattle.std.proofs.lemmas.Option.{slice_get_past}
 use Rattle.std.proofs.lemmas.Result.{err_from_is_err_and}
-use Rattle.board_core.specs.Doing.{Seen, looks}
+use Rattle.board_core.specs.Doing.{Seen}
 use Rattle.erst_interp.specs.declared.entries.InstructionEntry.{InstructionEntry}
 use Rattle.erst_interp.specs.declared.machine.Variables.{Variables}
 use Rattle.erst_interp.specs.declared.refusals.RunRefused.TheVariants.{Fuel}
@@ -24,7 +24,7 @@ left_as list turns left input v a b is way = subst (λ (n : ℕ). Way list n inp
 
 pub loop-init : goal.loop-init
 loop-init g c =
-    let see = looks g.B.Board.told g.B.Board.clock g.B.Board.faults in
+    let see = g.B.Board.seen in
     let list = c.list-list.result.now in
     rw c.new-variables.ensures (record {
       way = way_begins list c.args.input (see c.args.board.now);
@@ -34,7 +34,7 @@ loop-init g c =
 
 pub loop-preserved : goal.loop-preserved
 loop-preserved g c =
-    let see = looks g.B.Board.told g.B.Board.clock g.B.Board.faults in
+    let see = g.B.Board.seen in
     let list = c.list-list.result.now in
     let v = c.loop.variables in
     let w = c.in_ok-variables.variables in
@@ -48,13 +48,13 @@ loop-preserved g c =
       way = way_on list c.args.input a b (most_turns - (c.loop.counter + 1)) e v (see c.turn.new.board) next way w c.in_ok-variables.ensures.turns;
       straight = λ are. (let here = c.loop.invariant.straight are in let on = c.in_ok-variables.ensures.straight (at_place list v.index e next are) in omega (arith, here, on));
       reached = λ are. (let on = c.in_ok-variables.ensures.straight (at_place list v.index e next are) in
-          subst (λ (i : ℕ). Reaches list i a.told (g.B.Board.told c.turn.new.board)) (omega (arith, on))
-          (reaches_next list v.index e (Ok w) a.told b.told (g.B.Board.told c.turn.new.board) next (c.loop.invariant.reached are) c.in_ok-variables.ensures.device));
+          subst (λ (i : ℕ). Reaches list i a.told (g.B.Board.seen c.turn.new.board).told) (omega (arith, on))
+          (reaches_next list v.index e (Ok w) a.told b.told (g.B.Board.seen c.turn.new.board).told next (c.loop.invariant.reached are) c.in_ok-variables.ensures.device));
     }
 
 pub returns-in_default-clause-runs : goal.returns-in_default-clause-runs
 returns-in_default-clause-runs g c =
-    let see = looks g.B.Board.told g.B.Board.clock g.B.Board.faults in
+    let see = g.B.Board.seen in
     let list = c.list-list.result.now in
     let v = c.loop.variables in
     let a = see c.args.board.now in
@@ -63,7 +63,7 @@ returns-in_default-clause-runs g c =
 
 pub returns-in_default-clause-admitted : goal.returns-in_default-clause-admitted
 returns-in_default-clause-admitted g c =
-    let see = looks g.B.Board.told g.B.Board.clock g.B.Board.faults in
+    let see = g.B.Board.seen in
     let list = c.list-list.result.now in
     let v = c.loop.variables in
     let a = see c.args.board.now in
@@ -74,7 +74,7 @@ returns-in_default-clause-admitted g c =
 
 pub returns-in-None-clause-runs : goal.returns-in-None-clause-runs
 returns-in-None-clause-runs g c =
-    let see = looks g.B.Board.told g.B.Board.clock g.B.Board.faults in
+    let see = g.B.Board.seen in
     let list = c.list-list.result.now in
     let v = c.loop.variables in
     let a = see c.args.board.now in
@@ -83,7 +83,7 @@ returns-in-None-clause-runs g c =
 
 pub returns-in-None-clause-admitted : goal.returns-in-None-clause-admitted
 returns-in-None-clause-admitted g c =
-    let see = looks g.B.Board.told g.B.Board.clock g.B.Board.faults in
+    let see = g.B.Board.seen in
     let list = c.list-list.result.now in
     let v = c.loop.variables in
     let a = see c.args.board.now in
@@ -94,7 +94,7 @@ returns-in-None-clause-admitted g c =
 
 pub returns-in-Some-get-clause-runs : goal.returns-in-Some-get-clause-runs
 returns-in-Some-get-clause-runs g c =
-    let see = looks g.B.Board.told g.B.Board.clock g.B.Board.faults in
+    let see = g.B.Board.seen in
     let list = c.list-list.result.now in
     let v = c.loop.variables in
     let e = c.in-Some-get.field-0.now in
@@ -114,7 +114,7 @@ returns-in-Some-get-clause-admitted g c = λ is_here.
 
 pub returns-in_err-variables-clause-runs : goal.returns-in_err-variables-clause-runs
 returns-in_err-variables-clause-runs g c =
-    let see = looks g.B.Board.told g.B.Board.clock g.B.Board.faults in
+    let see = g.B.Board.seen in
     let list = c.list-list.result.now in
     let v = c.loop.variables in
     let e = c.in-Some.entry.now in
@@ -131,7 +131,7 @@ returns-in_err-variables-clause-runs g c =
 
 pub returns-in_err-variables-clause-admitted : goal.returns-in_err-variables-clause-admitted
 returns-in_err-variables-clause-admitted g c =
-    let see = looks g.B.Board.told g.B.Board.clock g.B.Board.faults in
+    let see = g.B.Board.seen in
     let list = c.list-list.result.now in
     let v = c.loop.variables in
     let e = c.in-Some.entry.now in

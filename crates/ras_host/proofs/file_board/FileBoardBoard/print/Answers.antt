@@ -1,23 +1,35 @@
-use Rattle.std.proofs.Common.{arith}
-use Rattle.std.proofs.lemmas.Grind.{common_steps}
-use Rattle.board_core.specs.declared.board.FileNo.TheVariants.{Zero}
+use Rattle.host_system.proofs.CallLemmas.{prints}
+use Rattle.ras_host.specs.BoardState.{BoardState}
 use Rattle.ras_host.proofs.BlameLemmas.{caused_print}
+use Rattle.ras_host.proofs.DiskCallLemmas.{made_print}
 use Rattle.ras_host.proofs.ToldLemmas.{held_printed, in_step_printed, printed_keeps, settled_printed}
 use Rattle.ras_host.proofs.file_board.FileBoardBoard.print.Goals as goal
 
 pub invariant_of-self : goal.invariant_of-self
 invariant_of-self g c =
     let b = c.self.inside in
-    let r = c.print.ensures in
-    let keeps = printed_keeps c.args.bytes.now c.print.result _ _ r.told r.failed r.keeps in (
+    let print = prints c.args.bytes.now c.print.result _ _ c.print.ensures.told c.print.ensures.failed in
+    let keeps = printed_keeps c.args.bytes.now c.print.result _ _ print.told print.failed print.keeps in (
       held_printed b.files _ _ keeps c.self.invariant.0,
       in_step_printed b.kept _ _ keeps c.self.invariant.1,
       settled_printed b.files b.kept _ _ keeps c.self.invariant.2,
-      caused_print g.U.Use.HOW b.files b.kept _ _ _ _ c.print.result c.self.invariant.3 r.cause c.counted.ensures.counts,
+      caused_print g.U.Use.HOW b.files b.kept _ _ _ _ c.print.result c.self.invariant.3 c.print.ensures.cause c.counted.ensures.counts,
     )
 
-pub returns-clause-told : goal.returns-clause-told
-returns-clause-told g c = let zero = c.print.ensures.keeps Zero in grind (arith, common_steps)
-
-pub returns-clause-failed : goal.returns-clause-failed
-returns-clause-failed g c = let zero = c.print.ensures.keeps Zero in grind (arith, common_steps)
+pub returns : goal.returns
+returns g c =
+    let b = c.self.inside in
+    let board : BoardState = record {
+      past = g.S.System.told b.system;
+      files = b.files;
+      kept = b.kept;
+      faults = record { disk = b.disk_faults; registers = b.register_faults; prints = b.print_faults };
+      count = g.S.System.faults b.system;
+      disk_calls = b.disk_calls.calls;
+      accesses = b.accesses.calls;
+    } in
+    let print = prints c.args.bytes.now c.print.result _ _ c.print.ensures.told c.print.ensures.failed in
+    record {
+      does = rw (← c.self.view_is) (made_print c.args.bytes.now c.print.result c.counted.result c.counted.new.faults (g.S.System.faults c.print.new.self) board _ print
+          c.counted.ensures.ok c.counted.ensures.err c.counted.ensures.counts);
+    }

@@ -4,7 +4,7 @@ use Rattle.ras_host.specs.Steps.Listed.{accesses_noted, disk_calls_noted}
 use Rattle.std.specs.Prelude.{length, take, drop}
 use Rattle.board_core.specs.declared.board.Access.TheVariants.{RangeRead}
 use Rattle.ras_host.proofs.BlameLemmas.{caused_device, done_here}
-use Rattle.ras_host.proofs.ToldLemmas.{device_kept, held_same, kept_listed, of_device, on_ok, relates_listed, same_stops, settled_same}
+use Rattle.ras_host.proofs.ToldLemmas.{device_kept, held_same, kept_listed, of_device, on_any_ok, on_ok, relates_listed, same_stops, settled_same}
 use Rattle.ras_host.proofs.KeptLemmas.{on_any_err}
 use Rattle.ras_host.proofs.file_board.FileBoardBoard.range_read.Goals as goal
 
@@ -15,27 +15,20 @@ returns-clause-read g c =
     rw (← c.self.view_is) (on_ok _ _ r.result c.counted.result c.counted.ensures.ok c.counted.ensures.err r.ensures.read
     (λ is. of_device (λ d. r.new.buf ≡ take (length c.args.buf.now) (drop c.args.place d.range)) _ b.kept (disk_calls_noted b.disk_calls.calls) (accesses_noted b.accesses.calls) is))
 
-pub returns-clause-told : goal.returns-clause-told
-returns-clause-told g c =
+pub returns-clause-does : goal.returns-clause-does
+returns-clause-does g c =
     let b = c.self.inside in
     let r = c.range_read-answer in
-    rw (← c.self.view_is) (on_ok _ _ r.result c.counted.result c.counted.ensures.ok c.counted.ensures.err r.ensures.read
-    (λ is. kept_listed (RangeRead c.args.place (length c.args.buf.now)) _ _ b.kept r.new.self (disk_calls_noted b.disk_calls.calls) (accesses_noted b.accesses.calls) (accesses_noted c.list_access.new.accesses.calls)
-    r.ensures.looks.told r.ensures.looks.same c.list_access.ensures))
-
-pub returns-clause-failed : goal.returns-clause-failed
-returns-clause-failed g c =
-    let b = c.self.inside in
-    let r = c.range_read-answer in
-    rw (← c.self.view_is) (on_any_err _ c.counted.result (relates_listed (RangeRead c.args.place (length c.args.buf.now)) _ _
-    (kept_listed (RangeRead c.args.place (length c.args.buf.now)) _ _ b.kept r.new.self (disk_calls_noted b.disk_calls.calls) (accesses_noted b.accesses.calls) (accesses_noted c.list_access.new.accesses.calls)
-    r.ensures.looks.told r.ensures.looks.same c.list_access.ensures)))
-
-pub returns-clause-stops : goal.returns-clause-stops
-returns-clause-stops g c = rw (← c.self.view_is) (same_stops _ _ c.range_read-answer.ensures.looks.told)
-
-pub returns-clause-cause : goal.returns-clause-cause
-returns-clause-cause g c = rw (← c.self.view_is) (record { own = c.counted.ensures.cause; others = refl })
+    let access = RangeRead c.args.place (length c.args.buf.now) in
+    let listed = kept_listed access _ _ b.kept r.new.self (disk_calls_noted b.disk_calls.calls) (accesses_noted b.accesses.calls) (accesses_noted c.list_access.new.accesses.calls)
+    r.ensures.looks.told r.ensures.looks.same c.list_access.ensures in
+    rw (← c.self.view_is) (record {
+      told = on_any_ok _ c.counted.result listed;
+      failed = on_any_err _ c.counted.result (relates_listed access _ _ listed);
+      stops = same_stops _ _ r.ensures.looks.told;
+      settles = on_any_ok _ c.counted.result tt;
+      cause = record { own = c.counted.ensures.cause; others = refl };
+    })
 
 pub returns-clause-device : goal.returns-clause-device
 returns-clause-device g c =

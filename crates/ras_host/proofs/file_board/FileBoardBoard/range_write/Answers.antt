@@ -5,30 +5,24 @@ use Rattle.std.specs.Prelude.{length}
 use Rattle.board_core.specs.Told.{after_range_write}
 use Rattle.board_core.specs.declared.board.Access.TheVariants.{RangeWrite}
 use Rattle.ras_host.proofs.BlameLemmas.{caused_device, done_here}
-use Rattle.ras_host.proofs.ToldLemmas.{device_kept, held_turned, may_turn_listed, of_device, on_err, on_ok, same_stops, settled_turned, turned_listed}
+use Rattle.ras_host.proofs.ToldLemmas.{device_kept, held_turned, may_turn_listed, of_device, on_any_ok, on_err, on_ok, same_stops, settled_turned, turned_listed}
 use Rattle.ras_host.proofs.file_board.FileBoardBoard.range_write.Goals as goal
 
-pub returns-clause-told : goal.returns-clause-told
-returns-clause-told g c =
+pub returns-clause-does : goal.returns-clause-does
+returns-clause-does g c =
     let b = c.self.inside in
     let r = c.range_write-answer in
-    rw (← c.self.view_is) (on_ok _ _ r.result c.counted.result c.counted.ensures.ok c.counted.ensures.err r.ensures.turned.ok
-    (λ is. turned_listed (after_range_write c.args.place c.args.bytes.now) (RangeWrite c.args.place (length c.args.bytes.now)) _ _ b.kept r.new.self (disk_calls_noted b.disk_calls.calls) (accesses_noted b.accesses.calls) (accesses_noted c.list_access.new.accesses.calls)
-    is c.list_access.ensures))
-
-pub returns-clause-failed : goal.returns-clause-failed
-returns-clause-failed g c =
-    let b = c.self.inside in
-    let r = c.range_write-answer in
-    rw (← c.self.view_is) (on_err _ _ r.result c.counted.result c.counted.ensures.ok c.counted.ensures.err r.ensures.turned.err
-    (λ is. may_turn_listed (after_range_write c.args.place c.args.bytes.now) (RangeWrite c.args.place (length c.args.bytes.now)) _ _ b.kept r.new.self (disk_calls_noted b.disk_calls.calls) (accesses_noted b.accesses.calls) (accesses_noted c.list_access.new.accesses.calls)
-    is c.list_access.ensures))
-
-pub returns-clause-stops : goal.returns-clause-stops
-returns-clause-stops g c = rw (← c.self.view_is) (same_stops _ _ c.range_write-answer.ensures.told)
-
-pub returns-clause-cause : goal.returns-clause-cause
-returns-clause-cause g c = rw (← c.self.view_is) (record { own = c.counted.ensures.cause; others = refl })
+    let step = after_range_write c.args.place c.args.bytes.now in
+    let access = RangeWrite c.args.place (length c.args.bytes.now) in
+    rw (← c.self.view_is) (record {
+      told = on_ok _ _ r.result c.counted.result c.counted.ensures.ok c.counted.ensures.err r.ensures.turned.ok
+          (λ is. turned_listed step access _ _ b.kept r.new.self (disk_calls_noted b.disk_calls.calls) (accesses_noted b.accesses.calls) (accesses_noted c.list_access.new.accesses.calls) is c.list_access.ensures);
+      failed = on_err _ _ r.result c.counted.result c.counted.ensures.ok c.counted.ensures.err r.ensures.turned.err
+          (λ is. may_turn_listed step access _ _ b.kept r.new.self (disk_calls_noted b.disk_calls.calls) (accesses_noted b.accesses.calls) (accesses_noted c.list_access.new.accesses.calls) is c.list_access.ensures);
+      stops = same_stops _ _ r.ensures.told;
+      settles = on_any_ok _ c.counted.result tt;
+      cause = record { own = c.counted.ensures.cause; others = refl };
+    })
 
 pub returns-clause-device : goal.returns-clause-device
 returns-clause-device g c =

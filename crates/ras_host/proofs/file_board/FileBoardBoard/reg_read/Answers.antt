@@ -4,7 +4,7 @@ use Rattle.ras_host.specs.Steps.Listed.{accesses_noted, disk_calls_noted}
 use Rattle.board_core.specs.Told.{register_in}
 use Rattle.board_core.specs.declared.board.Access.TheVariants.{Read}
 use Rattle.ras_host.proofs.BlameLemmas.{caused_device, done_here}
-use Rattle.ras_host.proofs.ToldLemmas.{device_kept, held_same, if_ok, kept_listed, of_device, read_err, read_ok, same_stops, settled_same}
+use Rattle.ras_host.proofs.ToldLemmas.{device_kept, held_same, if_ok, kept_listed, of_device, on_any_ok, read_err, read_told, same_stops, settled_same}
 use Rattle.ras_host.proofs.file_board.FileBoardBoard.reg_read.Goals as goal
 
 pub returns-clause-value : goal.returns-clause-value
@@ -14,27 +14,21 @@ returns-clause-value g c =
     rw (← c.self.view_is) (if_ok _ _ r.result c.counted.result c.counted.ensures.ok c.counted.ensures.err r.ensures.value
     (λ n is. of_device (λ d. n ≡ register_in c.args.reg d) _ b.kept (disk_calls_noted b.disk_calls.calls) (accesses_noted b.accesses.calls) is))
 
-pub returns-clause-told : goal.returns-clause-told
-returns-clause-told g c =
+pub returns-clause-does : goal.returns-clause-does
+returns-clause-does g c =
     let b = c.self.inside in
     let r = c.reg_read-answer in
-    rw (← c.self.view_is) (read_ok c.args.reg _ _ r.result c.counted.result c.unwrap_or.result c.counted.ensures.ok c.counted.ensures.err c.unwrap_or.ensures
-    (kept_listed (Read c.args.reg c.unwrap_or.result) _ _ b.kept r.new.self (disk_calls_noted b.disk_calls.calls) (accesses_noted b.accesses.calls) (accesses_noted c.list_access.new.accesses.calls)
-    r.ensures.looks.told r.ensures.looks.same c.list_access.ensures))
-
-pub returns-clause-failed : goal.returns-clause-failed
-returns-clause-failed g c =
-    let b = c.self.inside in
-    let r = c.reg_read-answer in
-    rw (← c.self.view_is) (read_err c.args.reg _ _ r.result c.counted.result c.unwrap_or.result c.counted.ensures.ok c.counted.ensures.err c.unwrap_or.ensures
-    (kept_listed (Read c.args.reg c.unwrap_or.result) _ _ b.kept r.new.self (disk_calls_noted b.disk_calls.calls) (accesses_noted b.accesses.calls) (accesses_noted c.list_access.new.accesses.calls)
-    r.ensures.looks.told r.ensures.looks.same c.list_access.ensures))
-
-pub returns-clause-stops : goal.returns-clause-stops
-returns-clause-stops g c = rw (← c.self.view_is) (same_stops _ _ c.reg_read-answer.ensures.looks.told)
-
-pub returns-clause-cause : goal.returns-clause-cause
-returns-clause-cause g c = rw (← c.self.view_is) (record { own = c.counted.ensures.cause; others = refl })
+    let listed = kept_listed (Read c.args.reg c.unwrap_or.result) _ _ b.kept r.new.self (disk_calls_noted b.disk_calls.calls) (accesses_noted b.accesses.calls) (accesses_noted c.list_access.new.accesses.calls)
+    r.ensures.looks.told r.ensures.looks.same c.list_access.ensures in
+    let reads = if_ok _ _ r.result c.counted.result c.counted.ensures.ok c.counted.ensures.err r.ensures.value
+    (λ n is. of_device (λ d. n ≡ register_in c.args.reg d) _ b.kept (disk_calls_noted b.disk_calls.calls) (accesses_noted b.accesses.calls) is) in
+    rw (← c.self.view_is) (record {
+      told = read_told c.args.reg _ _ r.result c.counted.result c.unwrap_or.result c.counted.ensures.ok c.counted.ensures.err c.unwrap_or.ensures reads listed;
+      failed = read_err c.args.reg _ _ r.result c.counted.result c.unwrap_or.result c.counted.ensures.ok c.counted.ensures.err c.unwrap_or.ensures listed;
+      stops = same_stops _ _ r.ensures.looks.told;
+      settles = on_any_ok _ c.counted.result tt;
+      cause = record { own = c.counted.ensures.cause; others = refl };
+    })
 
 pub returns-clause-device : goal.returns-clause-device
 returns-clause-device g c =

@@ -7,38 +7,22 @@ use Rattle.ras_host.proofs.BlameLemmas.{caused_device, done_here}
 use Rattle.ras_host.proofs.ToldLemmas.{device_kept, does_saved, held_turned, may_turn_listed, of_device, on_err, on_ok, settled_turned, store_stops, store_stored, turned_listed}
 use Rattle.ras_host.proofs.file_board.FileBoardBoard.reg_write.Goals as goal
 
-pub returns-clause-told : goal.returns-clause-told
-returns-clause-told g c =
+pub returns-clause-does : goal.returns-clause-does
+returns-clause-does g c =
     let b = c.self.inside in
     let r = c.reg_write-answer in
-    rw (← c.self.view_is) (on_ok _ _ r.result c.counted.result c.counted.ensures.ok c.counted.ensures.err r.ensures.turned.ok
-    (λ is. turned_listed (after_reg_write c.args.reg c.args.value) (Write c.args.reg c.args.value) _ _ b.kept r.new.self (disk_calls_noted b.disk_calls.calls) (accesses_noted b.accesses.calls) (accesses_noted c.list_access.new.accesses.calls)
-    is c.list_access.ensures))
-
-pub returns-clause-failed : goal.returns-clause-failed
-returns-clause-failed g c =
-    let b = c.self.inside in
-    let r = c.reg_write-answer in
-    rw (← c.self.view_is) (on_err _ _ r.result c.counted.result c.counted.ensures.ok c.counted.ensures.err r.ensures.turned.err
-    (λ is. may_turn_listed (after_reg_write c.args.reg c.args.value) (Write c.args.reg c.args.value) _ _ b.kept r.new.self (disk_calls_noted b.disk_calls.calls) (accesses_noted b.accesses.calls) (accesses_noted c.list_access.new.accesses.calls)
-    is c.list_access.ensures))
-
-pub returns-clause-stops : goal.returns-clause-stops
-returns-clause-stops g c =
-    let b = c.self.inside in
-    let r = c.reg_write-answer in
-    rw (← c.self.view_is) (store_stops (after_reg_write c.args.reg c.args.value) _ _ b.kept (disk_calls_noted b.disk_calls.calls) (accesses_noted b.accesses.calls) r.ensures.turned.stops)
-
-pub returns-clause-stored : goal.returns-clause-stored
-returns-clause-stored g c =
-    let b = c.self.inside in
-    let r = c.reg_write-answer in
-    rw (← c.self.view_is) (on_ok _ _ r.result c.counted.result c.counted.ensures.ok c.counted.ensures.err r.ensures.does
-    (λ does. store_stored _ _ b.kept r.new.self (disk_calls_noted b.disk_calls.calls) (accesses_noted b.accesses.calls) (accesses_noted c.list_access.new.accesses.calls)
-    r.ensures.turned.saved (does_saved (after_reg_write c.args.reg c.args.value) b.kept r.new.self does)))
-
-pub returns-clause-cause : goal.returns-clause-cause
-returns-clause-cause g c = rw (← c.self.view_is) (record { own = c.counted.ensures.cause; others = refl })
+    let step = after_reg_write c.args.reg c.args.value in
+    let access = Write c.args.reg c.args.value in
+    rw (← c.self.view_is) (record {
+      told = on_ok _ _ r.result c.counted.result c.counted.ensures.ok c.counted.ensures.err r.ensures.turned.ok
+          (λ is. turned_listed step access _ _ b.kept r.new.self (disk_calls_noted b.disk_calls.calls) (accesses_noted b.accesses.calls) (accesses_noted c.list_access.new.accesses.calls) is c.list_access.ensures);
+      failed = on_err _ _ r.result c.counted.result c.counted.ensures.ok c.counted.ensures.err r.ensures.turned.err
+          (λ is. may_turn_listed step access _ _ b.kept r.new.self (disk_calls_noted b.disk_calls.calls) (accesses_noted b.accesses.calls) (accesses_noted c.list_access.new.accesses.calls) is c.list_access.ensures);
+      stops = store_stops step _ _ b.kept (disk_calls_noted b.disk_calls.calls) (accesses_noted b.accesses.calls) r.ensures.turned.stops;
+      settles = on_ok _ _ r.result c.counted.result c.counted.ensures.ok c.counted.ensures.err r.ensures.does
+          (λ does. store_stored _ _ b.kept r.new.self (disk_calls_noted b.disk_calls.calls) (accesses_noted b.accesses.calls) (accesses_noted c.list_access.new.accesses.calls) r.ensures.turned.saved (does_saved step b.kept r.new.self does));
+      cause = record { own = c.counted.ensures.cause; others = refl };
+    })
 
 pub returns-clause-device : goal.returns-clause-device
 returns-clause-device g c =

@@ -1,26 +1,80 @@
-use Rattle.std.proofs.Common.{length}
-use Rattle.board_core.specs.Stop.{InFile}
-use Rattle.board_core.specs.Told.{Torn}
-use Rattle.host_system.specs.BoardFile.{SeesTorn, SeesWritten}
-use Rattle.ras_host.proofs.BlameLemmas.{caused_files}
-use Rattle.ras_host.proofs.ToldLemmas.{in_step_wrote, settled_wrote, write_stops}
+use Rattle.std.proofs.Common.{◌≤◌, length, ap, subst, sym}
+use Rattle.board_core.specs.declared.board.DiskCall.TheVariants.{WriteAt}
+use Rattle.host_system.proofs.CallLemmas.{writes}
+use Rattle.ras_host.specs.BoardState.{BoardState}
+use Rattle.ras_host.specs.JournalFiles.{IsReady}
+use Rattle.ras_host.proofs.BlameLemmas.{blamed_later, caused_files, files_asked}
+use Rattle.ras_host.proofs.DiskCallLemmas.{begun, begun_file, made_refused, made_wrote, write_unready}
+use Rattle.ras_host.proofs.JournalLemmas.{held_wrote, ready_open}
+use Rattle.ras_host.proofs.ToldLemmas.{in_step_wrote, settled_wrote}
 use Rattle.ras_host.proofs.file_board.FileBoardBoard.write_at.Goals as goal
 
-pub returns-clause-stops : goal.returns-clause-stops
-returns-clause-stops g c =
-    let w = c.write_at-answer in
-    let count = length c.args.bytes.now in
-    rw (← c.self.view_is) (write_stops c.args.file c.args.place count
-    (SeesWritten c.args.file c.args.place c.args.bytes.now) (SeesTorn c.args.file c.args.place count)
-    w.result c.self.inside.files w.new.self _ _ w.ensures.wrote w.ensures.failed)
+pub returns-in_err-begin : goal.returns-in_err-begin
+returns-in_err-begin g c =
+    let begin = c.in_err-begin.ensures in
+    record { does = write_unready c.args.file c.args.place c.args.bytes.now c.from_residual.result _ c.from_residual.ensures.0 c.args.self.now c.begin.new.self begin.told begin.stops begin.cause }
 
-pub invariant_of-self : goal.invariant_of-self
-invariant_of-self g c =
+pub returns-in-Seen : goal.returns-in-Seen
+returns-in-Seen g c =
     let b = c.self.inside in
+    let board : BoardState = record {
+      past = g.S.System.told b.system;
+      files = b.files;
+      kept = b.kept;
+      faults = record { disk = b.disk_faults; registers = b.register_faults; prints = b.print_faults };
+      count = g.S.System.faults b.system;
+      disk_calls = b.disk_calls.calls;
+      accesses = b.accesses.calls;
+    } in
+    let ready = c.in_ok-begin.ensures in
+    let first = begun (WriteAt c.args.file c.args.place (length c.args.bytes.now)) _ c.args.self.now c.begin.new.self board c.self.view_is ready.told ready.stops ready.cause in
+    record { does = made_refused c.args.file c.args.place c.args.bytes.now c.counted.result _ c.counted.new.faults (g.S.System.faults b.system) c.args.self.now board first c.counted.ensures.err c.counted.ensures.counts }
+
+pub invariant_of-self-2 : goal.invariant_of-self-2
+invariant_of-self-2 g c =
+    let b = c.self.inside in
+    let board : BoardState = record {
+      past = g.S.System.told b.system;
+      files = b.files;
+      kept = b.kept;
+      faults = record { disk = b.disk_faults; registers = b.register_faults; prints = b.print_faults };
+      count = g.S.System.faults b.system;
+      disk_calls = b.disk_calls.calls;
+      accesses = b.accesses.calls;
+    } in
+    let begin = c.in_ok-begin.ensures in
+    let first = begun (WriteAt c.args.file c.args.place (length c.args.bytes.now)) _ c.args.self.now c.begin.new.self board c.self.view_is begin.told begin.stops begin.cause in
+    let ready = subst (IsReady c.args.file) (sym (ap (λ (v : BoardState). v.files) c.self.view_is)) begin.ready in
+    let usable = ready_open c.args.file b.files _ ready c.in_default.not-Seen c.self.invariant.0 in
+    let within = begun_file c.args.file (WriteAt c.args.file c.args.place (length c.args.bytes.now)) (λ bytes. c.args.place ≤ length bytes) board (g.S.System.told b.system) _ first.told c.requires in
     let r = c.write_at-answer in
-    let count = length c.args.bytes.now in (
-      r.ensures.held,
-      in_step_wrote c.args.file c.args.place c.args.bytes.now (InFile c.args.file (Torn c.args.place count)) r.result b.files r.new.self b.kept _ _ r.ensures.wrote r.ensures.failed c.self.invariant.1,
-      settled_wrote (SeesWritten c.args.file c.args.place c.args.bytes.now) (SeesTorn c.args.file c.args.place count) (InFile c.args.file (Torn c.args.place count)) r.result b.files r.new.self b.kept _ _ r.ensures.wrote r.ensures.failed c.self.invariant.1 c.self.invariant.2,
-      caused_files g.U.Use.HOW b.files r.new.self b.kept _ _ _ _ r.result c.self.invariant.3 r.ensures.blamed r.ensures.cause c.counted.ensures.counts,
+    let wrote = writes c.args.file c.args.place c.args.bytes.now r.result _ _ usable within r.ensures.told r.ensures.failed in (
+      held_wrote c.args.file b.files _ _ ready c.in_default.not-Seen c.self.invariant.0 wrote.keeps wrote.usable,
+      in_step_wrote c.args.file c.args.place c.args.bytes.now r.result b.kept _ _ wrote c.self.invariant.1,
+      settled_wrote c.args.file b.files b.kept _ _ wrote.keeps c.self.invariant.2,
+      caused_files g.U.Use.HOW b.files b.files b.kept _ _ _ _ r.result c.self.invariant.3 (blamed_later b.files _ _ r.ensures.cause.later c.self.invariant.3.blamed) (files_asked b.files _ _ r.result r.ensures.cause) c.counted-2.ensures.counts,
     )
+
+pub returns : goal.returns
+returns g c =
+    let b = c.self.inside in
+    let board : BoardState = record {
+      past = g.S.System.told b.system;
+      files = b.files;
+      kept = b.kept;
+      faults = record { disk = b.disk_faults; registers = b.register_faults; prints = b.print_faults };
+      count = g.S.System.faults b.system;
+      disk_calls = b.disk_calls.calls;
+      accesses = b.accesses.calls;
+    } in
+    let begin = c.in_ok-begin.ensures in
+    let first = begun (WriteAt c.args.file c.args.place (length c.args.bytes.now)) _ c.args.self.now c.begin.new.self board c.self.view_is begin.told begin.stops begin.cause in
+    let ready = subst (IsReady c.args.file) (sym (ap (λ (v : BoardState). v.files) c.self.view_is)) begin.ready in
+    let usable = ready_open c.args.file b.files _ ready c.in_default.not-Seen c.self.invariant.0 in
+    let within = begun_file c.args.file (WriteAt c.args.file c.args.place (length c.args.bytes.now)) (λ bytes. c.args.place ≤ length bytes) board (g.S.System.told b.system) _ first.told c.requires in
+    let r = c.write_at-answer in
+    let wrote = writes c.args.file c.args.place c.args.bytes.now r.result _ _ usable within r.ensures.told r.ensures.failed in
+    record {
+      does = made_wrote c.args.file c.args.place c.args.bytes.now r.result c.counted-2.result c.counted-2.new.faults (g.S.System.faults r.new.self) c.args.self.now board _ first wrote
+          c.counted-2.ensures.ok c.counted-2.ensures.err c.counted-2.ensures.counts;
+    }

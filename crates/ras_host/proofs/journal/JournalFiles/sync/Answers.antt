@@ -1,28 +1,43 @@
-use Rattle.std.proofs.Common.{rules, sym, ◌∙◌}
-use Rattle.ras_host.proofs.JournalLemmas.{moves_as, moves_synced, one_sound, seen_held, sync_held}
+use Rattle.std.proofs.Common.{sym, ◌∙◌}
+use Rattle.board_core.specs.Stop.{Same}
+use Rattle.host_system.proofs.CallLemmas.{syncs, syncs_read}
+use Rattle.ras_host.proofs.JournalLemmas.{moves_open, ready_sound, ready_usable, seen_held, seen_readable, seen_sound, sync_held}
 use Rattle.ras_host.proofs.journal.JournalFiles.sync.Goals as goal
 
 pub returns-in-Open-clause-moves : goal.returns-in-Open-clause-moves
 returns-in-Open-clause-moves g c =
-    let s = c.sync_file-answer.ensures.syncs in
-    moves_synced c.args.file _ _ _ _ _ _ (one_sound c.args.file c.in-Open.sound (sym c.of.ensures ∙ c.if-of.true))
-    (moves_as _ _ _ _ _ c.in-Open.is c.in_ok-open.ensures.moves) s.told s.keeps s.stops
+    let usable = ready_usable c.args.file _ c.in-Open.sound _ c.in-Open.is c.requires.held c.requires.ready in
+    let s = syncs c.args.file c.sync-answer.result _ _ usable c.sync-answer.ensures.told c.sync-answer.ensures.failed in
+    moves_open c.args.file Same Same _ _ _ _ (λ is. ready_sound c.args.file _ c.in-Open.sound c.in-Open.is c.requires.ready) s.told s.keeps s.stops
 
 pub returns-in-Open-clause-held : goal.returns-in-Open-clause-held
 returns-in-Open-clause-held g c =
-    let s = c.sync_file-answer.ensures.syncs in
-    sync_held c.args.file c.sync_file-answer.result c.is_ok.result c.in-Open.sound _ _ _ _ c.in-Open.is
-    c.in_ok-open.ensures.held s.keeps s.usable c.is_ok.ensures.value c.set.ensures
+    let usable = ready_usable c.args.file _ c.in-Open.sound _ c.in-Open.is c.requires.held c.requires.ready in
+    let s = syncs c.args.file c.sync-answer.result _ _ usable c.sync-answer.ensures.told c.sync-answer.ensures.failed in
+    sync_held c.args.file c.sync-answer.result c.is_ok.result c.in-Open.sound _ _ _ _ c.in-Open.is c.requires.held s.keeps s.usable c.is_ok.ensures.value c.set.ensures
+
+pub returns-in-Open-clause-synced : goal.returns-in-Open-clause-synced
+returns-in-Open-clause-synced g c =
+    let usable = ready_usable c.args.file _ c.in-Open.sound _ c.in-Open.is c.requires.held c.requires.ready in
+    (syncs c.args.file c.sync-answer.result _ _ usable c.sync-answer.ensures.told c.sync-answer.ensures.failed).synced
 
 pub returns-in-Seen-clause-moves : goal.returns-in-Seen-clause-moves
 returns-in-Seen-clause-moves g c =
-    let s = c.sync_seen-answer.ensures.syncs in
-    moves_synced c.args.file _ _ _ _ _ _
-    (one_sound c.args.file c.in-Seen.sound (search rules))
-    (moves_as _ _ _ _ _ c.in-Seen.is c.in_ok-open.ensures.moves) s.told s.keeps s.stops
+    let flag = sym c.of.ensures ∙ c.if-of.true in
+    let readable = seen_readable c.args.file _ c.in-Seen.field-0 c.in-Seen.sound _ c.in-Seen.is c.requires.held flag in
+    let s = syncs_read c.args.file c.sync_read-answer.result _ _ readable c.sync_read-answer.ensures.told c.sync_read-answer.ensures.failed in
+    moves_open c.args.file Same Same _ _ _ _ (λ is. seen_sound c.args.file _ c.in-Seen.field-0 c.in-Seen.sound c.in-Seen.is flag) s.told s.keeps s.stops
 
 pub returns-in-Seen-clause-held : goal.returns-in-Seen-clause-held
 returns-in-Seen-clause-held g c =
-    let s = c.sync_seen-answer.ensures.syncs in
-    seen_held c.args.file c.sync_seen-answer.result c.is_ok-in-Seen.result c.in-Seen.field-0 c.in-Seen.sound _ _ _ _
-    c.in-Seen.is c.in_ok-open.ensures.held s.told s.keeps s.usable c.is_ok-in-Seen.ensures.value c.set-in-Seen.ensures
+    let flag = sym c.of.ensures ∙ c.if-of.true in
+    let readable = seen_readable c.args.file _ c.in-Seen.field-0 c.in-Seen.sound _ c.in-Seen.is c.requires.held flag in
+    let s = syncs_read c.args.file c.sync_read-answer.result _ _ readable c.sync_read-answer.ensures.told c.sync_read-answer.ensures.failed in
+    seen_held c.args.file c.sync_read-answer.result c.is_ok-in-Seen.result c.in-Seen.field-0 c.in-Seen.sound _ _ _ _ c.in-Seen.is c.requires.held
+    s.told s.keeps s.usable c.is_ok-in-Seen.ensures.value c.set-in-Seen.ensures
+
+pub returns-in-Seen-clause-synced : goal.returns-in-Seen-clause-synced
+returns-in-Seen-clause-synced g c =
+    let flag = sym c.of.ensures ∙ c.if-of.true in
+    let readable = seen_readable c.args.file _ c.in-Seen.field-0 c.in-Seen.sound _ c.in-Seen.is c.requires.held flag in
+    (syncs_read c.args.file c.sync_read-answer.result _ _ readable c.sync_read-answer.ensures.told c.sync_read-answer.ensures.failed).synced

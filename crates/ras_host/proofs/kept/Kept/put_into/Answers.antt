@@ -1,6 +1,6 @@
 use Rattle.std.proofs.Common.{refl}
 use Rattle.board_core.specs.Told.{after_put}
-use Rattle.ras_host.proofs.KeptLemmas.{put_is, turned_or, turned_unwritten, turned_wrote}
+use Rattle.ras_host.proofs.KeptLemmas.{put_is, turned_or, turned_unwritten}
 use Rattle.ras_host.proofs.kept.Kept.put_into.Goals as goal
 
 pub returns-in_default-clause-turned : goal.returns-in_default-clause-turned
@@ -15,6 +15,9 @@ returns-clause-turned g c =
     let made = c.in-Ok.ensures in
     let step = after_put c.args.id c.args.bytes.now in
     rw c.or.ensures (turned_or step _ c.save.new.self c.save.result _ _ _
-    (turned_wrote step c.args.saved _ c.deref.result.now c.in-Ok.made.0 c.save.new.self c.save.result _ _ c.file_laws.ensures.again c.requires
-    made.ok.1 (put_is c.args.id c.args.bytes.now c.args.saved.device c.put_alone.new.device made.ok.0 made.refused)
-    c.store.ensures.kept c.save.ensures.kept c.deref.ensures.value c.save.ensures.writes))
+    (c.save.ensures.turned step c.args.saved (record {
+      before = made.ok.1;
+      made = put_is c.args.id c.args.bytes.now c.args.saved.device c.put_alone.new.device made.ok.0 made.refused;
+      device = c.store.ensures.kept;
+      had = refl;
+    }) c.requires))

@@ -1,76 +1,113 @@
 -- That each call gives what the trait says of it.
-use Rattle.std.proofs.Common.{List, length, inl, refl, rules}
-use Rattle.erst_store.specs.Store.{Stored}
-use Rattle.board_core.specs.declared.mem_board.BoardCall.TheVariants.{Disk, Device, Put, Print}
-use Rattle.board_core.specs.declared.board.DiskCall.TheVariants.{WriteAt, Sync}
+use Rattle.std.proofs.Common.{length, inl, inr, refl}
 use Rattle.board_core.specs.declared.board.Access.TheVariants.{Write, RangeWrite}
-use Rattle.board_core.specs.Clock.{IsSynced, Leads}
-use Rattle.board_core.specs.MemBoard.{wrote, synced, acted, printed, wrote_register, wrote_range, put_record, device_in, device_step, held_of, told_of, clock_of}
-use Rattle.board_core.specs.Stop.{Same, InFile, InStore, InOut, Becomes, Begins, Appends}
-use Rattle.board_core.specs.Told.{Torn, file_of, with_call, after_write, after_print, after_reg_write, after_range_write, after_put, on_device, with_access}
+use Rattle.board_core.specs.declared.board.DiskCall.TheVariants.{WriteAt, Sync}
+use Rattle.board_core.specs.Doing.{writes, prints, calls, device, reg_write, range_write}
+use Rattle.board_core.specs.MemBoard.{listing, listing_access, told_of, with_act}
+use Rattle.board_core.specs.Told.{after_reg_write, device_of}
 use Rattle.board_core.specs.Steps.ChangeLemmas.{passes_wrote, passes_synced, synced_now, passes_acted, passes_kept, passes_printed, leads_printed, store_left}
 use Rattle.board_core.specs.Steps.MomentLemmas.{torn_nothing}
-use Rattle.board_core.proofs.MemBoardLemmas.{always, always_then, told_after, stops_after, holds_after, failed_after, wrote_told, told_put, passes_put, store_nothing, begins_nothing}
+use Rattle.board_core.proofs.MemBoardLemmas.{made_by, fails_write, fails_print, put_made, store_nothing, begins_nothing}
 use Rattle.board_core.proofs.mem_board.calls.MemBoardBoard.TheImpl.Goals as goal
 
 pub write_at-tells : goal.write_at-tells
-write_at-tells c = record {
-  told = told_after (Disk (WriteAt c.args.file c.args.place (length c.args.bytes.now))) (wrote c.args.file c.args.place c.args.bytes.now) c.args.self.now c.new.self.now _ c.ensures.does (after_write c.args.file c.args.place c.args.bytes.now (told_of c.args.self.now)) (wrote_told c.args.file c.args.place c.args.bytes.now (held_of c.args.self.now.past) c.args.self.now.disk_calls c.args.self.now.accesses);
-  failed = search rules;
-  stops = stops_after (Disk (WriteAt c.args.file c.args.place (length c.args.bytes.now))) _ c.args.self.now c.new.self.now _ c.ensures.does (InFile c.args.file (Torn c.args.place (length c.args.bytes.now))) (torn_nothing c.args.file c.args.place (length c.args.bytes.now)) (passes_wrote c.args.self.now.past c.args.file c.args.place c.args.bytes.now c.requires);
-  cause = search rules;
-}
+write_at-tells c =
+    let old = c.args.self.now in
+    let file = c.args.file in
+    let place = c.args.place in
+    let bytes = c.args.bytes.now in
+    let act = writes file place bytes in
+    let listed = listing (WriteAt file place (length bytes)) old in
+    record {
+      does = made_by act listed old c.new.self.now (record {
+        lists = refl;
+        told = refl;
+        fails = fails_write file place (length bytes) (told_of old) (told_of old) (inl refl);
+        fails_listed = fails_write file place (length bytes) (told_of old) (told_of listed) (inr refl);
+        stops = passes_wrote old.past file place bytes c.requires;
+        stands = torn_nothing file place (length bytes);
+        settles = tt;
+      }) c.result c.ensures.does;
+    }
 
 pub sync-tells : goal.sync-tells
-sync-tells c = record {
-  told = told_after (Disk (Sync c.args.file)) (synced c.args.file) c.args.self.now c.new.self.now _ c.ensures.does (with_call (Sync c.args.file) (told_of c.args.self.now)) refl;
-  failed = search rules;
-  stops = stops_after (Disk (Sync c.args.file)) _ c.args.self.now c.new.self.now _ c.ensures.does Same (λ left. refl) (passes_synced c.args.self.now.past c.args.file);
-  synced = holds_after (Disk (Sync c.args.file)) (synced c.args.file) c.args.self.now c.new.self.now _ c.ensures.does (IsSynced c.args.file (file_of c.args.file (told_of c.args.self.now))) (synced_now c.args.self.now.past c.args.file);
-  stored = always _ (store_left c.new.self.now);
-  cause = search rules;
-}
+sync-tells c =
+    let old = c.args.self.now in
+    let file = c.args.file in
+    let act = calls (Sync file) in
+    let listed = listing (Sync file) old in
+    record {
+      does = made_by act listed old c.new.self.now (record {
+        lists = refl;
+        told = refl;
+        fails = inl refl;
+        fails_listed = inr refl;
+        stops = passes_synced old.past file;
+        stands = λ left. refl;
+        settles = (synced_now old.past file, store_left (record listed { past = with_act act old.past }));
+      }) c.result c.ensures.does;
+    }
 
 pub reg_write-tells : goal.reg_write-tells
-reg_write-tells c = record {
-  told = told_after (Device (Write c.args.reg c.args.value)) (acted (wrote_register c.args.reg c.args.value)) c.args.self.now c.new.self.now _ c.ensures.does (with_access (Write c.args.reg c.args.value) (on_device (after_reg_write c.args.reg c.args.value) (told_of c.args.self.now))) refl;
-  failed = failed_after (Device (Write c.args.reg c.args.value)) _ c.args.self.now c.new.self.now _ c.ensures.does _ (λ may. record { told = told_of c.args.self.now; acted = inl refl; listed = may });
-  stops = stops_after (Device (Write c.args.reg c.args.value)) _ c.args.self.now c.new.self.now _ c.ensures.does (InStore (Becomes (device_step (wrote_register c.args.reg c.args.value) (device_in (held_of c.args.self.now.past))).store)) (store_nothing (device_step (wrote_register c.args.reg c.args.value) (device_in (held_of c.args.self.now.past))).store) (passes_acted c.args.self.now.past (wrote_register c.args.reg c.args.value));
-  stored = always_then _ _ (store_left c.new.self.now);
-  cause = search rules;
-  device = c.ensures.device;
-}
-
-pub range_write-tells : goal.range_write-tells
-range_write-tells c = record {
-  told = told_after (Device (RangeWrite c.args.place (length c.args.bytes.now))) (acted (wrote_range c.args.place c.args.bytes.now)) c.args.self.now c.new.self.now _ c.ensures.does (with_access (RangeWrite c.args.place (length c.args.bytes.now)) (on_device (after_range_write c.args.place c.args.bytes.now) (told_of c.args.self.now))) refl;
-  failed = failed_after (Device (RangeWrite c.args.place (length c.args.bytes.now))) _ c.args.self.now c.new.self.now _ c.ensures.does _ (λ may. record { told = told_of c.args.self.now; acted = inl refl; listed = may });
-  stops = stops_after (Device (RangeWrite c.args.place (length c.args.bytes.now))) _ c.args.self.now c.new.self.now _ c.ensures.does Same (λ left. refl) (passes_kept c.args.self.now.past (wrote_range c.args.place c.args.bytes.now) refl);
-  cause = search rules;
-  device = c.ensures.device;
-}
-
-pub put-tells : goal.put-tells
-put-tells c =
-    let store : List Stored = (device_step (put_record c.args.id c.args.bytes.now) (device_in (held_of c.args.self.now.past))).store in
+reg_write-tells c =
+    let old = c.args.self.now in
+    let reg = c.args.reg in
+    let value = c.args.value in
+    let act = device (reg_write reg value) in
+    let listed = listing_access (Write reg value) old in
     record {
-      told = told_put c.result (acted (put_record c.args.id c.args.bytes.now)) c.args.self.now c.new.self.now c.ensures.does (on_device (after_put c.args.id c.args.bytes.now) (told_of c.args.self.now)) refl;
-      answers = c.ensures.answers;
-      refused = search rules;
-      failed = search rules;
-      stops = stops_after Put _ c.args.self.now c.new.self.now _ c.ensures.does (InStore (Becomes store)) (store_nothing store)
-          (passes_put c.result c.args.self.now.past (acted (put_record c.args.id c.args.bytes.now)) (InStore (Becomes store)) (store_nothing store) (passes_acted c.args.self.now.past (put_record c.args.id c.args.bytes.now)));
-      still = search rules;
-      stored = always_then _ _ (store_left c.new.self.now);
-      cause = search rules;
+      does = made_by act listed old c.new.self.now (record {
+        lists = refl;
+        told = refl;
+        fails = record { told = told_of old; acted = inl refl; listed = inl refl };
+        fails_listed = record { told = told_of old; acted = inl refl; listed = inr refl };
+        stops = passes_acted old.past (reg_write reg value);
+        stands = store_nothing (after_reg_write reg value (device_of (told_of old))).store;
+        settles = λ before. store_left (record listed { past = with_act act old.past });
+      }) c.result c.ensures.does;
       device = c.ensures.device;
     }
 
-pub print-tells : goal.print-tells
-print-tells c = record {
-  told = told_after Print (printed c.args.bytes.now) c.args.self.now c.new.self.now _ c.ensures.does (after_print c.args.bytes.now (told_of c.args.self.now)) refl;
-  failed = search rules;
-  stops = stops_after Print _ c.args.self.now c.new.self.now _ c.ensures.does (InOut (Begins c.args.bytes.now)) (begins_nothing c.args.bytes.now) (passes_printed c.args.self.now.past c.args.bytes.now);
-  printed = holds_after Print (printed c.args.bytes.now) c.args.self.now c.new.self.now _ c.ensures.does (λ clock. Leads (InOut (Appends c.args.bytes.now)) (clock_of c.args.self.now.past) clock) (leads_printed c.args.self.now.past c.args.bytes.now);
-  cause = search rules;
+pub range_write-tells : goal.range_write-tells
+range_write-tells c =
+    let old = c.args.self.now in
+    let place = c.args.place in
+    let bytes = c.args.bytes.now in
+    let act = device (range_write place bytes) in
+    let listed = listing_access (RangeWrite place (length bytes)) old in
+    record {
+      does = made_by act listed old c.new.self.now (record {
+        lists = refl;
+        told = refl;
+        fails = record { told = told_of old; acted = inl refl; listed = inl refl };
+        fails_listed = record { told = told_of old; acted = inl refl; listed = inr refl };
+        stops = passes_kept old.past (range_write place bytes) refl;
+        stands = λ left. refl;
+        settles = tt;
+      }) c.result c.ensures.does;
+      device = c.ensures.device;
+    }
+
+pub put-tells : goal.put-tells
+put-tells c = record {
+  answers = c.ensures.answers;
+  does = put_made c.args.id c.args.bytes.now c.result c.args.self.now c.new.self.now c.ensures.does;
+  device = c.ensures.device;
 }
+
+pub print-tells : goal.print-tells
+print-tells c =
+    let old = c.args.self.now in
+    let bytes = c.args.bytes.now in
+    let act = prints bytes in
+    record {
+      does = made_by act old old c.new.self.now (record {
+        lists = refl;
+        told = refl;
+        fails = fails_print bytes (told_of old);
+        fails_listed = fails_print bytes (told_of old);
+        stops = passes_printed old.past bytes;
+        stands = begins_nothing bytes;
+        settles = leads_printed old.past bytes;
+      }) c.result c.ensures.does;
+    }

@@ -1,0 +1,54 @@
+//! What is told of lines and of reports that become no block.
+
+ghost use Rattle.std.specs.Prelude.{◌≡◌, ◌<◌, ◌^◌, ◌∷◌, ◌++◌, [], ℕ, List, Option, Some, true, false};
+ghost use Rattle.bank_lines.specs.LogHeads.{is_own, up_to};
+ghost use Rattle.block_lines.specs.Kernel.{printed_line};
+ghost use Rattle.block_lines.specs.LogLines.{has_mark, own_line_of};
+ghost use Rattle.block_lines.specs.Reports.{Reporting, ended_at, ends_early, is_ended_by};
+ghost use Rattle.block_lines.specs.Reports.{line_remark, reporting_after};
+ghost use Rattle.block_lines.specs.Texts.{block_text, blocks_text_at, cut_report_line, remark_text};
+ghost use Rattle.block_lines.specs.Texts.{rest_text, unread_report_line};
+ghost use Rattle.block_lines.specs.declared.log_line.Marking.TheVariants.{Foreign, Own, Unmarked};
+ghost use Rattle.block_lines.specs.declared.log_line.ReportLogLine.{ReportLogLine};
+ghost use Rattle.block_lines.specs.declared.report.OpenReport.{OpenReport};
+ghost use Rattle.block_lines.specs.declared.report.OpenSection.TheVariants.{Begun};
+ghost use Rattle.block_lines.specs.declared.report_line.ReportLine.TheVariants.{Error};
+
+/// What holds of a line that is marked as a report's, whatever stands before its mark, if its head
+/// doesn't show it as the kernel's own. It is told by its number, and the reports are what they are
+/// if a line without a mark is printed at that time.
+pub fn foreign_lines_are_told()
+    ensures marked { (head : List ℕ) (number : ℕ) (text : List ℕ) → number < 2 ^ 64
+        → has_mark (printed_line head number text) ≡ true }
+    ensures foreign { (line : List ℕ) → has_mark line ≡ true → is_own (up_to 123 line) ≡ false
+        → own_line_of line ≡ Foreign }
+    ensures told { (r : Reporting) (number : ℕ) (stamp : Option ℕ)
+        → blocks_text_at r number (record { stamp = stamp; marking = Foreign })
+        ≡ blocks_text_at r number (record { stamp = stamp; marking = Unmarked })
+        ++ (unread_report_line number ++ 10 ∷ []) }
+    ensures reports { (r : Reporting) (stamp : Option ℕ)
+        → reporting_after r (record { stamp = stamp; marking = Foreign })
+        ≡ reporting_after r (record { stamp = stamp; marking = Unmarked }) }
+{}
+
+/// What holds of a report that is cut: that is told by a comment with its source and its time stamp.
+pub fn cut_reports_are_told()
+    // It ends without a section, or before its last section has a type: at the line that ends it,
+    // after the block of its other errors.
+    ensures ended { (r : Reporting) (report : OpenReport) (number : ℕ) (line : ReportLogLine)
+        → r.work ≡ Some report → ends_early report.section ≡ true
+        → is_ended_by report line.stamp line.marking ≡ true
+        → blocks_text_at r number line
+        ≡ block_text r report ++ (cut_report_line report.source report.begun ++ 10 ∷ [])
+        ++ remark_text number (line_remark (ended_at r line) line) }
+    // Another section begins before the last one has a type.
+    ensures section { (r : Reporting) (report : OpenReport) (number severity next : ℕ)
+        (stamp : Option ℕ) → r.work ≡ Some report → report.section ≡ Begun severity
+        → blocks_text_at r number (record {
+          stamp = stamp;
+          marking = Own (record { report = report.number; line = Error next });
+        }) ≡ cut_report_line report.source report.begun ++ 10 ∷ [] }
+    // No line ends it: after all lines.
+    ensures open { (r : Reporting) (report : OpenReport) → r.work ≡ Some report
+        → rest_text r ≡ cut_report_line report.source report.begun ++ 10 ∷ [] }
+{}

@@ -1,0 +1,191 @@
+-- What a system in memory notes, and what it then holds.
+use Rattle.std.proofs.Common.{◌≡◌, ℕ, ◌+◌, ◌-◌, ◌≤◌, ◌++◌, ◌∷◌, [], List, length, take, drop, min, refl, ap, sym, ◌∙◌, subst, arith, append-nil, length-drop, inl, inr, if◌then◌else◌}
+use Rattle.std.specs.Prelude.{true, false, Option, Vec, Result, Ok, Err, IfOk, IsErr, OnOk, OnErr}
+use Rattle.std.specs.Option.{option_map}
+use Rattle.std.specs.Result.{is_ok, is_err}
+use Rattle.std.specs.declared.alloc.Global.{Global}
+use Rattle.std.proofs.lemmas.List.{take_min, drop_min}
+use Rattle.board_core.specs.declared.board.FileNo.TheVariants.{Zero, One}
+use Rattle.mem_system.specs.declared.left_folder.LeftFolder.{LeftFolder}
+use Rattle.mem_system.specs.declared.mem_files.MemFiles.{MemFiles}
+use Rattle.mem_system.specs.declared.mem_system.Kept.{Kept}
+use Rattle.mem_system.specs.declared.mem_system.Kept.TheVariants.{Nothing, Folder as AFolder, NoMemory}
+use Rattle.host_system.specs.declared.system.FileName.{FileName}
+use Rattle.host_system.specs.declared.system.FileName.TheVariants.{Journal, Store, New}
+use Rattle.host_system.specs.Folder.{Folder, NameEntry, FolderChange, wrote, printed, folder_after, change_name, entry_named, Stopped, FileUse, FolderFile, bytes_now, renewed, used, MayLeaveFolder, settled_folder}
+use Rattle.host_system.specs.FolderPast.{FolderPast, changed_by, folder_of, bytes_or, file_bytes, MayLeaveFolderSince, MayWrite, MayPrint}
+use Rattle.host_system.specs.Steps.FolderPastLemmas.{folder_of-more, since_kept, now_counts}
+use Rattle.mem_system.specs.Steps.Kept.{IsCopied, IsOfPast, Holds}
+use Rattle.mem_system.specs.MemSystem.{MemState, with_change, as_stopped, name_numbered, change_numbered, change_noted, changes_noted, past_noted}
+use Rattle.mem_system.specs.Steps.MemFiles.{Uses, number_of, entry_seen, mem_entry, held_in, uses_of, with_use, IsChanged, IsRenewed, AreHeld}
+
+named_again : (name : FileName) → name_numbered (number_of name) ≡ name
+named_again (Journal Zero) = refl
+named_again (Journal One) = refl
+named_again Store = refl
+named_again New = refl
+
+noted_more : (calls : List (List ℕ × List ℕ)) (call : List ℕ × List ℕ) → changes_noted (calls ++ call ∷ []) ≡ changes_noted calls ++ change_noted call.0 call.1 ∷ []
+noted_more [] call = refl
+noted_more (x ∷ xs) call = ap (λ (cs : List FolderChange). change_noted x.0 x.1 ∷ cs) (noted_more xs call)
+
+pub noted : (first : Stopped) (n : ℕ) (name : FileName) (place count : ℕ) (bytes : List ℕ) (old new : List (List ℕ × List ℕ)) → new ≡ old ++ ((n ∷ number_of name ∷ place ∷ count ∷ []), bytes) ∷ []
+    → past_noted first new ≡ changed_by (change_numbered n name place count bytes) (past_noted first old)
+noted first n name place count bytes old new is =
+    ap (past_noted first) is
+    ∙ (ap (λ (cs : List FolderChange). record (past_noted first old) { changes = cs }) (noted_more old ((n ∷ number_of name ∷ place ∷ count ∷ []), bytes))
+    ∙ ap (λ (m : FileName). changed_by (change_numbered n m place count bytes) (past_noted first old)) (named_again name))
+
+-- ---- after a change
+
+-- What was kept stays one of the past's moments.
+before_on : (change : FolderChange) (past : FolderPast) (kept : Kept) → IsOfPast past kept → IsOfPast (changed_by change past) kept
+before_on change past Nothing of = tt
+before_on change past (AFolder files text) of = λ uses left may. since_kept (settled_folder past.first) past.changes change 0 left (of uses left may)
+before_on change past NoMemory of = tt
+
+-- What is held is the folder after it.
+pub held_after : (change : FolderChange) (past next : FolderPast) (files after : MemFiles) (out text : List ℕ) (kept : Kept) → next ≡ changed_by change past
+    → ((uses : Uses) → held_in after text (uses_of (folder_after change (held_in files out uses))) ≡ folder_after change (held_in files out uses))
+    → Holds past files out kept → Holds next after text kept
+held_after change past next files after out text kept is step holds =
+    subst (λ (p : FolderPast). Holds p after text kept) (sym is) (record {
+      held = subst (λ (f : Folder). held_in after text (uses_of f) ≡ f) (sym (folder_of-more change past))
+          (subst (λ (f : Folder). held_in after text (uses_of (folder_after change f)) ≡ folder_after change f) holds.held (step (uses_of (folder_of past))));
+      before = before_on change past kept holds.before;
+    })
+
+-- what a stop leaves doesn't depend on how a run has the files
+any_uses : (files : MemFiles) (out : List ℕ) (uses other : Uses) (left : Stopped) → MayLeaveFolder (held_in files out uses) left → MayLeaveFolder (held_in files out other) left
+any_uses files out uses other left may = record { zero = may.zero; one = may.one; store = may.store; new = may.new; out = may.out }
+
+-- what is there now, as it is kept
+pub kept_now : (past : FolderPast) (files : MemFiles) (out : List ℕ) (kept : Kept) → AreHeld past files out → IsCopied files out kept → IsOfPast past kept
+kept_now past files out Nothing held is = tt
+kept_now past files out (AFolder kept text) held is = λ uses left may.
+    now_counts (settled_folder past.first) past.changes 0 left (omega arith)
+    (subst (λ (f : Folder). MayLeaveFolder f left) held (any_uses files out uses (uses_of (folder_of past)) left (subst (λ (f : Folder). MayLeaveFolder f left) (is uses) may)))
+kept_now past files out NoMemory held is = tt
+
+uses_named : (name : FileName) (step : NameEntry → NameEntry) → ((entry : NameEntry) → (step entry).how ≡ entry.how) → (folder : Folder) → uses_of (change_name name step folder) ≡ uses_of folder
+uses_named (Journal Zero) step keeps folder = ap (λ (how : FileUse). record (uses_of folder) { zero = how }) (keeps folder.zero)
+uses_named (Journal One) step keeps folder = ap (λ (how : FileUse). record (uses_of folder) { one = how }) (keeps folder.one)
+uses_named Store step keeps folder = ap (λ (how : FileUse). record (uses_of folder) { store = how }) (keeps folder.store)
+uses_named New step keeps folder = ap (λ (how : FileUse). record (uses_of folder) { new = how }) (keeps folder.new)
+
+-- one name went on
+pub changed_held : (name : FileName) (step : NameEntry → NameEntry) → ((entry : NameEntry) → (step entry).how ≡ entry.how) → (files after : MemFiles) (out : List ℕ) → IsChanged name step files after
+    → (uses : Uses) → held_in after out (uses_of (change_name name step (held_in files out uses))) ≡ change_name name step (held_in files out uses)
+changed_held name step keeps files after out is uses = ap (held_in after out) (uses_named name step keeps (held_in files out uses)) ∙ is out uses
+
+uses_renewed : (name : FileName) (file : Option FolderFile) (how : FileUse) (files : MemFiles) (out : List ℕ) (uses : Uses) → uses_of (change_name name (renewed file how) (held_in files out uses)) ≡ with_use name how uses
+uses_renewed (Journal Zero) file how files out uses = refl
+uses_renewed (Journal One) file how files out uses = refl
+uses_renewed Store file how files out uses = refl
+uses_renewed New file how files out uses = refl
+
+-- one name refers to another file now, or to none
+pub renewed_held : (name : FileName) (file : Option FolderFile) (how : FileUse) (files after : MemFiles) (out : List ℕ) → IsRenewed name file files after
+    → (uses : Uses) → held_in after out (uses_of (change_name name (renewed file how) (held_in files out uses))) ≡ change_name name (renewed file how) (held_in files out uses)
+renewed_held name file how files after out is uses = ap (held_in after out) (uses_renewed name file how files out uses) ∙ is out uses how
+
+-- a run has a file in another way
+pub used_held : (name : FileName) (how : FileUse) (files : MemFiles) (out : List ℕ) (uses : Uses)
+    → held_in files out (uses_of (change_name name (used how) (held_in files out uses))) ≡ change_name name (used how) (held_in files out uses)
+used_held (Journal Zero) how files out uses = refl
+used_held (Journal One) how files out uses = refl
+used_held Store how files out uses = refl
+used_held New how files out uses = refl
+
+-- nothing was printed
+pub no_text : (files : MemFiles) (out : List ℕ) (uses : Uses) → held_in files out uses ≡ record (held_in files out uses) { out = out ++ [] }
+no_text files out uses = ap (λ (o : List ℕ). held_in files o uses) (sym (append-nil out))
+
+-- ---- what is read
+
+-- a name's part of what is held
+pub entry_held : (name : FileName) (past : FolderPast) (files : MemFiles) (out : List ℕ) → AreHeld past files out → bytes_now (entry_seen (mem_entry name files)) ≡ bytes_now (entry_named name (folder_of past))
+entry_held (Journal Zero) past files out held = ap (λ (f : Folder). bytes_now f.zero) held
+entry_held (Journal One) past files out held = ap (λ (f : Folder). bytes_now f.one) held
+entry_held Store past files out held = ap (λ (f : Folder). bytes_now f.store) held
+entry_held New past files out held = ap (λ (f : Folder). bytes_now f.new) held
+
+pub bytes_held : (name : FileName) (past now : FolderPast) (files : MemFiles) (out : List ℕ) → past ≡ now → AreHeld past files out → bytes_or (bytes_now (entry_seen (mem_entry name files))) ≡ file_bytes name now
+bytes_held name past now files out is held = ap bytes_or (entry_held name past files out held) ∙ ap (file_bytes name) is
+
+pub read_front : (most count len : ℕ) (bytes taken whole : List ℕ) → taken ≡ take count bytes → count ≡ min most len → len ≡ length bytes → bytes ≡ whole → taken ≡ take most whole
+read_front most count len bytes taken whole is counted long same =
+    is ∙ (ap (λ (n : ℕ). take n bytes) (counted ∙ ap (min most) long) ∙ (take_min most bytes ∙ ap (take most) same))
+
+-- what is read, once it is counted whether that failed
+pub front_counted : {E F : Type 0} (answer : Result (Option (Vec ℕ Global)) E) (result : Result (Option (Vec ℕ Global)) F) (most : ℕ) (seen whole : Option (List ℕ)) (May : Type 0) → seen ≡ whole
+    → IfOk answer (λ found. option_map (λ v. v.items) found ≡ option_map (take most) seen) → IfOk answer (λ v. result ≡ Ok v) → OnErr answer (IsErr result)
+    → IfOk result (λ found. May → option_map (λ v. v.items) found ≡ option_map (take most) whole)
+front_counted (Ok v) (Ok w) most seen whole May same is ok err =
+    let found : w ≡ v = cc in
+    λ may. ap (λ (o : Option (Vec ℕ Global)). option_map (λ x. x.items) o) found ∙ (is ∙ ap (option_map (take most)) same)
+front_counted (Ok v) (Err f) most seen whole May same is ok err = tt
+front_counted (Err e) (Ok w) most seen whole May same is ok err = cc
+front_counted (Err e) (Err f) most seen whole May same is ok err = tt
+
+pub read_part : (n place start len : ℕ) (bytes given whole : List ℕ) → given ≡ take ((start + n) - start) (drop start bytes) → start ≡ min place len → len ≡ length bytes → bytes ≡ whole → given ≡ take n (drop place whole)
+read_part n place start len bytes given whole is begun long same =
+    let count : (start + n) - start ≡ n = omega arith in
+    is ∙ (ap (λ (m : ℕ). take m (drop start bytes)) count ∙ (ap (λ (s : ℕ). take n (drop s bytes)) (begun ∙ ap (min place) long)
+    ∙ (ap (take n) (drop_min place bytes) ∙ ap (λ (b : List ℕ). take n (drop place b)) same)))
+
+pub part_within : (n place start len : ℕ) (bytes whole : List ℕ) → start ≡ min place len → len ≡ length bytes → bytes ≡ whole → n ≤ length (drop place whole) → start + n ≤ length bytes
+part_within n place start len bytes whole begun long same within =
+    let size : length bytes ≡ length whole = ap length same in
+    omega (arith, length-drop place whole)
+
+-- ---- what a stop leaves
+
+pub left_now : {E : Type 0} (made : Result LeftFolder E) (past now : FolderPast) (files : MemFiles) (out seen : List ℕ) → past ≡ now → AreHeld past files out → seen ≡ out
+    → IfOk made (λ left. (uses : Uses) → MayLeaveFolder (held_in files seen uses) (as_stopped left)) → IfOk made (λ left. MayLeaveFolder (folder_of now) (as_stopped left))
+left_now (Ok left) past now files out seen is held same may =
+    subst (λ (p : FolderPast). MayLeaveFolder (folder_of p) (as_stopped left)) is
+    (subst (λ (f : Folder). MayLeaveFolder f (as_stopped left)) held
+    (subst (λ (o : List ℕ). MayLeaveFolder (held_in files o (uses_of (folder_of past))) (as_stopped left)) same (may (uses_of (folder_of past)))))
+left_now (Err e) past now files out seen is held same may = tt
+
+pub left_then : (past now : FolderPast) (kept : Kept) (files : MemFiles) (text : Vec ℕ Global) (seen : List ℕ) (left : Stopped) → past ≡ now → IsOfPast past kept → kept ≡ AFolder files text → seen ≡ text.items
+    → ((uses : Uses) → MayLeaveFolder (held_in files seen uses) left) → MayLeaveFolderSince (settled_folder now.first) now.changes 0 left
+left_then past now kept files text seen left same of is all may =
+    let uses : Uses = uses_of (settled_folder past.first) in
+    let moment : IsOfPast past (AFolder files text) = subst (λ (k : Kept). IsOfPast past k) is of in
+    subst (λ (p : FolderPast). MayLeaveFolderSince (settled_folder p.first) p.changes 0 left) same
+    (moment uses left (subst (λ (o : List ℕ). MayLeaveFolder (held_in files o uses) left) all (may uses)))
+
+-- ---- what a call answers
+
+pub of_err : {T E X : Type 0} (r : Result T E) (x y : X) → is_err r ≡ true → (if is_ok r then x else y) ≡ y
+of_err (Ok v) x y is = cc
+of_err (Err e) x y is = refl
+
+pub of_ok : {T E X : Type 0} (r : Result T E) (x y : X) → is_err r ≡ false → (if is_ok r then x else y) ≡ x
+of_ok (Ok v) x y is = refl
+of_ok (Err e) x y is = cc
+
+-- of a system's past
+pub on_ok_past : {T E : Type 0} (r : Result T E) (change : FolderChange) (old new : MemState) → OnOk r (new ≡ with_change change old) → OnOk r (new.past ≡ changed_by change old.past)
+on_ok_past (Ok v) change old new is = ap (λ (s : MemState). s.past) is
+on_ok_past (Err e) change old new is = tt
+
+pub on_err_past : {T E : Type 0} (r : Result T E) (old new : MemState) → OnErr r (new ≡ old) → OnErr r (new.past ≡ old.past)
+on_err_past (Ok v) old new is = tt
+on_err_past (Err e) old new is = ap (λ (s : MemState). s.past) is
+
+pub on_err_done : {T E : Type 0} (r : Result T E) (change : FolderChange) (old new : MemState) → OnErr r (new ≡ with_change change old) → OnErr r (new.past ≡ changed_by change old.past)
+on_err_done (Ok v) change old new is = tt
+on_err_done (Err e) change old new is = ap (λ (s : MemState). s.past) is
+
+-- a write that was done or wasn't
+pub may_write : {T E : Type 0} (r : Result T E) (name : FileName) (place n count : ℕ) (came : List ℕ) (old new : FolderPast) → n ≡ count → OnOk r (new ≡ changed_by (wrote name place n came) old) → OnErr r (new ≡ old) → MayWrite name place count old new
+may_write (Ok v) name place n count came old new size is same = (came, inr (is ∙ ap (λ (m : ℕ). changed_by (wrote name place m came) old) size))
+may_write (Err e) name place n count came old new size is same = (came, inl same)
+
+-- a print of a part, or of nothing
+pub may_print : {T E : Type 0} (r : Result T E) (piece part missing : List ℕ) (old new : FolderPast) → part ++ missing ≡ piece → OnOk r (new ≡ changed_by (printed part) old) → OnErr r (new ≡ changed_by (printed []) old) → MayPrint piece old new
+may_print (Ok v) piece part missing old new splits is none = (part, missing, splits, is)
+may_print (Err e) piece part missing old new splits is none = ([], piece, refl, none)

@@ -1,0 +1,2 @@
+pub mod MemSystem
+pub mod Steps

@@ -1,0 +1,192 @@
+-- What a report says, and what it leaves.
+use Rattle.std.proofs.Common.{◌≡◌, ℕ, List, [], ◌++◌, Option, None, Some, IfSome, option_map, Result, Ok, Err, refl, sym, ap, subst, ◌∙◌, inl, inr, append-nil}
+use Rattle.board_core.specs.Cause.{Faults, FailsAs, disk_call}
+use Rattle.board_core.specs.Clock.{Clock, Adds, LeftNow, Rests}
+use Rattle.board_core.specs.Steps.ClockLemmas.{adds_both, adds_weaker}
+use Rattle.board_core.specs.Stop.{Left, Begins, InOut}
+use Rattle.board_core.specs.Told.{FailsPrint, Relates, Steps, Told, after_print}
+use Rattle.board_core.proofs.DoingLemmas.{broke_faults, well_faults}
+use Rattle.ras_account.specs.Account.{State}
+use Rattle.ras_journal.specs.Recovered.{Refusal, damaged, recovered, too_long}
+use Rattle.ras_recover.specs.OpeningCalls.{AfterRecovery}
+use Rattle.ras_recover.specs.Recovering.{KeepsTold, RefusesHeld, RestsHere, UnlessDisk, file_number, open_failure}
+use Rattle.ras_recover.specs.declared.refused.OpenRefused.{OpenRefused}
+use Rattle.ras_recover.specs.declared.refused.OpenRefused.TheVariants as opening
+use Rattle.listing_texts.specs.declared.listing.Listing.{Listing}
+use Rattle.listing_texts.specs.declared.listing.Listing.TheVariants.{Counts, Pages, Names, Modules, Metrics}
+use Rattle.ras_exit.specs.declared.exit.Exit.{Exit}
+use Rattle.ras_exit.specs.declared.exit.Exit.TheVariants.{Damaged, DiskFault, Done, NoMemory, PrintFault, TooLong}
+use Rattle.ras_exit.specs.Causes.{BoardCause}
+use Rattle.board_core.specs.Device.{KeepsDevice, LeavesDevice}
+use Rattle.ras_exit.specs.Endings.{IsCut}
+use Rattle.ras_exit.specs.StopLine.{stop_line}
+use Rattle.ras_exit.proofs.DeviceLemmas.{device_by}
+use Rattle.ras_exit.proofs.EndingLemmas.{on_answer, on_cut}
+use Rattle.ras_daemon.specs.Steps.Answering.{IsCutBy, IsReportAnswer, IsSaid, stop_mark, unrecovered, whole_listing}
+use Rattle.ras_daemon.specs.Reporting.{ReportMoment, Reports, exit_by, report_exit, report_output}
+
+-- ---- what is said
+
+-- an account, and a stop line in the place of a listing
+pub said_done : (listing : Listing) (account : State) → IsSaid listing (Ok account) Done (whole_listing listing account)
+said_done Metrics account = record { exit_is = refl; text_is = refl }
+said_done Counts account = record { exit_is = refl; text_is = refl }
+said_done Pages account = record { exit_is = refl; text_is = refl }
+said_done Names account = record { exit_is = refl; text_is = refl }
+said_done Modules account = record { exit_is = refl; text_is = refl }
+
+said_stop : (listing : Listing) (why : Refusal) → IsSaid listing (Err why) (exit_by (Err why)) (stop_mark listing ++ stop_line (exit_by (Err why)))
+said_stop Metrics why = record { exit_is = refl; text_is = refl }
+said_stop Counts why = record { exit_is = refl; text_is = refl }
+said_stop Pages why = record { exit_is = refl; text_is = refl }
+said_stop Names why = record { exit_is = refl; text_is = refl }
+said_stop Modules why = record { exit_is = refl; text_is = refl }
+
+pub said_refused : (listing : Listing) (why : OpenRefused) (held : Result State Refusal) (exit : Exit) → unrecovered why ≡ Ok exit → RefusesHeld why held → IsSaid listing held exit (stop_mark listing ++ stop_line exit)
+said_refused listing opening.Disk held exit is refuses = absurd cc
+said_refused listing opening.TooLong held exit is refuses =
+    let same : TooLong ≡ exit = cc in
+    subst (λ (e : Exit). IsSaid listing held e (stop_mark listing ++ stop_line e)) same (rw refuses (said_stop listing too_long))
+said_refused listing (opening.Damaged file place) held exit is refuses =
+    let same : Damaged file place ≡ exit = cc in
+    let there : IsSaid listing held (Damaged (file_number refuses.file) place) (stop_mark listing ++ stop_line (Damaged (file_number refuses.file) place)) = rw refuses.is (said_stop listing (damaged refuses.file place)) in
+    subst (λ (e : Exit). IsSaid listing held e (stop_mark listing ++ stop_line e)) (ap (λ n. Damaged n place) (sym refuses.number_is) ∙ same) there
+said_refused listing opening.NoMemory held exit is refuses = absurd cc
+
+pub answer_refused : (why : OpenRefused) (exit : Exit) → unrecovered why ≡ Ok exit → IsReportAnswer exit
+answer_refused opening.Disk exit is = absurd cc
+answer_refused opening.TooLong exit is = (let same : TooLong ≡ exit = cc in subst IsReportAnswer same (record { listed = tt; answer = refl }))
+answer_refused (opening.Damaged file place) exit is = (let same : Damaged file place ≡ exit = cc in subst IsReportAnswer same (record { listed = tt; answer = refl }))
+answer_refused opening.NoMemory exit is = absurd cc
+
+pub whole_refused : (T : Type 0) (why : OpenRefused) (exit : Exit) → unrecovered why ≡ Ok exit → open_failure {T = T} (Err why) ≡ Ok tt
+whole_refused T opening.Disk exit is = absurd cc
+whole_refused T why exit is = refl
+
+pub cut_refused : (T : Type 0) (why : OpenRefused) (exit : Exit) → unrecovered why ≡ Err exit → IsCutBy (open_failure {T = T} (Err why)) exit
+cut_refused T opening.Disk exit is = (let same : exit ≡ DiskFault = cc in inl (same, refl))
+cut_refused T opening.TooLong exit is = absurd cc
+cut_refused T (opening.Damaged file place) exit is = absurd cc
+cut_refused T opening.NoMemory exit is = (let same : exit ≡ NoMemory = cc in inr (same, refl))
+
+-- ---- a report that is cut short
+
+pub is_cut : (failure : Result (Unit {0}) OpenRefused) (exit : Exit) → IsCutBy failure exit → IsCut exit
+is_cut failure exit (inl disk) = rw disk.0 refl
+is_cut failure exit (inr memory) = rw memory.0 refl
+
+pub cut_cause : (failure : Result (Unit {0}) OpenRefused) (exit : Exit) (before now : Faults) → IsCutBy failure exit → FailsAs disk_call before now failure → BoardCause exit before now
+cut_cause failure exit before now (inl disk) cause = rw disk.0 (broke_faults disk_call before now (subst (FailsAs disk_call before now) disk.1 cause))
+cut_cause failure exit before now (inr memory) cause = rw memory.0 (well_faults disk_call before now (subst (FailsAs disk_call before now) memory.1 cause))
+
+recovery_device : (old new : Told) → AfterRecovery old new → KeepsDevice old new
+recovery_device old new after = record { store = after.store; volatile = after.volatile; accesses = after.accesses }
+
+cut_there : (listing : Listing) (exit : Exit) → IsCut exit → (t u : Told) → AfterRecovery t u → Reports listing exit t u
+cut_there listing exit cut t u after = record {
+  tells = record {
+    answers = on_cut exit (exit ≡ report_exit t.here) cut;
+    begun = ([], (report_output listing t.here, refl), after.text ∙ sym (append-nil t.here.out));
+    whole = on_cut exit (u.here.out ≡ t.here.out ++ report_output listing t.here) cut;
+  };
+  file0 = after.file0;
+  file1 = after.file1;
+  device = recovery_device t u after;
+  calls = after.calls;
+}
+
+pub cut_reports : (listing : Listing) (exit : Exit) (old mid : Option Told) → IsCut exit → Relates AfterRecovery old mid → Relates (Reports listing exit) old mid
+cut_reports listing exit None mid cut after = after
+cut_reports listing exit (Some t) None cut after = after
+cut_reports listing exit (Some t) (Some u) cut after = cut_there listing exit cut t u after
+
+-- ---- one that is printed
+
+printed_there : (listing : Listing) (exit : Exit) (text part rest : List ℕ) (t u : Told) → part ++ rest ≡ report_output listing t.here → AfterRecovery t u
+    → IsCut exit → Reports listing exit t (after_print part u)
+printed_there listing exit text part rest t u splits after cut = record {
+  tells = record {
+    answers = on_cut exit (exit ≡ report_exit t.here) cut;
+    begun = (part, (rest, splits), ap (λ out. out ++ part) after.text);
+    whole = on_cut exit (u.here.out ++ part ≡ t.here.out ++ report_output listing t.here) cut;
+  };
+  file0 = after.file0;
+  file1 = after.file1;
+  device = record { store = after.store; volatile = after.volatile; accesses = after.accesses };
+  calls = record { made = after.calls.made; listed = after.calls.listed; are = after.calls.are };
+}
+
+whole_there : (listing : Listing) (exit : Exit) (text : List ℕ) (t u : Told) → IsSaid listing (recovered t.here.file0 t.here.file1) exit text → AfterRecovery t u → Reports listing exit t (after_print text u)
+whole_there listing exit text t u said after = record {
+  tells = record {
+    answers = on_answer exit (exit ≡ report_exit t.here) said.exit_is;
+    begun = (text, ([], append-nil text ∙ said.text_is), ap (λ out. out ++ text) after.text);
+    whole = on_answer exit (u.here.out ++ text ≡ t.here.out ++ report_output listing t.here)
+        (ap (λ out. out ++ text) after.text ∙ ap (λ more. t.here.out ++ more) said.text_is);
+  };
+  file0 = after.file0;
+  file1 = after.file1;
+  device = record { store = after.store; volatile = after.volatile; accesses = after.accesses };
+  calls = record { made = after.calls.made; listed = after.calls.listed; are = after.calls.are };
+}
+
+-- what is said of the files of a board that tells
+abbrev pub SaysHere : Listing → Exit → List ℕ → Option Told → Type 0
+SaysHere listing exit text old = IfSome old (λ t. IsSaid listing (recovered t.here.file0 t.here.file1) exit text)
+
+pub printed_reports : (listing : Listing) (exit : Exit) (text : List ℕ) (old mid new : Option Told) → SaysHere listing exit text old → Relates AfterRecovery old mid → Steps (after_print text) mid new
+    → Relates (Reports listing exit) old new
+printed_reports listing exit text None mid new said after steps = steps ∙ ap (λ (o : Option Told). option_map (after_print text) o) after
+printed_reports listing exit text (Some t) None new said after steps = absurd after
+printed_reports listing exit text (Some t) (Some u) new said after steps = rw steps (whole_there listing exit text t u said after)
+
+pub unprinted_reports : (listing : Listing) (exit : Exit) (text : List ℕ) (old mid new : Option Told) → SaysHere listing exit text old → Relates AfterRecovery old mid → Relates (FailsPrint text) mid new
+    → Relates (Reports listing PrintFault) old new
+unprinted_reports listing exit text None None new said after fails = fails
+unprinted_reports listing exit text None (Some u) new said after fails = absurd cc
+unprinted_reports listing exit text (Some t) None new said after fails = absurd after
+unprinted_reports listing exit text (Some t) (Some u) None said after fails = absurd fails
+unprinted_reports listing exit text (Some t) (Some u) (Some v) said after fails =
+    rw fails.3 (printed_there listing PrintFault text fails.0 fails.1 t u (fails.2 ∙ said.text_is) after refl)
+
+-- ---- what stops leave
+
+pub read_moments : (listing : Listing) (t : Told) (a b : Clock) → Adds (LeftNow a) a b → Adds (ReportMoment a (report_output listing t.here) t.here) a b
+read_moments listing t a b adds = adds_weaker (LeftNow a) (ReportMoment a (report_output listing t.here) t.here) a b adds (λ left was. inl was)
+
+pub printed_moments : (listing : Listing) (exit : Exit) (text : List ℕ) (t : Told) (mid : Option Told) (a b c : Clock) → IsSaid listing (recovered t.here.file0 t.here.file1) exit text
+    → Adds (LeftNow a) a b → RestsHere t.here mid b → ((m : Told) → Rests m mid b → Adds (InOut (Begins text) m.here) b c)
+    → Adds (ReportMoment a (report_output listing t.here) t.here) a c
+printed_moments listing exit text t mid a b c said adds rests prints =
+    let P : Left → Type 0 = ReportMoment a (report_output listing t.here) t.here in
+    adds_both P a b c (read_moments listing t a b adds)
+    (adds_weaker (InOut (Begins text) rests.there.here) P b c (prints rests.there rests.rests)
+    (λ left by. inr (subst (λ out. InOut (Begins out) t.here left) said.text_is (subst (λ (h : Left). InOut (Begins text) h left) rests.same by))))
+
+-- files that were read without a fault of the disk
+pub unless_disk : {T : Type 0} (found : Result T OpenRefused) (P : Type 0) → open_failure found ≡ Ok tt → UnlessDisk found P → P
+unless_disk (Ok x) P whole holds = holds
+unless_disk (Err opening.Disk) P whole holds = absurd cc
+unless_disk (Err opening.TooLong) P whole holds = holds
+unless_disk (Err (opening.Damaged file place)) P whole holds = holds
+unless_disk (Err opening.NoMemory) P whole holds = holds
+
+-- ---- the device
+
+pub read_device : (old mid : Option Told) (a b : Clock) → Relates AfterRecovery old mid → KeepsTold old a mid b → LeavesDevice old mid a b
+read_device old mid a b after keeps =
+    device_by AfterRecovery old mid a b recovery_device after
+    (λ t is stored. record {
+      since = adds_weaker (LeftNow a) (λ left. left.store ≡ t.here.store) a b keeps.stops stored;
+      now = λ left now. stored left (keeps.ends left now);
+    })
+
+-- what is said once it is known what the board tells
+pub says_here : (Q : Told → Type 0) (old : Option Told) (listing : Listing) (exit : Exit) (text : List ℕ)
+    → IfSome old Q → ((t : Told) → Q t → IsSaid listing (recovered t.here.file0 t.here.file1) exit text) → SaysHere listing exit text old
+says_here Q None listing exit text tells said = tt
+says_here Q (Some t) listing exit text tells said = said t tells
+
+-- the exit of a print that failed
+pub fault_is : {T : Type 0} (fault : Exit) → ◌≡◌ {A = Result T Exit} (Err fault) (Err PrintFault) → fault ≡ PrintFault
+fault_is fault is = cc

@@ -1,6 +1,0 @@
-use Rattle.ras_ledger.proofs.KeepingLemmas.{stands_shut}
-use Rattle.ras_ledger.proofs.ledger.Ledger.make_room.Goals as goal
-
-pub switch_file-requires-clause-shut : goal.switch_file-requires-clause-shut
-switch_file-requires-clause-shut g c =
-    stands_shut c.args.self.now.journal.standing c.args.self.now.account.state (g.B.Board.told c.args.board.now) (g.B.Board.clock c.args.board.now) c.requires.stands
