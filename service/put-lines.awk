@@ -3,7 +3,9 @@
 BEGIN {
     # The types of the sections that are the kernel's own (drivers/acpi/apei/erst.c), as their bytes stand in a record.
     machine_check = "beff08fee495e74bbc734096044a38fc"
-    piece_of_log = "0787114fdd045540b5dd956d34ddfac6"
+    # A piece of its log is compressed or not.
+    is_piece_of_log["0787114fdd045540b5dd956d34ddfac6"]
+    is_piece_of_log["4ee097c145d5704a9c17a5549419eb12"]
     # `rasd lines mce` reads no more of a section.
     most = 129
 }
@@ -46,7 +48,7 @@ function take(   id, bytes, type) {
         if (bytes < 128 || (bytes >= 200 && length(hex) < 400)) return
         id = number_at(96, 8)
         type = type_of(bytes)
-        if (type == piece_of_log) {
+        if (type in is_piece_of_log) {
             print "# kernel log record=" id
             pieces++
             passing = 2 * bytes

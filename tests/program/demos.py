@@ -356,6 +356,7 @@ def machine_check(vendor=0, later=bytes(40)):
 def checks_of_saved_records(program):
     """The kernel's machine check is a line `bank`; a piece of its log isn't put, and that is said."""
     check, log = "fe08ffbe-95e4-4be7-bc73-4096044a38fc", "4f118707-04dd-4055-b5dd-956d34ddfac6"
+    plain = saved_record(2, "c197e04e-d545-4a70-9c17-a5549419eb12", bytes(range(256)) * 20)
     saved, piece = saved_record(1, check, machine_check()), saved_record(2, log, bytes(range(256)) * 20)
     long_piece, other = saved_record(2**64 - 1, log, bytes(20_000)), record_of(3, 353)
     bank = b"bank 7 1796005628 0 4 119418565726 100010a 5 be00000000800400 0 0\n"
@@ -366,6 +367,7 @@ def checks_of_saved_records(program):
     tried += [(piece + other + saved + piece, "7", comment + put_of(other) + bank + comment, two, 0)]
     tried += [(long_piece + saved, "7", b"# kernel log record=ffffffffffffffff\n" + bank, one, 0)]
     tried += [(piece + long_piece[:-1], "7", comment + b"# kernel log record=ffffffffffffffff\n", b"put-lines: the last record is cut\n" + two, 1)]
+    tried += [(plain + saved, "7", comment + bank, one, 0)]
     tried += [(piece[:399], "7", comment, b"put-lines: the last record is cut\n" + one, 1)]
     tried += [(saved[:-1], "7", b"", b"put-lines: no record at byte 0\n", 1)]
     tried += [(saved + other, "", put_of(other), out + b"the boot's number is missing\n", 1)]
