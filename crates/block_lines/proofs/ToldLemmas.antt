@@ -1,4 +1,4 @@
--- What is told of foreign lines, and of reports that are cut.
+-- Foreign lines and cut reports get their comments.
 use Rattle.std.proofs.Common.{◌≡◌, ℕ, ◌==◌, ◌||◌, Bool, true, false, List, [], ◌∷◌, ◌++◌, refl, sym, ap, ◌∙◌, append-nil, arith, Option, Some, None}
 use Rattle.std.specs.Prelude.{length, not, if◌then◌else◌}
 use Rattle.std.specs.Option.{option_map_or}

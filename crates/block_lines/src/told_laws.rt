@@ -1,4 +1,4 @@
-//! What is told of lines and of reports that become no block.
+//! Laws on lines and reports that become no block: each gets a comment.
 
 ghost use Rattle.std.specs.Prelude.{◌≡◌, ◌<◌, ◌^◌, ◌∷◌, ◌++◌, [], ℕ, List, Option, Some, true, false};
 ghost use Rattle.bank_lines.specs.LogHeads.{is_own, up_to};
@@ -14,9 +14,9 @@ ghost use Rattle.block_lines.specs.declared.report.OpenReport.{OpenReport};
 ghost use Rattle.block_lines.specs.declared.report.OpenSection.TheVariants.{Begun};
 ghost use Rattle.block_lines.specs.declared.report_line.ReportLine.TheVariants.{Error};
 
-/// What holds of a line that is marked as a report's, whatever stands before its mark, if its head
-/// doesn't show it as the kernel's own. It is told by its number, and the reports are what they are
-/// if a line without a mark is printed at that time.
+/// A line with a report's number and prefix, wherever they stand in it, whose head isn't the kernel's
+/// gets a comment with the line's number. The reports change as they would by a line without a mark
+/// that was printed at that time.
 pub fn foreign_lines_are_told()
     ensures marked { (head : List ℕ) (number : ℕ) (text : List ℕ) → number < 2 ^ 64
         → has_mark (printed_line head number text) ≡ true }
@@ -31,7 +31,7 @@ pub fn foreign_lines_are_told()
         ≡ reporting_after r (record { stamp = stamp; marking = Unmarked }) }
 {}
 
-/// What holds of a report that is cut: that is told by a comment with its source and its time stamp.
+/// A report that is cut gets a comment with its source and its time stamp.
 pub fn cut_reports_are_told()
     // It ends without a section, or before its last section has a type: at the line that ends it,
     // after the block of its other errors.
