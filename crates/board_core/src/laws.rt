@@ -4,7 +4,7 @@ ghost use Rattle.erst_store.specs.Store.{Stored};
 ghost use Rattle.board_core.specs.declared.board.FileNo.{FileNo};
 ghost use Rattle.board_core.specs.CallsMade.{AreMade, KeepsDisk, ranges_in};
 ghost use Rattle.board_core.specs.Clock.{LeftNow, IsSynced};
-ghost use Rattle.board_core.specs.DiskModel.{Range, Disk, MayLeave, MayLeaveFile, MayLeaveSince, Call, rests, after_all, greatest_length};
+ghost use Rattle.board_core.specs.DiskModel.{Disk, MayLeave, MayLeaveFile, MayLeaveSince, Call, rests, after_all, greatest_length};
 ghost use Rattle.board_core.specs.Doing.{DeviceCall, after_device, device, prints};
 ghost use Rattle.board_core.specs.MemBoard.{Past, with_act, clock_of, disk_of, now_of};
 ghost use Rattle.board_core.specs.Stop.{Left, Becomes, file_in};

@@ -1,5 +1,5 @@
 //! A file of a board in memory as a crash may leave it.
-ghost use Rattle.std.specs.Prelude.{◌≡◌, ◌↔◌, ℕ, ◌≤◌, IsTrue, [], ◌∷◌, length, take, drop, List, IfOk, OnOk};
+ghost use Rattle.std.specs.Prelude.{◌≡◌, ◌↔◌, ◌≤◌, IsTrue, [], ◌∷◌, length, take, drop, IfOk, OnOk};
 ghost use Rattle.board_core.specs.Steps.FileHistory.{bytes_after, bytes_after_all, disk_after_all, range_of, ranges_of, ArePartedAtSync};
 ghost use Rattle.board_core.specs.Steps.History.{first_bytes};
 ghost use Rattle.board_core.specs.DiskModel.{settled_file};

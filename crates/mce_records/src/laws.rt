@@ -1,7 +1,6 @@
 //! What Linux saves is read, and named as its trace and its log name it.
 
-ghost use Rattle.std.specs.Prelude.{◌≡◌, ◌≢◌, ◌<◌, ℕ, ◌++◌, List, Option, replicate, true, Some};
-ghost use Rattle.std.specs.Option.{option_map};
+ghost use Rattle.std.specs.Prelude.{◌≡◌, ◌≢◌, ℕ, ◌++◌, List, Option, replicate, true, Some};
 ghost use Rattle.bank_lines.specs.Kernel.{Form, IsPrinted, Printed, event_text};
 ghost use Rattle.bank_lines.specs.LogGroups.{with_counter};
 ghost use Rattle.bank_lines.specs.Trace.{event_mark, is_traced, trace_found};

@@ -17,7 +17,7 @@ use Rattle.ras_daemon.specs.Commands.{ByTask}
 use Rattle.ras_daemon.specs.Headline.{AtOpening, Headline, IsWhole, NeverOpens, OverRun, Settles, StopsRecover}
 use Rattle.ras_daemon.specs.Machine.{account_upto, change_next, store_upto}
 use Rattle.ras_daemon.specs.Promises as promises
-use Rattle.ras_daemon.specs.Promises.{EndsRefused, OverRefused, Ran, RunStops, StillTell}
+use Rattle.ras_daemon.specs.Promises.{OverRefused, Ran, RunStops, StillTell}
 use Rattle.ras_daemon.specs.RunOf.{run_of}
 use Rattle.ras_daemon.specs.RunOutput.{run_output}
 use Rattle.ras_daemon.specs.RunStatus.{start_of}

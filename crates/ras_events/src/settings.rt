@@ -1,8 +1,7 @@
 //! The machine description that the lines of a run give.
 
-ghost use Rattle.std.specs.Prelude.{◌≡◌, false, ℕ, List, [], ◌∷◌, ◌++◌, IfOk, OnErr, OnOk};
+ghost use Rattle.std.specs.Prelude.{◌≡◌, false, [], ◌∷◌, ◌++◌, IfOk, OnErr, OnOk};
 ghost use Rattle.dimm_topology.specs.declared.row.Row.{Row};
-ghost use Rattle.ras_facts.specs.Valid.{IsValidName};
 ghost use Rattle.ras_script.specs.LineLaws.{IsInRange, IsReportInRange, IsRowInRange};
 ghost use Rattle.ras_script.specs.declared.reader.TheConstants.{LONGEST_LINE};
 ghost use Rattle.apei_sources.specs.Hest.{hest_of};

@@ -1,5 +1,5 @@
 //! A journal, and appending to it.
-ghost use Rattle.std.specs.Prelude.{◌≡◌, ◌+◌, ◌<◌, ◌≤◌, false, length, nat_lt, true, IfSome};
+ghost use Rattle.std.specs.Prelude.{◌≡◌, ◌+◌, ◌<◌, false, length, nat_lt, true, IfSome};
 ghost use Rattle.board_core.specs.Doing.{Does};
 ghost use Rattle.board_core.specs.Told.{file_of};
 ghost use Rattle.entry_format.specs.declared.version.Version.TheVariants.{Two};

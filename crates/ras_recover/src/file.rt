@@ -1,5 +1,5 @@
 //! Reads one journal file.
-ghost use Rattle.std.specs.Prelude.{◌≡◌, ℕ, ◌+◌, ◌-◌, ◌^◌, ◌≤◌, min, true, length, None, Ok, IfSome, IfOk, OnOk};
+ghost use Rattle.std.specs.Prelude.{◌≡◌, ℕ, ◌+◌, ◌-◌, ◌^◌, ◌≤◌, min, true, length, None, Ok, IfSome, IfOk};
 ghost use Rattle.entry_format.specs.declared.version.Version.{Version};
 ghost use Rattle.ras_journal.specs.Fields.{field, number_of, version_of};
 ghost use Rattle.ras_journal.specs.File.{has_open_gate, first_front};

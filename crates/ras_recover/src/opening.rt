@@ -1,9 +1,9 @@
 //! Opens the journal.
-ghost use Rattle.std.specs.Prelude.{◌≡◌, Result, Err, false, IfSome, IfOk, IfErr, OnOk};
+ghost use Rattle.std.specs.Prelude.{◌≡◌, Result, false, IfSome, IfOk, IfErr};
 ghost use Rattle.board_core.specs.Cause.{disk_call, FailsAs};
 ghost use Rattle.board_core.specs.Clock.{Adds};
 ghost use Rattle.board_core.specs.Doing.{Does, IsMade};
-ghost use Rattle.board_core.specs.Told.{Told, Relates, file_of};
+ghost use Rattle.board_core.specs.Told.{Told, file_of};
 ghost use Rattle.board_core.specs.declared.board.FileNo.TheVariants.{Zero};
 ghost use Rattle.entry_format.specs.declared.version.Version.TheVariants.{Two};
 ghost use Rattle.journal_format.specs.Checkpoints.{IsCheckpoint, checkpoint_bytes};
