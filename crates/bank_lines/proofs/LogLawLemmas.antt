@@ -1,5 +1,5 @@
 -- What is printed of a log, and the reports that it has.
-use Rattle.std.proofs.Common.{◌≡◌, ℕ, suc, ◌+◌, ◌==◌, ◌⊎◌, inl, inr, Bool, true, false, List, [], ◌∷◌, ◌++◌, length, take, drop, refl, sym, ap, ◌∙◌, append_assoc, Option, None, Some, if◌then◌else◌, Result, Ok}
+use Rattle.std.proofs.Common.{◌≡◌, ℕ, suc, ◌+◌, ◌*◌, ◌%◌, ◌<◌, ◌==◌, ◌⊎◌, arith, inl, inr, Bool, true, false, List, [], ◌∷◌, ◌++◌, length, take, drop, refl, sym, ap, ◌∙◌, append_assoc, Option, None, Some, if◌then◌else◌, Result, Ok}
 use Rattle.std.proofs.lemmas.List.{append-nil}
 use Rattle.std.specs.List.{flat_map}
 use Rattle.std.specs.Option.{option_map_or}
@@ -25,6 +25,7 @@ use Rattle.bank_lines.specs.declared.found.Finding.{Finding}
 use Rattle.bank_lines.specs.declared.log_line.LogLine.{LogLine}
 use Rattle.bank_lines.specs.declared.edac_report.EdacReport.{EdacReport}
 use Rattle.bank_lines.specs.declared.log_line.LogLine.TheVariants.{Nothing, Unread, Part}
+use Rattle.bank_lines.specs.declared.log_line.TheConstants.{LAST_SECOND, MICROSECONDS}
 use Rattle.bank_lines.specs.declared.log_line.MarkedLine.{MarkedLine}
 use Rattle.bank_lines.specs.declared.log_line.MarkedLine.TheVariants.{Plain}
 use Rattle.bank_lines.specs.declared.mark.LogMark.{LogMark}
@@ -218,3 +219,32 @@ pub same_stamp : (count next stamp other : ℕ) (first second : BankReport) → 
     → stamp ≡ other
 same_stamp count next stamp other first second one two same =
     sym (counter_is count stamp first one) ∙ ap name_counter same ∙ counter_is next other second two
+
+-- without a stamp
+unstamped_counter : (count : ℕ) (report : BankReport) → report.tsc ≡ 0
+    → (with_counter count None report).tsc ≡ report.seconds % (LAST_SECOND + 1) * MICROSECONDS + count
+unstamped_counter count report none =
+    let is : (report.tsc == 0) ≡ true = ap (λ (n : ℕ). n == 0) none in
+    ap (λ (zero : Bool). (if zero then record report { tsc = report.seconds % (LAST_SECOND + 1) * MICROSECONDS + count } else report).tsc) is
+
+-- the two numbers that a counter is made of
+same_parts : (a b c d : ℕ) → c < 1000000 → d < 1000000 → a * 1000000 + c ≡ b * 1000000 + d → (a ≡ b) × (c ≡ d)
+same_parts a b c d few fewer same = (omega (arith, few, fewer, same), omega (arith, few, fewer, same))
+
+pub same_unstamped : (count next : ℕ) (first second : BankReport) → first.tsc ≡ 0 → second.tsc ≡ 0
+    → count < MICROSECONDS → next < MICROSECONDS
+    → bank_name (with_counter count None first) ≡ bank_name (with_counter next None second)
+    → (first.seconds % (LAST_SECOND + 1) ≡ second.seconds % (LAST_SECOND + 1)) × (count ≡ next)
+same_unstamped count next first second one two few fewer same =
+    same_parts (first.seconds % (LAST_SECOND + 1)) (second.seconds % (LAST_SECOND + 1)) count next few fewer
+    (sym (unstamped_counter count first one) ∙ ap name_counter same ∙ unstamped_counter next second two)
+
+-- names differ where one of the two numbers does
+pub other_unstamped : (count next : ℕ) (first second : BankReport) → first.tsc ≡ 0 → second.tsc ≡ 0
+    → count < MICROSECONDS → next < MICROSECONDS
+    → (¬ (first.seconds % (LAST_SECOND + 1) ≡ second.seconds % (LAST_SECOND + 1))) ⊎ (¬ (count ≡ next))
+    → ¬ (bank_name (with_counter count None first) ≡ bank_name (with_counter next None second))
+other_unstamped count next first second one two few fewer (inl times) same =
+    times (same_unstamped count next first second one two few fewer same).0
+other_unstamped count next first second one two few fewer (inr counts) same =
+    counts (same_unstamped count next first second one two few fewer same).1

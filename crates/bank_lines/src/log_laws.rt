@@ -1,6 +1,6 @@
 //! What is printed of a kernel log, by its reports.
 
-ghost use Rattle.std.specs.Prelude.{◌≡◌, ◌<◌, ◌^◌, ◌⊎◌, ℕ, List, ◌∷◌, ◌++◌, false, length, map, Ok, Some};
+ghost use Rattle.std.specs.Prelude.{◌≡◌, ◌<◌, ◌+◌, ◌%◌, ◌^◌, ◌⊎◌, ℕ, List, ◌∷◌, ◌++◌, false, length, map, Ok, None, Some};
 ghost use Rattle.ras_facts.specs.Facts.{bank_name};
 ghost use Rattle.ras_facts.specs.declared.bank.BankReport.{BankReport};
 ghost use Rattle.ras_klog.specs.Groups.{told_of_groups};
@@ -14,6 +14,7 @@ ghost use Rattle.bank_lines.specs.Texts.{asks_in};
 ghost use Rattle.bank_lines.specs.declared.log_line.LogLine.{LogLine};
 ghost use Rattle.bank_lines.specs.declared.log_line.LogLine.TheVariants.{Nothing, Unread};
 ghost use Rattle.bank_lines.specs.declared.log_line.MarkedLine.TheVariants.{Plain};
+ghost use Rattle.bank_lines.specs.declared.log_line.TheConstants.{LAST_SECOND, MICROSECONDS};
 
 use crate::laws::printed_lines_are_read_back;
 
@@ -41,6 +42,13 @@ pub fn logs_are_made_lines()
         → first.tsc ≡ 0 → second.tsc ≡ 0 → ¬ (stamp ≡ other)
         → ¬ (bank_name (with_counter count (Some stamp) first)
         ≡ bank_name (with_counter next (Some other) second)) }
+    // Two without a time stamp have other names if the last 12 digits of their seconds differ, or the
+    // last 6 digits of the number of such errors before them.
+    ensures unstamped { (count next : ℕ) (first second : BankReport)
+        → first.tsc ≡ 0 → second.tsc ≡ 0 → count < MICROSECONDS → next < MICROSECONDS
+        → (¬ (first.seconds % (LAST_SECOND + 1) ≡ second.seconds % (LAST_SECOND + 1)))
+        ⊎ (¬ (count ≡ next))
+        → ¬ (bank_name (with_counter count None first) ≡ bank_name (with_counter next None second)) }
 {
     printed_lines_are_read_back();
 }

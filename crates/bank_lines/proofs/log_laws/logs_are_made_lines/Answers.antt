@@ -9,7 +9,7 @@ use Rattle.bank_lines.specs.Texts.{asks_in}
 use Rattle.bank_lines.proofs.LogFoundLemmas.{numbered, numbered_in}
 use Rattle.bank_lines.proofs.LogGroupLemmas.{groups_are}
 use Rattle.bank_lines.proofs.LogRangeLemmas.{told_lines_in}
-use Rattle.bank_lines.proofs.LogLawLemmas.{as_many, not_own, reports_are, reports_without, same_stamp, script_is}
+use Rattle.bank_lines.proofs.LogLawLemmas.{as_many, not_own, other_unstamped, reports_are, reports_without, same_stamp, script_is}
 use Rattle.bank_lines.proofs.log_laws.logs_are_made_lines.Goals as goal
 
 pub returns : goal.returns
@@ -23,4 +23,5 @@ returns c = record {
   others = λ line other. not_own line other;
   alone = λ boot cap before after line other. reports_without boot cap before after line other;
   names = λ count next stamp other first second one two differ same. differ (same_stamp count next stamp other first second one two same);
+  unstamped = λ count next first second one two few fewer differ. other_unstamped count next first second one two few fewer differ;
 }
