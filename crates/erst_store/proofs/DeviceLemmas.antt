@@ -1,16 +1,21 @@
 -- What the device's commands do, by the way they end.
-use Rattle.std.proofs.Common.{◌≡◌, ℕ, ◌+◌, ◌<◌, ◌≤◌, Bool, true, false, nat_eq, nat_lt, if◌then◌else◌, List, length, take, drop, None, Some, ◌||◌, refl, sym, ap, subst, ◌∙◌, arith, true≢false}
-use Rattle.std.proofs.lemmas.Bool.{lt-ltb, le-ltb}
+use Rattle.std.proofs.Common.{◌≡◌, ℕ, ◌+◌, ◌<◌, ◌≤◌, Bool, true, false, nat_eq, nat_lt, if◌then◌else◌, List, [], ◌∷◌, length, take, drop, None, Some, ◌||◌, refl, sym, ap, subst, ◌∙◌, arith, true≢false}
+use Rattle.std.proofs.lemmas.Bool.{eqb-true, lt-ltb, le-ltb}
 use Rattle.std.proofs.lemmas.List.{length-take-le, length-drop}
 use Rattle.ras_base.specs.LittleEndian.{number_at}
 use Rattle.ras_base.specs.Steps.LittleEndianLemmas.{number_at-drop}
 use Rattle.erst_store.specs.declared.store.PutRefused.{PutRefused}
 use Rattle.erst_store.specs.declared.store.PutRefused.TheVariants.{ReservedId, TooLong, StoreFull}
-use Rattle.erst_store.specs.declared.device.CommandStatus.TheVariants.{Success, NotEnoughSpace, NotFound}
-use Rattle.erst_store.specs.Store.{Stored, most_bytes, is_reserved, is_full_for, refusal_of, with_record, holds}
+use Rattle.erst_store.specs.declared.device.CommandStatus.TheVariants.{Success, NotEnoughSpace, StoreEmpty, NotFound}
+use Rattle.erst_store.specs.Store.{Stored, most_bytes, is_reserved, is_full_for, refusal_of, with_record, without, holds}
 use Rattle.erst_store.specs.Actions.{range_length}
 use Rattle.erst_store.specs.Device.{Device, length_at, id_at, record_at, is_record_out, is_write_refused, after_write_command, after_clear}
 use Rattle.erst_store.specs.Steps.DeviceView.{FoundRecord}
+use Rattle.erst_store.specs.Steps.StoreLemmas.{without-absent}
+
+without-nil : (id : ℕ) (rs : List Stored) → length rs ≡ 0 → rs ≡ without id rs
+without-nil id [] is = refl
+without-nil id (r ∷ rs) is = absurd cc
 
 -- ---- the record in the range
 
@@ -99,3 +104,13 @@ out_written d out =
 
 pub not_cleared : (d : Device) (store : List Stored) → nat_eq (length d.store) 0 ≡ false → holds d.id d.store ≡ false → store ≡ d.store → record d { store = store; status = NotFound } ≡ after_clear d
 not_cleared d store some other is = ap (λ (s : List Stored). record d { store = s; status = NotFound }) is ∙ sym (rw (some, other) refl)
+
+-- a clear leaves all records except the one under the identifier
+pub cleared-store : (d : Device) → (after_clear d).store ≡ without d.id d.store
+cleared-store d = by (nat_eq (length d.store) 0) (holds d.id d.store) refl refl
+  where
+    by : (b c : Bool) → nat_eq (length d.store) 0 ≡ b → holds d.id d.store ≡ c
+        → (if b then record d { status = StoreEmpty } else (if c then record d { store = without d.id d.store; cursor = 0; status = Success } else record d { status = NotFound })).store ≡ without d.id d.store
+    by true c empty there = without-nil d.id d.store (eqb-true _ _ empty)
+    by false true some there = refl
+    by false false some new = without-absent d.id d.store new

@@ -1,5 +1,5 @@
 -- The bytes of a store file.
-use Rattle.std.specs.Prelude.{◌≡◌, ℕ, List, ◌++◌, length, codes, Result, Ok, Err}
+use Rattle.std.specs.Prelude.{◌≡◌, ℕ, ◌+◌, List, ◌++◌, length, codes, Result, Ok, Err}
 use Rattle.std.specs.List.{flat_map}
 use Rattle.ras_base.specs.LittleEndian.{u32_bytes, u64_bytes}
 use Rattle.erst_store.specs.declared.reading.StoreRefused.{StoreRefused}
@@ -17,6 +17,15 @@ heading count = codes "RASERST1" ++ u32_bytes count
 -- a store: the heading, and the records in their order
 abbrev pub store_bytes : List Stored → List ℕ
 store_bytes records = heading (length records) ++ flat_map record_bytes records
+
+-- Two files differ by one record: the newer counts one record less and lacks the bytes of this record. All other bytes
+-- stay as they are, in their order.
+pub record LacksRecord (r : Stored) (old new : List ℕ) : Type 0 where
+  pub count : ℕ
+  pub before : List ℕ
+  pub after : List ℕ
+  pub old_is : old ≡ heading (count + 1) ++ before ++ record_bytes r ++ after
+  pub new_is : new ≡ heading count ++ before ++ after
 
 -- bytes that aren't a store file
 abbrev pub IsNoStoreFile : List ℕ → Type 0

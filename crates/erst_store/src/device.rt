@@ -1,11 +1,12 @@
 //! The error record serialization device.
-ghost use Rattle.std.specs.Prelude.{◌≡◌, ◌≢◌, ◌+◌, ◌≤◌, ◌↔◌, [], length, take, drop, Some, IfOk, OnOk, OnErr, IsTrue};
+ghost use Rattle.std.specs.Prelude.{◌≡◌, ◌≢◌, ◌+◌, ◌≤◌, ◌↔◌, [], length, take, drop, Some, IfOk, OnOk, OnErr, IsTrue, IsFalse};
 ghost use Rattle.std.specs.Option.{option_map};
-ghost use Rattle.erst_store.specs.declared.device.Command.TheVariants.{Write};
+ghost use Rattle.erst_store.specs.declared.device.Command.TheVariants.{Write, Clear};
 ghost use Rattle.erst_store.specs.Actions.{execute_operation, range_length};
 ghost use Rattle.erst_store.specs.Store.{refusal_of, AnswersRefusal};
-ghost use Rattle.erst_store.specs.Device.{new_device, act, after_check, after_listing, after_write_command, after_read, after_clear, after_command, range_with_record, range_with, with_put, status_number};
+ghost use Rattle.erst_store.specs.Device.{new_device, act, after_check, after_listing, after_write_command, after_read, after_clear, after_command, busy_device, range_with_record, range_with, with_put, status_number};
 ghost use Rattle.erst_store.specs.DeviceLaws.{IsDevice, MayChange};
+ghost use Rattle.erst_store.specs.StoreFile.{store_bytes};
 ghost use Rattle.erst_store.specs.Steps.DeviceView.{FindsRecord};
 
 use crate::actions::{
@@ -15,6 +16,7 @@ use crate::actions::{
     GET_ERROR_LOG_ADDRESS_RANGE_LENGTH, GET_RECORD_COUNT, GET_RECORD_IDENTIFIER, RANGE_ADDRESS,
     RANGE_ATTRIBUTES, RANGE_LENGTH, SET_RECORD_IDENTIFIER, SET_RECORD_OFFSET,
 };
+use crate::file::StoreFile;
 use crate::store::{PutRefused, Store};
 use ras_base::NoMemory;
 use ras_base::little_endian::{u32_at, u64_at};
@@ -204,6 +206,29 @@ impl Dev {
         action == EXECUTE_OPERATION && matches!(self.command, Some(Command::Write | Command::Clear))
     }
 
+    /// Returns whether this action carries out a clear: EXECUTE_OPERATION after a clear was begun.
+    pub fn clears(&self, action: u64) -> bool
+        ensures { IsTrue result ↔ ((action ≡ execute_operation) × (self.now.command ≡ Some Clear)) }
+    {
+        action == EXECUTE_OPERATION && matches!(self.command, Some(Command::Clear))
+    }
+
+    /// Carries out a clear, as EXECUTE_OPERATION does, and removes the record from the bytes of the
+    /// store's file too. Returns whether there was such a record. Requires that a clear was begun.
+    pub fn clear(&mut self, file: &mut StoreFile) -> bool
+        requires begun { self.old.command ≡ Some Clear }
+        requires file { file.old ≡ store_bytes self.old.store }
+        ensures device { self.new ≡ act execute_operation self.old }
+        ensures file { file.new ≡ store_bytes self.new.store }
+        ensures none { IsFalse result → file.new ≡ file.old }
+        ensures kept { IsDevice self.new }
+    {
+        let removed = file.remove(&self.store, self.id);
+        let status = self.clear_record();
+        self.end_command(status);
+        removed
+    }
+
     /// Copies the bytes of the range from `place` on into `buf`, and fills all of it. The bytes
     /// have to be inside the range.
     pub fn range_read(&self, place: u32, buf: &mut [u8])
@@ -314,11 +339,21 @@ impl Dev {
         ensures memory { OnErr result (self.old.command ≡ Some Write) }
     {
         let command = self.command;
-        self.status = self.carry_out(command)?;
+        let status = self.carry_out(command)?;
+        self.end_command(status);
+        Ok(())
+    }
+
+    // Notes how a command went, which makes the device busy.
+    fn end_command(&mut self, status: CommandStatus)
+        ensures { self.new ≡ record (busy_device (record self.old { status = status })) {
+          action = execute_operation;
+        } }
+    {
+        self.status = status;
         self.action = EXECUTE_OPERATION;
         self.value = 0;
         self.busy = self.slow;
-        Ok(())
     }
 
     // Carries out a command, and returns its status.

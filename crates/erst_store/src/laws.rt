@@ -2,8 +2,8 @@
 ghost use Rattle.std.specs.Prelude.{◌≡◌, ◌≢◌, ℕ, ◌+◌, ◌^◌, ◌<◌, ◌≤◌, ◌++◌, [], ◌∷◌, List, false, length, drop, None, Some, Ok};
 ghost use Rattle.ras_base.specs.LittleEndian.{AreBytes, number_at};
 ghost use Rattle.erst_store.specs.Actions.{execute_operation, check_busy_status, get_command_status, get_record_identifier, get_record_count, range_length};
-ghost use Rattle.erst_store.specs.Store.{Stored, SameBut, IsStore, all_ones, ids, bytes_under, refusal_of, with_record};
-ghost use Rattle.erst_store.specs.StoreFile.{store_bytes};
+ghost use Rattle.erst_store.specs.Store.{Stored, SameBut, IsStore, all_ones, ids, bytes_under, refusal_of, with_record, without};
+ghost use Rattle.erst_store.specs.StoreFile.{LacksRecord, store_bytes};
 ghost use Rattle.erst_store.specs.StoreReading.{file_at, store_at};
 ghost use Rattle.erst_store.specs.Device.{Device, act, with_put, range_with, new_device, id_at, length_at, record_at, is_record_out, id_place, length_place};
 ghost use Rattle.erst_store.specs.DeviceLaws.{IsDevice, MayChange, id_changed, listing, after_listings, left_to_list, listed_to_end};
@@ -61,6 +61,12 @@ pub fn file_laws()
         → file_at (store_bytes records) ≡ Ok records }
     // Whatever bytes are read, the result is a store, which is empty if they aren't a store file.
     ensures store { (bytes : List ℕ) → AreBytes bytes → IsStore (store_at bytes) }
+    // The file of a store without one of its records counts one record less and lacks that record's
+    // bytes. All other bytes stay as they are, in their order.
+    ensures less { (id : ℕ) (bytes : List ℕ) (records : List Stored) → IsStore records
+        → bytes_under id records ≡ Some bytes
+        → LacksRecord (record { id = id; bytes = bytes }) (store_bytes records)
+        (store_bytes (without id records)) }
 {}
 
 /// The numbers that bound a store and its device.

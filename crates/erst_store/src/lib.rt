@@ -9,12 +9,14 @@
 
 pub mod actions;
 mod device;
+mod file;
 mod laws;
 mod reading;
 mod store;
 
 pub use actions::RANGE_LENGTH;
 pub use device::{Command, CommandStatus, Dev};
+pub use file::StoreFile;
 pub use laws::{action_laws, device_laws, file_laws, numbers_in_digits, store_laws};
 pub use reading::StoreRefused;
 pub use store::{MOST_BYTES, MOST_RECORDS, PutRefused, Store};

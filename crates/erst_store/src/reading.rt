@@ -22,12 +22,12 @@ pub enum StoreRefused {
 }
 
 // The first bytes of a store file.
-const MAGIC: &[u8; 8] = b"RASERST1";
+pub(crate) const MAGIC: &[u8; 8] = b"RASERST1";
 
 // How many bytes come before all records, and before the bytes of each.
-const HEADING_LENGTH: usize = 12;
+pub(crate) const HEADING_LENGTH: usize = 12;
 
-const RECORD_HEADING_LENGTH: usize = 12;
+pub(crate) const RECORD_HEADING_LENGTH: usize = 12;
 
 impl Store {
     /// Returns the bytes of the store's file: eight letters, the number of records in 4 bytes, and

@@ -390,13 +390,13 @@ writes_untold had bytes result after (inr replaces) = replaces.files Zero
 -- a device was made of the one that was taken out, and its store was to come into the file
 pub turned_wrote : {T E : Type 0} (step : Device → Device) (saved made : Saved) (had : List ℕ) (before : Device) (new : Kept) (result : Result T E) (told after : Option FolderPast) → ((records : List Stored) → IsStore records → file_at (store_bytes records) ≡ Ok records)
     → IfSome told (IsInStep (Here saved)) → before ≡ record saved.device { store = [] } → made.device ≡ step saved.device → IsDevice made.device → KeepsOrLoses result before made new
-    → had ≡ saved.file.items → Writes had made.file.items result told after → Turned step (Here saved) new result told after
-turned_wrote step saved made had before new result None after again is was same kept keeps held writes = turned_untold step (Here saved) new result after (writes_untold had made.file.items result after writes)
+    → had ≡ saved.file → Writes had made.file result told after → Turned step (Here saved) new result told after
+turned_wrote step saved made had before new result None after again is was same kept keeps held writes = turned_untold step (Here saved) new result after (writes_untold had made.file result after writes)
 turned_wrote {T = T} {E = E} step saved made had before new result (Some p) after again is was same kept keeps held writes =
     let store : IsStore saved.device.store = subst IsStore (sym is.over) is.device.store in
     let w : Wrote {T = T} {E = E} made.device.store result p after =
-    subst (λ (s : List Stored). Wrote {T = T} {E = E} s result p after) (bytes_again again made.file.items made.device.store kept.store made.same)
-    (wrote had made.file.items result p after (bytes_again again had saved.device.store store (held ∙ saved.same) ∙ is.over) is.whole writes) in
+    subst (λ (s : List Stored). Wrote {T = T} {E = E} s result p after) (bytes_again again made.file made.device.store kept.store made.same)
+    (wrote had made.file result p after (bytes_again again had saved.device.store store (held ∙ saved.same) ∙ is.over) is.whole writes) in
     by result keeps w
   where
     by : (result : Result T E) → KeepsOrLoses result before made new → Wrote {T = T} {E = E} made.device.store result p after → Turned step (Here saved) new result (Some p) after
@@ -414,10 +414,10 @@ turned_unwritten {T = T} {E = E} step saved before made new e (Some p) after sam
 
 -- a change was to come into the file
 pub turned_saved : {T E : Type 0} (change : Change) (new : Kept) (result : Result T E) (told after : Option FolderPast) → ((records : List Stored) → IsStore records → file_at (store_bytes records) ≡ Ok records)
-    → KeepsOrLoses result change.before change.made new → Writes change.had.items change.made.file.items result told after
+    → KeepsOrLoses result change.before change.made new → ((had : List ℕ) → (change.differs ≡ false → change.made.file ≡ had) → Writes had change.made.file result told after)
     → (step : Device → Device) (saved : Saved) → IsChange step saved change → IfSome told (IsInStep (Here saved)) → Turned step (Here saved) new result told after
 turned_saved change new result told after again keeps writes step saved is in_step =
-    turned_wrote step saved change.made change.had.items change.before new result told after again in_step is.before is.made is.device keeps is.had writes
+    turned_wrote step saved change.made saved.file change.before new result told after again in_step is.before is.made is.device keeps refl (writes saved.file is.same)
 
 -- the file was replaced, or that failed
 pub replaces_ok : {T E F : Type 0} (bytes : List ℕ) (result : Result T E) (x : T) (old new : Option FolderPast) → is_err result ≡ false → Replaces bytes result old new → Replaces {E = F} bytes (Ok x) old new

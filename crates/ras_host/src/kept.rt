@@ -1,18 +1,20 @@
 //! The device of a board, over the record store of the working folder.
-ghost use Rattle.std.specs.Prelude.{◌≡◌, ◌+◌, ◌≤◌, [], length, take, drop, IsOk, IsTrue, OnOk, OnErr, IfOk, IfSome};
+ghost use Rattle.std.specs.Prelude.{◌≡◌, ◌+◌, ◌≤◌, [], false, length, take, drop, Some, IsOk, IsTrue, OnOk, OnErr, IfOk, IfSome};
 ghost use Rattle.board_core.specs.Cause.{put_failure};
 ghost use Rattle.board_core.specs.Told.{AnswersPut, after_put, after_range_write, after_reg_write, register_in};
-ghost use Rattle.erst_store.specs.Actions.{range_length};
+ghost use Rattle.erst_store.specs.declared.device.Command.TheVariants.{Clear};
+ghost use Rattle.erst_store.specs.Actions.{execute_operation, range_length};
 ghost use Rattle.erst_store.specs.Device.{Device, act, with_put};
 ghost use Rattle.erst_store.specs.DeviceLaws.{IsDevice, MayChange};
 ghost use Rattle.erst_store.specs.Store.{AnswersRefusal, refusal_of};
+ghost use Rattle.erst_store.specs.StoreFile.{store_bytes};
 ghost use Rattle.host_system.specs.View.{seen_now};
 ghost use Rattle.ras_host.specs.Steps.Once.{CountsOnce};
 ghost use Rattle.ras_host.specs.Steps.KeptDevice.{Acts, Does, IfRefused, IsChange, IsHere, IsInStep, IsSaved, IsThere, IsUsed, Keeps, Looks, Puts, Stays, StaysOrLoses, Turned, after_answer, device_in};
 
 use crate::saved::{RECORD_HEADING, Saved};
 use board_core::{BoardPut, Failed, Reg};
-use erst_store::{Dev, PutRefused, file_laws};
+use erst_store::{Dev, PutRefused, StoreFile, file_laws};
 use host_system::{System, replace_store};
 use std::alloc::Global;
 use std::mem::replace;
@@ -32,13 +34,13 @@ pub enum Kept {
     Unreadable,
 }
 
-/// A change of the device whose store isn't in its file yet: the device from before, over an empty
-/// store, the device from after, and the bytes that the file has.
+/// A change of the device whose store may not be in its file yet: the device from before, over an
+/// empty store, the device from after, and whether its store has other bytes than the file.
 #[derive(Drop)]
 struct Change {
     before: Dev,
     made: Saved,
-    had: Vec<u8>,
+    differs: bool,
 }
 
 impl Kept {
@@ -150,7 +152,7 @@ impl Kept {
         answer.or(Err(Failed))
     }
 
-    // Does an action that may change the store, whose bytes aren't in the file then.
+    // Does an action that may change the store, whose bytes may not be in the file then.
     fn act(&mut self, alloc: Global, saved: Saved, action: u64) -> Result<Change, Failed>
         ensures ok { IfOk result (λ change. IsChange (act action) saved change) }
         ensures err { OnErr result (StaysOrLoses (act action) saved self.new) }
@@ -159,6 +161,25 @@ impl Kept {
             self.put_back(saved);
             return Err(Failed);
         };
+        if saved.device.clears(action) {
+            return Ok(cleared(before, saved));
+        }
+        self.write(alloc, before, saved, action)
+    }
+
+    // Does an action that may write a record. Serializes the store then, and keeps the device as
+    // lost if memory runs out for that.
+    fn write(
+        &mut self,
+        alloc: Global,
+        before: Dev,
+        saved: Saved,
+        action: u64,
+    ) -> Result<Change, Failed>
+        requires { before ≡ record saved.device { store = [] } }
+        ensures ok { IfOk result (λ change. IsChange (act action) saved change) }
+        ensures err { OnErr result (StaysOrLoses (act action) saved self.new) }
+    {
         let Saved { mut device, file } = saved;
         let Ok(()) = device.write_action(action) else {
             self.put_back(Saved { device, file });
@@ -171,15 +192,7 @@ impl Kept {
             };
             return Err(Failed);
         };
-        let made = Saved {
-            device,
-            file: bytes,
-        };
-        Ok(Change {
-            before,
-            made,
-            had: file,
-        })
+        Ok(change_to(before, device, bytes, &file))
     }
 
     // Keeps a changed device once the store's file has the bytes of its store. If that fails, the
@@ -193,12 +206,16 @@ impl Kept {
         ensures once { CountsOnce (S.faults system.old) (S.faults system.new) result }
     {
         file_laws();
-        let Change { before, made, had } = change;
-        if made.file.as_slice() == had.as_slice() {
+        let Change {
+            before,
+            made,
+            differs,
+        } = change;
+        if !differs {
             *self = Kept::Here(made);
             return Ok(());
         }
-        if replace_store(&made.file, system).is_err() {
+        if replace_store(made.file.as_slice(), system).is_err() {
             *self = Kept::Lost {
                 before,
                 after: made.device,
@@ -317,12 +334,43 @@ impl Kept {
             };
             return Err(BoardPut::Failed);
         };
-        let change = Change {
-            before,
-            made: Saved { device, file: new },
-            had: file,
-        };
+        let change = change_to(before, device, new, &file);
         self.save(change, system).or(Err(BoardPut::Failed))
+    }
+}
+
+// Carries out a clear, which needs no memory: the record leaves the device and the file's bytes.
+fn cleared(before: Dev, saved: Saved) -> Change
+    requires before { before ≡ record saved.device { store = [] } }
+    requires begun { saved.device.command ≡ Some Clear }
+    ensures { IsChange (act execute_operation) saved result }
+{
+    let Saved {
+        mut device,
+        mut file,
+    } = saved;
+    let differs = device.clear(&mut file);
+    Change {
+        before,
+        made: Saved { device, file },
+        differs,
+    }
+}
+
+// Returns the change to a device whose store's file has these bytes, from a file.
+fn change_to(before: Dev, device: Dev, bytes: Vec<u8>, had: &StoreFile) -> Change
+    requires { bytes.items ≡ store_bytes device.store }
+    ensures devices { (result.before ≡ before) × (result.made.device ≡ device) }
+    ensures same { result.differs ≡ false → result.made.file ≡ had.now }
+{
+    let differs = bytes.as_slice() != had.as_slice();
+    Change {
+        before,
+        made: Saved {
+            device,
+            file: StoreFile::new(bytes),
+        },
+        differs,
     }
 }
 

@@ -8,7 +8,7 @@ ghost use Rattle.host_system.specs.View.{HasWholeStore, seen_now, store_in};
 ghost use Rattle.ras_host.specs.Steps.Once.{CountsOnce};
 
 use board_core::Failed;
-use erst_store::{Dev, MOST_BYTES, MOST_RECORDS, Store};
+use erst_store::{Dev, MOST_BYTES, MOST_RECORDS, Store, StoreFile};
 use host_system::{FileName, System};
 use std::alloc::Global;
 
@@ -24,8 +24,8 @@ const LONGEST_STORE: u64 = 12 + MOST_RECORDS as u64 * (RECORD_HEADING + MOST_BYT
 #[derive(Drop)]
 pub struct Saved {
     pub device: Dev,
-    pub file: Vec<u8>,
-    ghost same: { file.items ≡ store_bytes device.store },
+    pub file: StoreFile,
+    ghost same: { file ≡ store_bytes device.store },
 }
 
 impl Saved {
@@ -50,7 +50,10 @@ impl Saved {
         let Ok(device) = Dev::new(alloc, store, 0) else {
             return Err(Failed);
         };
-        Ok(Saved { device, file })
+        Ok(Saved {
+            device,
+            file: StoreFile::new(file),
+        })
     }
 }
 

@@ -1,5 +1,5 @@
 -- The device that a board keeps, over the record store that the folder's store file holds.
-use Rattle.std.specs.Prelude.{◌≡◌, ℕ, ◌⊎◌, Bool, ◌&&◌, nat_eq, if◌then◌else◌, List, [], Option, None, Some, IfSome, Result, Ok, Err, IsOk, OnOk, OnErr}
+use Rattle.std.specs.Prelude.{◌≡◌, ℕ, ◌⊎◌, Bool, false, ◌&&◌, nat_eq, if◌then◌else◌, List, [], Option, None, Some, IfSome, Result, Ok, Err, IsOk, OnOk, OnErr}
 use Rattle.std.specs.Cmp.Lexicographic.{pointwise}
 use Rattle.board_core.specs.Clock.{Passes}
 use Rattle.board_core.specs.Stop.{Becomes, InStore}
@@ -106,12 +106,13 @@ pub record Stays (old new : Kept) (before after : Option FolderPast) : Type 0 wh
   pub told : after ≡ before
   pub keeps : IfSome before (Keeps old new)
 
--- What was made of a device by a step, before its store comes into the file.
+-- What was made of a device by a step, before its store comes into the file, and whether the file has those bytes
+-- already.
 pub record IsChange (step : Device → Device) (saved : Saved) (change : Change) : Type 0 where
   pub before : change.before ≡ record saved.device { store = [] }
   pub made : change.made.device ≡ step saved.device
   pub device : IsDevice change.made.device
-  pub had : change.had.items ≡ saved.file.items
+  pub same : change.differs ≡ false → change.made.file ≡ saved.file
 
 -- A device is lost after this step, which didn't come into the file.
 pub record Loses (step : Device → Device) (saved : Saved) (new : Kept) : Type 0 where

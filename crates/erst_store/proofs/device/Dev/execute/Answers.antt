@@ -6,5 +6,6 @@ use Rattle.erst_store.proofs.device.Dev.execute.Goals as goal
 pub returns-clause-ok : goal.returns-clause-ok
 unfolding act
 returns-clause-ok c =
-    ap (λ (d : Device). record (busy_device d) { action = execute_operation })
-    (ap (λ (d : Device). record d { status = c.in_ok-self-inside.field-0 }) c.self-2.view_is ∙ c.in_ok-self-inside.ensures.ok ∙ ap (λ (d : Device). after_command d.command c.args.self.now) c.self.view_is)
+    c.end_command.ensures
+    ∙ ap (λ (d : Device). record (busy_device d) { action = execute_operation })
+    (c.in_ok-status.ensures.ok ∙ ap (λ (d : Device). after_command d.command c.args.self.now) c.self.view_is)
