@@ -67,19 +67,24 @@ read_joined : (some short all within : Bool) (value n : ℕ) → some ≡ true �
     → cond ((some && (short && all)) && within) (Some value) None ≡ Some n
 read_joined some short all within value n s l a w is = rw (s, l, a, w) (ap Some is)
 
-pub register_read : (n : ℕ) → n < 2 ^ 64 → hexadecimal_of (register n) ≡ Some n
-register_read n small =
+pub padded_read : (width n : ℕ) → width ≤ 16 → n < 2 ^ 64 → hexadecimal_of (padded width n) ≡ Some n
+padded_read width n few small =
     let word : List ℕ = hexadecimal n in
-    let zeros : ℕ = 16 - length word in
+    let zeros : ℕ = width - length word in
     let most : ℕ = 2 ^ 64 - 1 in
     let p = read_parts (nat_lt 0 (length word)) (nat_le (length word) 16) (list_all (λ c. is_digit c 16) word) (nat_le (digits_value 16 word) most) (digits_value 16 word) n (hexadecimal_read false n small) in
     let some : 0 < length word = grind (arith, nat_tests, p.0) in
     let short : length word ≤ 16 = grind (arith, nat_tests, p.1) in
-    let size : length (register n) ≡ 16 = omega (arith, length-append (replicate zeros 48) word, length-replicate {A = ℕ} zeros 48) in
-    let full : nat_lt 0 (length (register n)) ≡ true = grind (arith, nat_tests, size) in
-    let fits : nat_le (length (register n)) 16 ≡ true = grind (arith, nat_tests, size) in
-    read_joined (nat_lt 0 (length (register n))) (nat_le (length (register n)) 16) (list_all (λ c. is_digit c 16) (register n)) (nat_le (digits_value 16 (register n)) most) (digits_value 16 (register n)) n
+    let size : length (padded width n) ≡ zeros + length word = omega (arith, length-append (replicate zeros 48) word, length-replicate {A = ℕ} zeros 48) in
+    let at_least : 0 < length (padded width n) = omega (arith, size, some) in
+    let at_most : length (padded width n) ≤ 16 = omega (arith, size, short, few) in
+    let full : nat_lt 0 (length (padded width n)) ≡ true = grind (arith, nat_tests, at_least) in
+    let fits : nat_le (length (padded width n)) 16 ≡ true = grind (arith, nat_tests, at_most) in
+    read_joined (nat_lt 0 (length (padded width n))) (nat_le (length (padded width n)) 16) (list_all (λ c. is_digit c 16) (padded width n)) (nat_le (digits_value 16 (padded width n)) most) (digits_value 16 (padded width n)) n
     full fits (zeros_digits zeros word ∙ p.2) (ap (λ (v : ℕ). nat_le v most) (zeros_value zeros word) ∙ p.3) (zeros_value zeros word ∙ p.4)
+
+pub register_read : (n : ℕ) → n < 2 ^ 64 → hexadecimal_of (register n) ≡ Some n
+register_read n small = padded_read 16 n (omega arith) small
 
 pub padded_lacks : (byte width n : ℕ) → 16 ≤ digit_value byte → ¬ (48 ≡ byte) → n < 2 ^ 64 → Lacks byte (padded width n)
 padded_lacks byte width n high other small =

@@ -21,9 +21,9 @@ mod LinesLawLemmas
 mod EventLemmas
 mod EdacMarkLemmas
 mod TwiceLemmas
-mod LogMarkLemmas
-mod LogTextLemmas
+pub mod LogMarkLemmas
+pub mod LogTextLemmas
 mod EdacTextLemmas
 mod PlainTextLemmas
 mod PrintedLogLemmas
-mod TraceHeadLemmas
+pub mod TraceHeadLemmas

@@ -176,7 +176,7 @@ module _ (seconds micros : ℕ) (most : seconds ≤ 18446744073708) (low : micro
 
 -- ---- words
 
-last_behind : (first : List ℕ) (words : List (List ℕ)) (word : List ℕ) → last_word first (words ++ word ∷ []) ≡ word
+pub last_behind : (first : List ℕ) (words : List (List ℕ)) (word : List ℕ) → last_word first (words ++ word ∷ []) ≡ word
 last_behind first [] word = refl
 last_behind first (w ∷ words) word = last_behind w words word
 
@@ -246,14 +246,14 @@ module _ (tracer : Tracer) (front : List ℕ) (seconds micros spaces : ℕ) (is 
       split_between 32 front shows
       ∙ ap (λ (words : List (List ℕ)). cut_at 32 front ++ words) (split_lacking 32 shows (clock_lacks seconds micros is.most is.six 32 (omega arith) (λ (e : ◌≡◌ {A = ℕ} 48 32). omega (arith, e)) (λ (e : ◌≡◌ {A = ℕ} 46 32). omega (arith, e))))
 
-  last_is : last_word [] (cut_at 32 timed) ≡ shows
+  pub last_is : last_word [] (cut_at 32 timed) ≡ shows
   last_is = ap (last_word []) timed_words ∙ last_behind [] (cut_at 32 front) shows
 
   -- no colon with a space behind it stands before
   clock_no_colon : Lacks 58 shows
   clock_no_colon = clock_lacks seconds micros is.most is.six 58 (omega arith) (λ (e : ◌≡◌ {A = ℕ} 48 58). omega (arith, e)) (λ (e : ◌≡◌ {A = ℕ} 46 58). omega (arith, e))
 
-  none_in_timed : HasNo mark timed
+  pub none_in_timed : HasNo mark timed
   none_in_timed = by front is.text
     where
       none_here : (text : List ℕ) → Lacks 58 text → (place : ℕ) → begins (drop place text) mark ≡ false

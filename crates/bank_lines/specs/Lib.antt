@@ -10,6 +10,7 @@ pub mod LogAlong
 pub mod LogKernel
 pub mod TraceHeads
 pub mod Parts
+pub mod PartsLeft
 pub mod TraceEvent
 pub mod Stamp
 pub mod Trace

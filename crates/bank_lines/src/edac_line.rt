@@ -6,7 +6,7 @@ ghost use Rattle.std.specs.Option.{option_map};
 ghost use Rattle.ras_klog.specs.Reading.{colon_number, is_empty, word};
 ghost use Rattle.bank_lines.specs.EdacLines.{driver_text, edac_line_of, edac_vendor, is_check, is_driver, is_of_edac};
 ghost use Rattle.bank_lines.specs.EdacLines.{edac_bank, edac_processor, edac_register, edac_start, edac_number};
-ghost use Rattle.bank_lines.specs.Steps.PartsLeft.{parts_in};
+ghost use Rattle.bank_lines.specs.PartsLeft.{parts_in};
 
 use crate::log_heads::{cut, is_number};
 use crate::parts::{Parts, value_after};

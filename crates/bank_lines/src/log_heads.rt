@@ -7,9 +7,10 @@ ghost use Rattle.bank_lines.specs.LogHeads.{after, are_digits, are_signs, has_di
 
 use ras_script::position_of;
 
-// The first place of a text within another. It is looked for by one of its bytes: a search for the
-// whole of it costs more to set up than a line to look through.
-pub(crate) fn mark_place(text: &[u8], within: &[u8]) -> Option<usize>
+/// Returns the first place of a text within another. Requires a text of at least one byte. The text
+/// is looked for by one of its bytes: a search for the whole of it costs more to set up than a line
+/// to look through.
+pub fn mark_place(text: &[u8], within: &[u8]) -> Option<usize>
     requires { 0 < length text.now }
     ensures place { result ≡ mark_place text.now within.now }
     ensures fits { IfSome result (λ place. place + length text.now ≤ length within.now) }

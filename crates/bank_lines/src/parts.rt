@@ -4,20 +4,20 @@ ghost use Rattle.std.specs.Prelude.{◌≡◌, ◌<◌, [], ◌∷◌, length, I
 ghost use Rattle.std.specs.List.{position};
 ghost use Rattle.std.specs.Option.{option_map, option_map_or};
 ghost use Rattle.bank_lines.specs.Parts.{after_spaces, cut_at, value_after};
-ghost use Rattle.bank_lines.specs.Steps.PartsLeft.{parts_in};
+ghost use Rattle.bank_lines.specs.PartsLeft.{parts_in};
 
 use ras_script::position_of;
 
-// The parts of a text that are left: what stands between the separators, empty parts too.
+/// The parts of a text that are left: what stands between the separators, empty parts too.
 #[derive(Clone, Copy)]
-pub(crate) struct Parts<'a> {
+pub struct Parts<'a> {
     separator: u8,
     rest: Option<&'a [u8]>,
 }
 
 impl<'a> Parts<'a> {
-    // All parts of a text.
-    pub(crate) fn new(separator: u8, text: &'a [u8]) -> Parts<'a>
+    /// Returns all parts of a text.
+    pub fn new(separator: u8, text: &'a [u8]) -> Parts<'a>
         ensures { parts_in result ≡ cut_at separator text.now }
     {
         Parts {
@@ -26,8 +26,8 @@ impl<'a> Parts<'a> {
         }
     }
 
-    // The next part.
-    pub(crate) fn next(&mut self) -> Option<&'a [u8]>
+    /// Returns the next part, and takes it.
+    pub fn next(&mut self) -> Option<&'a [u8]>
         ensures { MatchOption result ((parts_in self.old ≡ []) × (parts_in self.new ≡ []))
             (λ part. parts_in self.old ≡ part.now ∷ parts_in self.new) }
     {
@@ -69,10 +69,11 @@ pub(crate) fn after_spaces(text: &[u8]) -> &[u8]
     rest
 }
 
-// What follows a name that a text begins with. Most names are told apart by their first bytes.
+/// Returns what follows a name, if a text begins with the name. Most names are told apart by their
+/// first bytes.
 #[inline(always)]
 #[tactic(auto, using(crate::proofs::PartsLemmas::other_name))]
-pub(crate) fn value_after<'a>(name: &[u8], text: &'a [u8]) -> Option<&'a [u8]>
+pub fn value_after<'a>(name: &[u8], text: &'a [u8]) -> Option<&'a [u8]>
     ensures { option_map (λ value. value.now) result ≡ value_after name.now text.now }
 {
     match (name, text) {

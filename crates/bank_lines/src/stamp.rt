@@ -25,8 +25,9 @@ pub(crate) fn last_stamp(text: &[u8]) -> Option<u64>
     stamp
 }
 
-// The microseconds of a stamp, `<seconds>.<microseconds>:`. These have six digits.
-fn stamp_of(word: &[u8]) -> Option<u64>
+/// Returns the microseconds of a stamp, `<seconds>.<microseconds>:`, whose microseconds have six
+/// digits.
+pub fn stamp_of(word: &[u8]) -> Option<u64>
     ensures { result ≡ stamp_of word.now }
 {
     if word.len() <= 8 {

@@ -53,8 +53,8 @@ fn is_traced(before: &[u8]) -> bool
     }
 }
 
-// The last word of a text, words standing between spaces.
-fn last_word(text: &[u8]) -> &[u8]
+/// Returns the last word of a text. Words are between spaces.
+pub fn last_word(text: &[u8]) -> &[u8]
     ensures { result.now ≡ last_word [] (cut_at 32 text.now) }
 {
     let mut last: &[u8] = &[];
@@ -65,8 +65,8 @@ fn last_word(text: &[u8]) -> &[u8]
     last
 }
 
-// Whether a word is what a tracer's clock shows.
-fn is_count(word: &[u8]) -> bool
+/// Returns whether a word is what a tracer's clock shows.
+pub fn is_count(word: &[u8]) -> bool
     ensures { result ≡ is_count word.now }
 {
     word.len() > 3 && has_digit(word) && are_count_signs(word)

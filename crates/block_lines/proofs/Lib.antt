@@ -1,7 +1,7 @@
 mod KernelLemmas
-mod LineLemmas
+pub mod LineLemmas
 pub mod MarkLemmas
 mod PrintedLemmas
-mod ReadBackLemmas
+pub mod ReadBackLemmas
 mod TextLemmas
 mod ToldLemmas

@@ -19,7 +19,7 @@ use Rattle.block_lines.specs.declared.report.OpenReport.{OpenReport}
 
 -- ---- bytes
 
-abbrev AllBytes : List ℕ → Type 0
+abbrev pub AllBytes : List ℕ → Type 0
 AllBytes bytes = AllByRecursion (λ b. b < 256) bytes
 
 byte_small : (i n : ℕ) → byte_at i n < 256
@@ -30,16 +30,16 @@ low_bytes : (i k n : ℕ) → AllBytes (bytes_low_first i k n)
 low_bytes i zero n = tt
 low_bytes i (suc k) n = (byte_small i n, low_bytes (suc i) k n)
 
-joined : (xs ys : List ℕ) → AllBytes xs → AllBytes ys → AllBytes (xs ++ ys)
+pub joined : (xs ys : List ℕ) → AllBytes xs → AllBytes ys → AllBytes (xs ++ ys)
 joined [] ys one other = other
 joined (x ∷ xs) ys one other = (one.0, joined xs ys one.1 other)
 
-zeros : (k : ℕ) → AllBytes (replicate k 0)
+pub zeros : (k : ℕ) → AllBytes (replicate k 0)
 zeros zero = tt
 zeros (suc k) = (lit< tt, zeros k)
 
 -- a literal, by a test that computes
-literal : (xs : List ℕ) → list_all (λ b. nat_lt b 256) xs ≡ true → AllBytes xs
+pub literal : (xs : List ℕ) → list_all (λ b. nat_lt b 256) xs ≡ true → AllBytes xs
 literal [] all = tt
 literal (x ∷ xs) all = by (nat_lt x 256) refl all (λ rest. literal xs rest)
   where
@@ -48,15 +48,15 @@ literal (x ∷ xs) all = by (nat_lt x 256) refl all (λ rest. literal xs rest)
     by true less all rest = (grind (arith, nat_tests, less), rest all)
     by false less all rest = absurd cc
 
-u16_all : (n : ℕ) → AllBytes (u16_bytes n)
+pub u16_all : (n : ℕ) → AllBytes (u16_bytes n)
 unfolding u16_bytes
 u16_all n = low_bytes 0 2 n
 
-u32_all : (n : ℕ) → AllBytes (u32_bytes n)
+pub u32_all : (n : ℕ) → AllBytes (u32_bytes n)
 unfolding u32_bytes
 u32_all n = low_bytes 0 4 n
 
-u64_all : (n : ℕ) → AllBytes (u64_bytes n)
+pub u64_all : (n : ℕ) → AllBytes (u64_bytes n)
 unfolding u64_bytes
 u64_all n = low_bytes 0 8 n
 
@@ -93,42 +93,46 @@ section_all e h =
     (joined (address_bytes e) (location_bytes e.location) (address_all e) (location_all e.location))
     (kind_all e.kind h.kind)
 
-header_all : (severity : ℕ) → AllBytes (entry_header_bytes severity)
+pub header_all : (kind : List ℕ) (severity size : ℕ) → AllBytes kind → AllBytes (entry_header_bytes kind severity size)
 unfolding entry_header_bytes
-header_all severity =
-    let revision : List ℕ = 0 ∷ 3 ∷ 0 ∷ 0 ∷ 80 ∷ 0 ∷ 0 ∷ 0 ∷ [] in
-    joined (memory_type ++ u32_bytes severity ++ revision) (replicate 44 0)
-    (joined (memory_type ++ u32_bytes severity) revision
-    (joined memory_type (u32_bytes severity) (literal memory_type refl) (u32_all severity))
+header_all kind severity size bytes =
+    let revision : List ℕ = 0 ∷ 3 ∷ 0 ∷ 0 ∷ [] in
+    joined (kind ++ u32_bytes severity ++ revision ++ u32_bytes size) (replicate 44 0)
+    (joined (kind ++ u32_bytes severity ++ revision) (u32_bytes size)
+    (joined (kind ++ u32_bytes severity) revision
+    (joined kind (u32_bytes severity) bytes (u32_all severity))
     (literal revision refl))
+    (u32_all size))
     (zeros 44)
 
 entry_all : (e : MemoryError) → IsError e → AllBytes (error_entry_bytes e)
 unfolding error_entry_bytes
-entry_all e h = joined (entry_header_bytes e.severity) (memory_section_bytes e) (header_all e.severity) (section_all e h)
+entry_all e h =
+    joined (entry_header_bytes memory_type e.severity 80) (memory_section_bytes e)
+    (header_all memory_type e.severity 80 (literal memory_type refl)) (section_all e h)
 
 entries_all : (es : List MemoryError) → AllByRecursion IsError es → AllBytes (flat_map error_entry_bytes es)
 entries_all [] all = tt
 entries_all (e ∷ es) all = joined (error_entry_bytes e) (flat_map error_entry_bytes es) (entry_all e all.0) (entries_all es all.1)
 
-front_all : (severity count : ℕ) → AllBytes (block_front severity count)
+pub front_all : (severity count size : ℕ) → AllBytes (block_front severity count size)
 unfolding block_front
-front_all severity count =
-    joined (u32_bytes (made_status severity count) ++ replicate 8 0 ++ u32_bytes (152 * count)) (u32_bytes severity)
-    (joined (u32_bytes (made_status severity count) ++ replicate 8 0) (u32_bytes (152 * count))
+front_all severity count size =
+    joined (u32_bytes (made_status severity count) ++ replicate 8 0 ++ u32_bytes size) (u32_bytes severity)
+    (joined (u32_bytes (made_status severity count) ++ replicate 8 0) (u32_bytes size)
     (joined (u32_bytes (made_status severity count)) (replicate 8 0) (u32_all (made_status severity count)) (zeros 8))
-    (u32_all (152 * count)))
+    (u32_all size))
     (u32_all severity)
 
-front_long : (severity count : ℕ) → length (block_front severity count) ≡ 20
+pub front_long : (severity count size : ℕ) → length (block_front severity count size) ≡ 20
 unfolding block_front u32_bytes
-front_long severity count = refl
+front_long severity count size = refl
 
 block_all : (severity : ℕ) (es : List MemoryError) → AllByRecursion IsError es → AreBytes (block_bytes severity es)
 unfolding block_bytes
 block_all severity es all = (
-  omega (arith, front_long severity (length es), length-append (block_front severity (length es)) (flat_map error_entry_bytes es)),
-  joined (block_front severity (length es)) (flat_map error_entry_bytes es) (front_all severity (length es)) (entries_all es all),
+  omega (arith, front_long severity (length es) (152 * length es), length-append (block_front severity (length es) (152 * length es)) (flat_map error_entry_bytes es)),
+  joined (block_front severity (length es) (152 * length es)) (flat_map error_entry_bytes es) (front_all severity (length es) (152 * length es)) (entries_all es all),
 )
 
 -- ---- its line

@@ -129,13 +129,13 @@ flags_of a b c d e f v all =
 
 -- ---- a number that was cut out
 
-cut_16 : (place n : ℕ) (bytes : List ℕ) → take 2 (drop place bytes) ≡ u16_bytes n → n < 2 ^ 16 → number_at place 2 bytes ≡ n
+pub cut_16 : (place n : ℕ) (bytes : List ℕ) → take 2 (drop place bytes) ≡ u16_bytes n → n < 2 ^ 16 → number_at place 2 bytes ≡ n
 cut_16 place n bytes is fits = number_at-cut place 2 bytes ∙ ap (λ (l : List ℕ). number_at 0 2 l) is ∙ back_16 n fits
 
-cut_32 : (place n : ℕ) (bytes : List ℕ) → take 4 (drop place bytes) ≡ u32_bytes n → n < 2 ^ 32 → number_at place 4 bytes ≡ n
+pub cut_32 : (place n : ℕ) (bytes : List ℕ) → take 4 (drop place bytes) ≡ u32_bytes n → n < 2 ^ 32 → number_at place 4 bytes ≡ n
 cut_32 place n bytes is fits = number_at-cut place 4 bytes ∙ ap (λ (l : List ℕ). number_at 0 4 l) is ∙ back_32 n fits
 
-cut_64 : (place n : ℕ) (bytes : List ℕ) → take 8 (drop place bytes) ≡ u64_bytes n → n < 2 ^ 64 → number_at place 8 bytes ≡ n
+pub cut_64 : (place n : ℕ) (bytes : List ℕ) → take 8 (drop place bytes) ≡ u64_bytes n → n < 2 ^ 64 → number_at place 8 bytes ≡ n
 cut_64 place n bytes is fits = number_at-cut place 8 bytes ∙ ap (λ (l : List ℕ). number_at 0 8 l) is ∙ back_64 n fits
 
 valid_is : (bit v value : ℕ) (o : Option ℕ) → is_set bit v ≡ is_some o → value ≡ unwrap_or o 0 → if_valid bit v value ≡ o
@@ -299,14 +299,14 @@ length-entries (e ∷ es) = omega (arith, length-append (error_entry_bytes e) (f
 
 -- ---- a block
 
-status_small : (s count : ℕ) → count ≤ 12 → made_status s count < 2 ^ 32
+pub status_small : (s count : ℕ) → count ≤ 12 → made_status s count < 2 ^ 32
 status_small s count few = by (s == 2)
   where
     by : (b : Bool) → 16 * count + (if b then 2 else 1) < 2 ^ 32
     by true = omega arith
     by false = omega arith
 
-status_told : (s count : ℕ) → (made_status s count == 0) ≡ false
+pub status_told : (s count : ℕ) → (made_status s count == 0) ≡ false
 status_told s count = by (s == 2)
   where
     by : (b : Bool) → (16 * count + (if b then 2 else 1) == 0) ≡ false
@@ -314,7 +314,7 @@ status_told s count = by (s == 2)
     by false = grind (arith, nat_tests)
 
 -- a block by its status and its data
-block_by : (bytes : List ℕ) (status : ℕ) (entries : List (List ℕ)) → nat_lt (length bytes) 20 ≡ false → number_at 0 4 bytes ≡ status
+pub block_by : (bytes : List ℕ) (status : ℕ) (entries : List (List ℕ)) → nat_lt (length bytes) 20 ≡ false → number_at 0 4 bytes ≡ status
     → (number_at 0 4 bytes == 0) ≡ false → nat_lt (length bytes) (20 + number_at 12 4 bytes) ≡ false
     → entries_of (take (number_at 12 4 bytes) (drop 20 bytes)) ≡ Some entries → list_any is_refused entries ≡ false
     → block_of bytes ≡ Ok (record { status = status; entries = entries })

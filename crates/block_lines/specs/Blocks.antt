@@ -41,7 +41,7 @@ unfoldable pub memory_section_bytes : MemoryError → List ℕ
 memory_section_bytes error =
     address_bytes error ++ location_bytes error.location ++ kind_bytes error.kind
 
--- ---- an entry of 152 bytes: a header of 72 bytes, of revision 3.0, and a memory section
+-- ---- an entry: a header of 72 bytes, of revision 3.0, and a section
 
 -- the type of memory sections
 abbrev pub memory_type : List ℕ
@@ -49,12 +49,17 @@ memory_type =
     0x14 ∷ 0x11 ∷ 0xbc ∷ 0xa5 ∷ 0x64 ∷ 0x6f ∷ 0xde ∷ 0x4e ∷ 0xb8 ∷ 0x63 ∷ 0x3e ∷ 0x83 ∷ 0xed ∷ 0x7c ∷ 0x83 ∷ 0xb1 ∷ []
 
 -- the type, the severity, the revision, the length of the section; and no part number and no time
-unfoldable pub entry_header_bytes : ℕ → List ℕ
-entry_header_bytes severity =
-    memory_type ++ u32_bytes severity ++ (0 ∷ 3 ∷ 0 ∷ 0 ∷ 80 ∷ 0 ∷ 0 ∷ 0 ∷ []) ++ replicate 44 0
+unfoldable pub entry_header_bytes : List ℕ → ℕ → ℕ → List ℕ
+entry_header_bytes kind severity size =
+    kind ++ u32_bytes severity ++ (0 ∷ 3 ∷ 0 ∷ 0 ∷ []) ++ u32_bytes size ++ replicate 44 0
 
+-- the entry of a section of this type
+unfoldable pub section_entry_bytes : List ℕ → ℕ → List ℕ → List ℕ
+section_entry_bytes kind severity section = entry_header_bytes kind severity (length section) ++ section
+
+-- the entry of a memory error, of 152 bytes
 unfoldable pub error_entry_bytes : MemoryError → List ℕ
-error_entry_bytes error = entry_header_bytes error.severity ++ memory_section_bytes error
+error_entry_bytes error = entry_header_bytes memory_type error.severity 80 ++ memory_section_bytes error
 
 -- ---- a block
 
@@ -63,10 +68,16 @@ abbrev pub made_status : ℕ → ℕ → ℕ
 made_status severity count = 16 * count + (if severity == 2 then 2 else 1)
 
 -- the status, no raw data, the length of the data, the severity
-unfoldable pub block_front : ℕ → ℕ → List ℕ
-block_front severity count =
-    u32_bytes (made_status severity count) ++ replicate 8 0 ++ u32_bytes (152 * count) ++ u32_bytes severity
+unfoldable pub block_front : ℕ → ℕ → ℕ → List ℕ
+block_front severity count size =
+    u32_bytes (made_status severity count) ++ replicate 8 0 ++ u32_bytes size ++ u32_bytes severity
 
 -- the block of a report with this severity
 unfoldable pub block_bytes : ℕ → List MemoryError → List ℕ
-block_bytes severity errors = block_front severity (length errors) ++ flat_map error_entry_bytes errors
+block_bytes severity errors =
+    block_front severity (length errors) (152 * length errors) ++ flat_map error_entry_bytes errors
+
+-- the block of one error, which has this severity and a section of this type
+unfoldable pub section_block_bytes : List ℕ → ℕ → List ℕ → List ℕ
+section_block_bytes kind severity section =
+    block_front severity 1 (72 + length section) ++ section_entry_bytes kind severity section

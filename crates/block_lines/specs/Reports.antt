@@ -220,6 +220,10 @@ after_report r None = r
 after_report r (Some report) =
     record r { work = None; errors = []; sources = sources_after r report }
 
+-- after a block of this source that no line of a report gives: the open report stays
+abbrev pub with_source : Reporting → ℕ → Reporting
+with_source r source = record r { sources = sources_with r.sources source }
+
 -- whether a line ends the open report, if there is one
 abbrev pub is_end : Reporting → ReportLogLine → Bool
 is_end r line = option_map_or (λ report. is_ended_by report line.stamp line.marking) r.work false

@@ -53,6 +53,13 @@ abbrev pub table_text : List ℕ → ℕ → List ℕ
 table_text sources source =
     if is_listed sources source then [] else hest_line (kept_sources sources ++ source ∷ []) ++ 10 ∷ []
 
+-- the text of a block of any source, after its table if one is due; its number is its time stamp, and its time
+-- is the boot's and the time stamp together
+abbrev pub source_block_text : Reporting → ℕ → ℕ → List ℕ → List ℕ
+source_block_text r source number block =
+    table_text r.sources source
+    ++ line_text (asks.Report (Block r.boot (r.began + number / MICROSECONDS) source number block)) ++ 10 ∷ []
+
 -- the text of a report's block, if the report has errors, after its table if one is due
 abbrev pub block_text : Reporting → OpenReport → List ℕ
 block_text r report =

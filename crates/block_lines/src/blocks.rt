@@ -4,13 +4,18 @@ ghost use Rattle.std.specs.Prelude.{◌≡◌, ◌≤◌, ◌<◌, ◌++◌, len
 ghost use Rattle.std.specs.List.{flat_map};
 ghost use Rattle.block_lines.specs.Blocks.{address_bytes, block_bytes, error_entry_bytes, flag, block_front};
 ghost use Rattle.block_lines.specs.Blocks.{entry_header_bytes, kind_bytes, location_bytes, location_flags};
-ghost use Rattle.block_lines.specs.Blocks.{memory_section_bytes, validation_of};
+ghost use Rattle.block_lines.specs.Blocks.{memory_section_bytes, memory_type, section_block_bytes};
+ghost use Rattle.block_lines.specs.Blocks.{section_entry_bytes, validation_of};
 ghost use Rattle.block_lines.specs.Reports.{section_errors};
 
 use crate::memory::{ErrorLocation, MemoryError};
 use crate::report::{MOST_ERRORS, OpenSection};
 use ras_base::NoMemory;
 use ras_base::little_endian::{push_u16, push_u32, push_u64};
+
+/// The most bytes of a section in a block of its own: a line of script has no more than these and
+/// the block's other bytes, in hexadecimal.
+pub const LONGEST_SECTION: usize = 19_800;
 
 // The type of memory sections, as a block has it.
 const MEMORY_TYPE: [u8; 16] = [
@@ -47,21 +52,46 @@ fn push_both(
     ensures { OnOk result (bytes.new.items
         ≡ bytes.old.items ++ block_bytes severity (errors.now ++ others.now)) }
 {
-    push_front(bytes, severity, errors.len() + others.len())?;
+    let count = (errors.len() + others.len()) as u32;
+    push_front(bytes, severity, count, 152 * count)?;
     push_entries(bytes, errors)?;
     push_entries(bytes, others)
 }
 
-// Appends what is before the entries of a block.
+/// Appends the block of one error, which has this severity and a section of this type. Requires a
+/// section of at most `LONGEST_SECTION` bytes.
+///
+/// # Errors
+///
+/// `NoMemory`: only if memory runs out.
+#[tactic(auto, unfolding(crate::specs::Blocks::section_block_bytes, crate::specs::Blocks::section_entry_bytes))]
+pub fn push_section_block(
+    bytes: &mut Vec<u8>,
+    kind: &[u8; 16],
+    severity: u32,
+    section: &[u8],
+) -> Result<(), NoMemory>
+    requires { length section.now ≤ LONGEST_SECTION }
+    ensures { OnOk result (bytes.new.items
+        ≡ bytes.old.items ++ section_block_bytes kind.now severity section.now) }
+{
+    let size = section.len() as u32;
+    push_front(bytes, severity, 1, 72 + size)?;
+    push_header(bytes, kind, severity, size)?;
+    bytes.extend_from_slice(section)?;
+    Ok(())
+}
+
+// Appends what is before the entries of a block, which have this size together.
 #[tactic(auto, unfolding(crate::specs::Blocks::block_front))]
-fn push_front(bytes: &mut Vec<u8>, severity: u32, count: usize) -> Result<(), NoMemory>
+fn push_front(bytes: &mut Vec<u8>, severity: u32, count: u32, size: u32) -> Result<(), NoMemory>
     requires { count ≤ MOST_ERRORS }
-    ensures { OnOk result (bytes.new.items ≡ bytes.old.items ++ block_front severity count) }
+    ensures { OnOk result (bytes.new.items ≡ bytes.old.items ++ block_front severity count size) }
 {
     let kind = if severity == 2 { 2 } else { 1 };
-    push_u32(bytes, 16 * count as u32 + kind)?;
+    push_u32(bytes, 16 * count + kind)?;
     bytes.extend_from_slice(&[0u8; 8])?;
-    push_u32(bytes, 152 * count as u32)?;
+    push_u32(bytes, size)?;
     push_u32(bytes, severity)
 }
 
@@ -81,18 +111,25 @@ fn push_entries(bytes: &mut Vec<u8>, errors: &[MemoryError]) -> Result<(), NoMem
 fn push_entry(bytes: &mut Vec<u8>, error: &MemoryError) -> Result<(), NoMemory>
     ensures { OnOk result (bytes.new.items ≡ bytes.old.items ++ error_entry_bytes error.now) }
 {
-    push_header(bytes, error.severity)?;
+    push_header(bytes, &MEMORY_TYPE, error.severity, 80)?;
     push_section(bytes, error)
 }
 
-// Appends the header of an entry.
+// Appends the header of an entry, whose section has this type and this size.
 #[tactic(auto, unfolding(crate::specs::Blocks::entry_header_bytes))]
-fn push_header(bytes: &mut Vec<u8>, severity: u32) -> Result<(), NoMemory>
-    ensures { OnOk result (bytes.new.items ≡ bytes.old.items ++ entry_header_bytes severity) }
+fn push_header(
+    bytes: &mut Vec<u8>,
+    kind: &[u8; 16],
+    severity: u32,
+    size: u32,
+) -> Result<(), NoMemory>
+    ensures { OnOk result (bytes.new.items
+        ≡ bytes.old.items ++ entry_header_bytes kind.now severity size) }
 {
-    bytes.extend_from_slice(&MEMORY_TYPE)?;
+    bytes.extend_from_slice(kind)?;
     push_u32(bytes, severity)?;
-    bytes.extend_from_slice(&[0, 3, 0, 0, 80, 0, 0, 0])?;
+    bytes.extend_from_slice(&[0, 3, 0, 0])?;
+    push_u32(bytes, size)?;
     bytes.extend_from_slice(&[0u8; 44])?;
     Ok(())
 }

@@ -1,11 +1,17 @@
 //! The command `lines ghes` as a filter of lines.
 
-ghost use Rattle.std.specs.Prelude.{◌≡◌, ◌≤◌};
+ghost use Rattle.std.specs.Prelude.{◌≡◌, ◌≤◌, ◌+◌, ◌++◌, ◌∷◌, [], OnErr, OnOk};
 ghost use Rattle.bank_lines.specs.declared.log_line.TheConstants.{LAST_SECOND};
-ghost use Rattle.block_lines.specs.Filter.{block_filter, blocks_make};
+ghost use Rattle.block_lines.specs.Filter.{blocks_make};
+ghost use Rattle.block_lines.specs.LogLines.{report_log_line};
+ghost use Rattle.block_lines.specs.Reports.{no_reports, reporting_after, with_source};
+ghost use Rattle.block_lines.specs.Texts.{blocks_text_at, source_block_text, unread_report_line};
+ghost use Rattle.ras_script.specs.declared.reader.TheConstants.{LONGEST_SCRIPT};
 
 use crate::log_line::log_line;
+use crate::report::Remark;
 use crate::reports::Reports;
+use crate::text::push_remark;
 use line_filters::LineFilter;
 use ras_base::NoMemory;
 use ras_script::LineRefused;
@@ -41,13 +47,85 @@ impl BlockFilter {
     /// the second since 1970 at which the boot began. Requires `began` to be at most `LAST_SECOND`.
     pub fn new(alloc: Global, boot: u64, began: u64) -> BlockFilter
         requires { began ≤ LAST_SECOND }
-        ensures makes { blocks_make result ≡ block_filter boot began }
-        ensures taken { result.taken ≡ 0 }
+        ensures { result ≡ record { reports = no_reports boot began; taken = 0 } }
     {
         BlockFilter {
             reports: Reports::new(alloc, boot, began),
             taken: 0,
         }
+    }
+
+    /// Takes a line of the log, and appends its text.
+    ///
+    /// # Errors
+    ///
+    /// `NoMemory`: only if memory runs out.
+    pub fn take_line(
+        &mut self,
+        alloc: Global,
+        line: &[u8],
+        text: &mut Vec<u8>,
+    ) -> Result<(), NoMemory>
+        requires { self.old.taken ≤ LONGEST_SCRIPT }
+        ensures text { OnOk result (text.new.items ≡ text.old.items
+            ++ blocks_text_at self.old.reports (self.old.taken + 1) (report_log_line line.now)) }
+        ensures after { OnOk result (self.new ≡ record {
+          reports = reporting_after self.old.reports (report_log_line line.now);
+          taken = self.old.taken + 1;
+        }) }
+        ensures kept { OnErr result (self.new.taken ≡ self.old.taken) }
+    {
+        self.reports
+            .take_line(alloc, &log_line(line), self.taken + 1, text)?;
+        self.taken += 1;
+        Ok(())
+    }
+
+    /// Takes a line that isn't the log's and gives this block: appends the block's line, after a
+    /// table if the last table lacks the source. The reports stay as they are. `number` is the
+    /// line's time stamp in microseconds since the boot.
+    ///
+    /// # Errors
+    ///
+    /// `NoMemory`: only if memory runs out.
+    pub fn take_block(
+        &mut self,
+        alloc: Global,
+        source: u16,
+        number: u64,
+        block: &[u8],
+        text: &mut Vec<u8>,
+    ) -> Result<(), NoMemory>
+        requires { self.old.taken ≤ LONGEST_SCRIPT }
+        ensures text { OnOk result (text.new.items
+            ≡ text.old.items ++ source_block_text self.old.reports source number block.now) }
+        ensures after { OnOk result (self.new ≡ record {
+          reports = with_source self.old.reports source;
+          taken = self.old.taken + 1;
+        }) }
+        ensures kept { OnErr result (self.new.taken ≡ self.old.taken) }
+    {
+        self.reports.take_block(alloc, source, number, block, text)?;
+        self.taken += 1;
+        Ok(())
+    }
+
+    /// Takes a line that isn't the log's and can't be read: appends a comment with the line's
+    /// number. The reports stay as they are.
+    ///
+    /// # Errors
+    ///
+    /// `NoMemory`: only if memory runs out.
+    pub fn take_unread(&mut self, text: &mut Vec<u8>) -> Result<(), NoMemory>
+        requires { self.old.taken ≤ LONGEST_SCRIPT }
+        ensures text { OnOk result (text.new.items
+            ≡ text.old.items ++ (unread_report_line (self.old.taken + 1) ++ 10 ∷ [])) }
+        ensures after { OnOk result (self.new ≡ record self.old { taken = self.old.taken + 1 }) }
+        ensures kept { OnErr result (self.new.taken ≡ self.old.taken) }
+    {
+        push_remark(text, Remark::Unread, self.taken + 1)?;
+        self.taken += 1;
+        Ok(())
     }
 }
 
@@ -61,12 +139,8 @@ impl LineFilter for BlockFilter {
     ghost none = { λ _. refl };
 
     fn take(&mut self, alloc: Global, line: &[u8], text: &mut Vec<u8>) -> Result<(), LineRefused> {
-        let told = log_line(line);
-        match self.reports.take_line(alloc, &told, self.taken + 1, text) {
-            Ok(()) => {
-                self.taken += 1;
-                Ok(())
-            }
+        match self.take_line(alloc, line, text) {
+            Ok(()) => Ok(()),
             Err(NoMemory) => Err(LineRefused::NoMemory),
         }
     }

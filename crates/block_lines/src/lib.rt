@@ -18,6 +18,7 @@ mod sources;
 mod text;
 mod told_laws;
 
+pub use blocks::{LONGEST_SECTION, push_section_block};
 pub use filter::BlockFilter;
 pub use kernel_laws::{printed_reports_are_read, printed_texts_are_read};
 pub use laws::{made_blocks_are_read_back, made_lines_are_read_back};

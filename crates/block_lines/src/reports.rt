@@ -1,13 +1,13 @@
 //! The open report, its errors, and the sources seen so far.
 
-ghost use Rattle.std.specs.Prelude.{◌≡◌, ◌≤◌, [], ◌∷◌, ◌++◌, length, Some, OnErr, OnOk};
-ghost use Rattle.bank_lines.specs.declared.log_line.TheConstants.{LAST_SECOND};
+ghost use Rattle.std.specs.Prelude.{◌≡◌, ◌+◌, ◌/◌, ◌≤◌, [], ◌∷◌, ◌++◌, length, Some, OnErr, OnOk};
+ghost use Rattle.bank_lines.specs.declared.log_line.TheConstants.{LAST_SECOND, MICROSECONDS};
 ghost use Rattle.block_lines.specs.Reports.{after_report, begun_at, begun_work, errors_after};
 ghost use Rattle.block_lines.specs.Reports.{going_remark, gone_on, has_error, is_end, line_remark};
 ghost use Rattle.block_lines.specs.Reports.{line_taken, no_reports, own_remark, own_taken};
-ghost use Rattle.block_lines.specs.Reports.{reporting_after, start_remark};
+ghost use Rattle.block_lines.specs.Reports.{reporting_after, start_remark, with_source};
 ghost use Rattle.block_lines.specs.Texts.{blocks_text_at, cut_report_line, end_text, ghes_line};
-ghost use Rattle.block_lines.specs.Texts.{report_text, rest_text, table_text};
+ghost use Rattle.block_lines.specs.Texts.{report_text, rest_text, source_block_text, table_text};
 
 use crate::blocks::push_block;
 use crate::log_line::{Marking, ReportLogLine};
@@ -89,6 +89,24 @@ impl Reports {
         let remark = self.remark(line);
         self.take(line)?;
         push_remark(text, remark, number)
+    }
+
+    // Takes a block of any source that no line of a report gives, and appends its line.
+    pub(crate) fn take_block(
+        &mut self,
+        alloc: Global,
+        source: u16,
+        number: u64,
+        block: &[u8],
+        text: &mut Vec<u8>,
+    ) -> Result<(), NoMemory>
+        ensures text { OnOk result (text.new.items
+            ≡ text.old.items ++ source_block_text self.old source number block.now) }
+        ensures state { OnOk result (self.new ≡ with_source self.old source) }
+    {
+        self.push_source(alloc, source, text)?;
+        push_ghes(alloc, text, self.block_name(source, number), block)?;
+        keep_source(&mut self.sources, source)
     }
 
     // Returns whether a line ends the open report.
@@ -273,13 +291,29 @@ impl Reports {
     {
         let mut block = Vec::new(alloc);
         push_block(&mut block, report.severity, &self.errors, report.section)?;
-        let name = BlockName {
+        push_ghes(
+            alloc,
+            text,
+            self.block_name(report.source, report.begun),
+            &block,
+        )
+    }
+
+    // Returns the name of a block, whose number is its time stamp, and its time.
+    fn block_name(&self, source: u16, number: u64) -> BlockName
+        ensures { result ≡ record {
+          boot = self.now.boot;
+          seconds = self.now.began + number / MICROSECONDS;
+          source = source;
+          number = number;
+        } }
+    {
+        BlockName {
             boot: self.boot,
-            seconds: self.began + report.begun / MICROSECONDS,
-            source: report.source,
-            number: report.begun,
-        };
-        push_ghes(alloc, text, name, &block)
+            seconds: self.began + number / MICROSECONDS,
+            source,
+            number,
+        }
     }
 }
 

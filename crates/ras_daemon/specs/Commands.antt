@@ -9,8 +9,8 @@ use Rattle.ras_exit.specs.StopLine.{stop_line}
 use Rattle.ras_exit.specs.Telling.{OnlyText, PrintMoment, Tells}
 use Rattle.bank_lines.specs.LogFilter.{log_filter}
 use Rattle.bank_lines.specs.Filter.{trace_filter}
-use Rattle.block_lines.specs.Filter.{block_filter}
 use Rattle.cper_pcie.specs.Filter.{pcie_filter}
+use Rattle.event_lines.specs.Filter.{report_filter}
 use Rattle.line_filters.specs.Filters.{Filters, IsFilterExit, OfBoth, StopsFiltering}
 use Rattle.mce_records.specs.Printing.{IsRecordExit, PrintsText, StopsPrinting}
 use Rattle.mce_records.specs.Records.{record_output}
@@ -61,8 +61,8 @@ ByTask exit (Some (KlogLines boot cap)) script left before now old new =
     Leaves (OfBoth (Filters (log_filter boot cap) exit) script left before now)
     (StopsFiltering (log_filter boot cap) script before old new) before now old new
 ByTask exit (Some (GhesLines boot began)) script left before now old new =
-    Leaves (OfBoth (Filters (block_filter boot began) exit) script left before now)
-    (StopsFiltering (block_filter boot began) script before old new) before now old new
+    Leaves (OfBoth (Filters (report_filter boot began) exit) script left before now)
+    (StopsFiltering (report_filter boot began) script before old new) before now old new
 ByTask exit (Some (MceLine boot)) script left before now old new =
     Leaves (IfSome script (λ input. Relates (PrintsText (record_output boot input) exit) before now))
     (StopsPrinting boot script old new) before now old new

@@ -28,9 +28,9 @@ use crate::reporting::report;
 use crate::running::run;
 use crate::{RasWord, Task, task_of};
 use bank_lines::{LogFilter, TraceFilter};
-use block_lines::BlockFilter;
 use board_core::{Board, Source};
 use cper_pcie::PcieFilter;
+use event_lines::ReportFilter;
 use line_filters::filter_lines;
 use mce_records::print_record;
 use ras_exit::{Exit, usage_line};
@@ -107,7 +107,7 @@ pub fn rasd<S: Source, B: Board>(
             filter_lines(alloc, &mut filter, source, board)
         }
         Some(Task::GhesLines { boot, began }) => {
-            let mut filter = BlockFilter::new(alloc, boot, began);
+            let mut filter = ReportFilter::new(alloc, boot, began);
             filter_lines(alloc, &mut filter, source, board)
         }
         Some(Task::MceLine { boot }) => print_record(alloc, boot, source, board),

@@ -1,7 +1,7 @@
 use Rattle.std.proofs.Common.{◌≡◌, length}
 use Rattle.std.specs.List.{list_all}
 use Rattle.ras_klog.specs.Reading.{is_empty}
-use Rattle.bank_lines.specs.Steps.PartsLeft.{parts_in}
+use Rattle.bank_lines.specs.PartsLeft.{parts_in}
 use Rattle.bank_lines.proofs.edac_line.are_empty.Given as goal
 
 -- the words that were taken are empty

@@ -2,7 +2,7 @@ use Rattle.std.proofs.Common.{◌≡◌, length}
 use Rattle.ras_script.specs.Lines.{without_last}
 use Rattle.bank_lines.specs.TraceEvent.{fields_after, no_fields}
 use Rattle.bank_lines.specs.Parts.{cut_at}
-use Rattle.bank_lines.specs.Steps.PartsLeft.{parts_in}
+use Rattle.bank_lines.specs.PartsLeft.{parts_in}
 use Rattle.bank_lines.proofs.event.event_in.Given as goal
 
 abbrev pub invariant-loop-part : goal.invariant-loop-part

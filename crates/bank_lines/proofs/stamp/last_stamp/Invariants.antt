@@ -1,7 +1,7 @@
 use Rattle.std.proofs.Common.{◌≡◌, None, length}
 use Rattle.bank_lines.specs.Parts.{cut_at}
 use Rattle.bank_lines.specs.Stamp.{last_stamp}
-use Rattle.bank_lines.specs.Steps.PartsLeft.{parts_in}
+use Rattle.bank_lines.specs.PartsLeft.{parts_in}
 use Rattle.bank_lines.proofs.stamp.last_stamp.Given as goal
 
 abbrev pub invariant-loop-word : goal.invariant-loop-word

@@ -1,7 +1,7 @@
 use Rattle.std.proofs.Common.{◌≡◌, [], length}
 use Rattle.bank_lines.specs.Parts.{cut_at}
 use Rattle.bank_lines.specs.Trace.{last_word}
-use Rattle.bank_lines.specs.Steps.PartsLeft.{parts_in}
+use Rattle.bank_lines.specs.PartsLeft.{parts_in}
 use Rattle.bank_lines.proofs.trace.last_word.Given as goal
 
 abbrev pub invariant-loop-word : goal.invariant-loop-word

@@ -1,0 +1,5 @@
+mod FilterLemmas
+pub mod FlagLemmas
+mod AerLemmas
+mod LineLemmas
+pub mod SectionLemmas

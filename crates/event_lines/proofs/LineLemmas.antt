@@ -1,0 +1,156 @@
+-- A line that has an event, as tracers print it, is found.
+use Rattle.std.proofs.Common.{◌≡◌, ℕ, zero, suc, ◌+◌, ◌*◌, ◌<◌, ◌==◌, Bool, true, false, not, List, [], ◌∷◌, ◌++◌, codes, decimal, take, drop, length, refl, sym, ap, ◌∙◌, arith, append_assoc, length-append, Option, Some}
+use Rattle.std.specs.Prelude.{replicate, unwrap_or}
+use Rattle.std.proofs.Math.Seq.{take-append_seam}
+use Rattle.std.proofs.lemmas.Bool.Decides.{nat_tests}
+use Rattle.std.proofs.lemmas.List.{drop_at}
+use Rattle.std.specs.List.{prefix_len}
+use Rattle.std.specs.Option.{option_map_or}
+use Rattle.ras_klog.specs.Reading.{provided, read_then}
+use Rattle.ras_script.proofs.LineAndWordLemmas.{split_between, split_lacking}
+use Rattle.ras_script.specs.SplittingLaws.{Lacks}
+use Rattle.bank_lines.specs.Kernel.{padded}
+use Rattle.bank_lines.specs.LogHeads.{mark_place, without_spaces}
+use Rattle.bank_lines.specs.Parts.{cut_at, value_after}
+use Rattle.bank_lines.specs.Stamp.{stamp_of}
+use Rattle.bank_lines.specs.Trace.{is_count, last_word}
+use Rattle.bank_lines.specs.TraceHeads.{IsFront, Tracer, clock, perf, trace_cmd, trace_pipe}
+use Rattle.bank_lines.proofs.LogMarkLemmas.{first_behind}
+use Rattle.bank_lines.proofs.NumeralLemmas.{lack_both}
+use Rattle.bank_lines.proofs.TraceHeadLemmas.{clock_lacks, counts, last_behind, last_is, none_in_timed, stamp_read}
+use Rattle.event_lines.specs.Aer.{aer_event_of}
+use Rattle.event_lines.specs.Kernel.{IsEvent, PrintedAer, aer_line, aer_text, device_text, event_head, event_of, flags_text, header_text, ras_before, severity_text}
+use Rattle.event_lines.specs.Traced.{clock_place, event_behind, found_event, line_event_of, named_text, stamp_at}
+use Rattle.event_lines.specs.declared.traced.LineEvent.TheVariants.{Absent, Found}
+use Rattle.event_lines.proofs.AerLemmas.{device_lacks_space, text_read}
+
+-- ---- spaces
+
+passes : (text : List ℕ) → without_spaces (32 ∷ text) ≡ without_spaces text
+passes text =
+    let next : 1 + prefix_len (λ b. not (not (b == 32))) text ≡ suc (prefix_len (λ b. not (not (b == 32))) text) = omega arith in
+    ap (λ (n : ℕ). drop n (32 ∷ text)) next
+
+all_passed : (spaces : ℕ) (text : List ℕ) → without_spaces (replicate spaces 32 ++ text) ≡ without_spaces text
+all_passed zero text = refl
+all_passed (suc n) text = passes (replicate n 32 ++ text) ∙ all_passed n text
+
+no_space : (word rest : List ℕ) → Lacks 32 word → 0 < length word → without_spaces (word ++ rest) ≡ word ++ rest
+no_space [] rest lacks some = absurd (omega (arith, some))
+no_space (b ∷ word) rest lacks some =
+    let other : (b == 32) ≡ false = grind (arith, nat_tests, lacks.0) in
+    rw other refl
+
+-- ---- a line
+
+module _ (tracer : Tracer) (front : List ℕ) (seconds micros spaces more : ℕ) (p : PrintedAer)
+    (is : IsFront front seconds micros) (within : IsEvent (event_of p)) where
+  abbrev shows : List ℕ
+  shows = clock seconds micros
+
+  -- up to the colon, and what follows the space behind it
+  abbrev timed : List ℕ
+  timed = front ++ 32 ∷ shows
+
+  abbrev text : List ℕ
+  text = codes "aer_event: " ++ (replicate more 32 ++ aer_text p)
+
+  abbrev named : List ℕ
+  named = ras_before tracer ++ text
+
+  abbrev behind : List ℕ
+  behind = replicate spaces 32 ++ named
+
+  abbrev line : List ℕ
+  line = aer_line (event_head tracer front seconds micros spaces) more p
+
+  line_is : line ≡ timed ++ (codes ": " ++ behind)
+  line_is =
+      let tail : List ℕ = replicate spaces 32 ++ ras_before tracer in
+      append_assoc front (32 ∷ (shows ++ 58 ∷ 32 ∷ tail)) text
+      ∙ ap (λ (rest : List ℕ). front ++ 32 ∷ rest) (append_assoc shows (58 ∷ 32 ∷ tail) text)
+      ∙ ap (λ (rest : List ℕ). front ++ 32 ∷ (shows ++ 58 ∷ 32 ∷ rest)) (append_assoc (replicate spaces 32) (ras_before tracer) text)
+      ∙ sym (append_assoc front (32 ∷ shows) (codes ": " ++ behind))
+
+  placed : mark_place (codes ": ") line ≡ Some (length timed)
+  placed =
+      ap (mark_place (codes ": ")) line_is
+      ∙ first_behind (codes ": ") timed behind (none_in_timed tracer front seconds micros spaces is) (omega arith) ((λ (e : ◌≡◌ {A = ℕ} 32 58). omega (arith, e)), tt)
+
+  timed_front : take (length timed) line ≡ timed
+  timed_front = ap (take (length timed)) line_is ∙ take-append_seam timed (codes ": " ++ behind)
+
+  counted : is_count (last_word [] (cut_at 32 (take (length timed) line))) ≡ true
+  counted =
+      ap (λ (front : List ℕ). is_count (last_word [] (cut_at 32 front))) timed_front
+      ∙ ap is_count (last_is tracer front seconds micros spaces is)
+      ∙ counts seconds micros is.most is.six
+
+  place_is : clock_place line ≡ Some (length timed)
+  place_is =
+      ap (λ (o : Option ℕ). read_then o (λ place. provided (is_count (last_word [] (cut_at 32 (take place line)))) (Some place))) placed
+      ∙ ap (λ (holds : Bool). provided holds (Some (length timed))) counted
+
+  -- the clock's word with its colon
+  abbrev stamp : List ℕ
+  stamp = shows ++ 58 ∷ []
+
+  stamp_lacks : Lacks 32 stamp
+  stamp_lacks =
+      lack_both 32 shows (58 ∷ []) (clock_lacks seconds micros is.most is.six 32 (omega arith) (λ (e : ◌≡◌ {A = ℕ} 48 32). omega (arith, e)) (λ (e : ◌≡◌ {A = ℕ} 46 32). omega (arith, e)))
+      ((λ (e : ◌≡◌ {A = ℕ} 58 32). omega (arith, e)), tt)
+
+  split : line ≡ (timed ++ 58 ∷ []) ++ (32 ∷ behind)
+  split = line_is ∙ sym (append_assoc timed (58 ∷ []) (32 ∷ behind))
+
+  one_more : length timed + 1 ≡ length (timed ++ 58 ∷ [])
+  one_more = omega (arith, length-append timed (58 ∷ []))
+
+  stamped_front : take (length timed + 1) line ≡ front ++ 32 ∷ stamp
+  stamped_front =
+      ap (λ (n : ℕ). take n line) one_more
+      ∙ ap (take (length (timed ++ 58 ∷ []))) split
+      ∙ take-append_seam (timed ++ 58 ∷ []) (32 ∷ behind)
+      ∙ append_assoc front (32 ∷ shows) (58 ∷ [])
+
+  stamp_is : stamp_at (length timed) line ≡ Some (1000000 * seconds + micros)
+  stamp_is =
+      ap (λ (front : List ℕ). stamp_of (last_word [] (cut_at 32 front))) stamped_front
+      ∙ ap (λ (words : List (List ℕ)). stamp_of (last_word [] words)) (split_between 32 front stamp)
+      ∙ ap (λ (words : List (List ℕ)). stamp_of (last_word [] (cut_at 32 front ++ words))) (split_lacking 32 stamp stamp_lacks)
+      ∙ ap stamp_of (last_behind [] (cut_at 32 front) stamp)
+      ∙ stamp_read seconds micros is.most is.six
+
+  rest_is : drop (length timed + 1) line ≡ 32 ∷ behind
+  rest_is = ap (drop (length timed + 1)) split ∙ drop_at (timed ++ 58 ∷ []) (32 ∷ behind) (length timed + 1) (sym one_more)
+
+  abbrev without_system : List ℕ → List ℕ
+  without_system text = unwrap_or (value_after (codes "ras:") text) text
+
+  system_passed : (t : Tracer) → without_system (without_spaces (ras_before t ++ text)) ≡ text
+  system_passed trace_pipe = refl
+  system_passed trace_cmd = refl
+  system_passed perf = refl
+
+  named_is : named_text (length timed) line ≡ text
+  named_is =
+      ap (λ (rest : List ℕ). without_system (without_spaces rest)) rest_is
+      ∙ ap without_system (passes behind ∙ all_passed spaces named)
+      ∙ system_passed tracer
+
+  unspaced : without_spaces (aer_text p) ≡ aer_text p
+  unspaced =
+      let device : List ℕ = device_text p.device in
+      let segment : List ℕ = padded 4 p.device.segment in
+      let named_text_of : List ℕ = codes " PCIe Bus Error: severity=" ++ (severity_text p.severity ++ (codes ", " ++ (flags_text p ++ (codes ", TLP Header=" ++ header_text p.header)))) in
+      let buses : List ℕ = padded 2 p.device.bus ++ 58 ∷ (padded 2 p.device.device ++ 46 ∷ decimal p.device.function) in
+      no_space device named_text_of (device_lacks_space p.device within.device)
+      (omega (arith, length-append segment (58 ∷ buses)))
+
+  pub line_read : line_event_of line ≡ Found (record { stamp = 1000000 * seconds + micros; event = event_of p })
+  line_read =
+      ap (λ (o : Option ℕ). option_map_or (λ place. event_behind (stamp_at place line) (named_text place line)) o Absent) place_is
+      ∙ ap (λ (o : Option ℕ). event_behind o (named_text (length timed) line)) stamp_is
+      ∙ ap (event_behind (Some (1000000 * seconds + micros))) named_is
+      ∙ ap (λ (text : List ℕ). found_event (Some (1000000 * seconds + micros)) (aer_event_of text)) (all_passed more (aer_text p) ∙ unspaced)
+      ∙ ap (found_event (Some (1000000 * seconds + micros))) (text_read p within)

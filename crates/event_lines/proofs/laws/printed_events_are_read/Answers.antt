@@ -1,0 +1,9 @@
+use Rattle.event_lines.proofs.AerLemmas.{text_read}
+use Rattle.event_lines.proofs.LineLemmas.{line_read}
+use Rattle.event_lines.proofs.laws.printed_events_are_read.Goals as goal
+
+pub returns-clause-text : goal.returns-clause-text
+returns-clause-text c = λ p within. text_read p within
+
+pub returns-clause-line : goal.returns-clause-line
+returns-clause-line c = λ tracer front seconds micros spaces more p is within. line_read tracer front seconds micros spaces more p is within

@@ -1,0 +1,71 @@
+-- The lines of script that `lines ghes` makes of the lines of a kernel log and of a trace.
+use Rattle.std.specs.Prelude.{ℕ, ◌+◌, List, [], ◌∷◌, ◌++◌, Result, Ok}
+use Rattle.line_filters.specs.Filter.{Filter}
+use Rattle.ras_script.specs.declared.line.LineRefused.{LineRefused}
+use Rattle.block_lines.specs.Blocks.{section_block_bytes}
+use Rattle.block_lines.specs.Filter.{BlockProgress}
+use Rattle.block_lines.specs.LogLines.{report_log_line}
+use Rattle.block_lines.specs.Reports.{Reporting, no_reports, reporting_after, with_source}
+use Rattle.block_lines.specs.Texts.{blocks_text_at, rest_text, source_block_text, unread_report_line}
+use Rattle.event_lines.specs.Aer.{cper_severity}
+use Rattle.event_lines.specs.PcieBytes.{pcie_section_bytes, pcie_type}
+use Rattle.event_lines.specs.Traced.{line_event_of}
+use Rattle.event_lines.specs.declared.aer.AerEvent.{AerEvent}
+use Rattle.event_lines.specs.declared.filter.TheConstants.{TRACE_SOURCE}
+use Rattle.event_lines.specs.declared.traced.FoundEvent.{FoundEvent}
+use Rattle.event_lines.specs.declared.traced.LineEvent.{LineEvent}
+use Rattle.event_lines.specs.declared.traced.LineEvent.TheVariants.{Absent, Unread, Found}
+
+-- ---- an event
+
+-- the block of an event
+abbrev pub event_block : AerEvent → List ℕ
+event_block event = section_block_bytes pcie_type (cper_severity event.severity) (pcie_section_bytes event)
+
+-- the line of its block, after a table if one is due
+abbrev pub event_text : Reporting → FoundEvent → List ℕ
+event_text r found = source_block_text r TRACE_SOURCE found.stamp (event_block found.event)
+
+-- after a line with an event: the reports of the log stay as they are
+abbrev pub after_event : BlockProgress → BlockProgress
+after_event p = record { reports = with_source p.reports TRACE_SOURCE; taken = p.taken + 1 }
+
+-- ---- a line
+
+abbrev pub text_by : BlockProgress → List ℕ → LineEvent → List ℕ
+text_by p line Absent = blocks_text_at p.reports (p.taken + 1) (report_log_line line)
+text_by p line Unread = unread_report_line (p.taken + 1) ++ 10 ∷ []
+text_by p line (Found found) = event_text p.reports found
+
+abbrev pub after_by : BlockProgress → List ℕ → LineEvent → BlockProgress
+after_by p line Absent =
+    record { reports = reporting_after p.reports (report_log_line line); taken = p.taken + 1 }
+after_by p line Unread = record p { taken = p.taken + 1 }
+after_by p line (Found found) = after_event p
+
+-- the text of a line, and the state of the filter after it
+abbrev pub report_text_at : BlockProgress → List ℕ → List ℕ
+report_text_at p line = text_by p line (line_event_of line)
+
+abbrev pub after_line : BlockProgress → List ℕ → BlockProgress
+after_line p line = after_by p line (line_event_of line)
+
+-- ---- the filter
+
+-- the text of each line; no line is refused
+abbrev pub report_answers : BlockProgress → List (List ℕ) → List (Result (List ℕ) LineRefused)
+report_answers p [] = []
+report_answers p (line ∷ lines) = Ok (report_text_at p line) ∷ report_answers (after_line p line) lines
+
+-- the text after all lines: about a report of the log that none of them ended
+abbrev pub report_rest : BlockProgress → List (List ℕ) → List ℕ
+report_rest p [] = rest_text p.reports
+report_rest p (line ∷ lines) = report_rest (after_line p line) lines
+
+-- the filter that goes on from here
+abbrev pub reports_make : BlockProgress → Filter
+reports_make p = record { answers = report_answers p; rest = report_rest p; last = λ lines. [] }
+
+-- the filter for the log and the trace of a boot that began at this second
+abbrev pub report_filter : ℕ → ℕ → Filter
+report_filter boot began = reports_make (record { reports = no_reports boot began; taken = 0 })

@@ -1,0 +1,116 @@
+//! The command `lines ghes` as a filter of lines.
+
+ghost use Rattle.std.specs.Prelude.{◌≡◌, ◌≤◌, ◌++◌, OnErr, OnOk};
+ghost use Rattle.bank_lines.specs.declared.log_line.TheConstants.{LAST_SECOND};
+ghost use Rattle.event_lines.specs.Filter.{after_event, after_line, event_text, report_filter};
+ghost use Rattle.event_lines.specs.Filter.{report_text_at, reports_make};
+ghost use Rattle.ras_script.specs.declared.reader.TheConstants.{LONGEST_SCRIPT};
+
+use crate::pcie_bytes::{PCIE_TYPE, push_pcie_section};
+use crate::traced::{FoundEvent, LineEvent, line_event};
+use block_lines::{BlockFilter, push_section_block};
+use line_filters::LineFilter;
+use ras_base::NoMemory;
+use ras_script::LineRefused;
+use std::alloc::Global;
+use std::marker::Model;
+
+/// The source of all blocks that are made of trace events: the number by which ACPI says that there
+/// is no source, so no source of the firmware has it.
+pub const TRACE_SOURCE: u16 = 65_535;
+
+/// Converts the lines of a kernel log and of a trace, in any order, to lines of script.
+///
+/// A line of a trace that has the event of a hardware error becomes a line `ghes` at once, after a
+/// line `hest` if the last table lacks `TRACE_SOURCE`. If it can't be read, or has no time stamp, it
+/// becomes a comment. Every other line is taken as a line of the log. No line is refused.
+#[derive(Drop)]
+pub struct ReportFilter {
+    log: BlockFilter,
+}
+
+impl Model for ReportFilter {
+    ghost use Rattle.block_lines.specs.Filter.{BlockProgress};
+
+    ghost Value = { BlockProgress };
+
+    ghost view = { λ f. f.log };
+}
+
+impl ReportFilter {
+    /// Returns the filter before the first line of the log and the trace of a boot. `boot` is the
+    /// boot's number, and `began` the second since 1970 at which the boot began. Requires `began` to
+    /// be at most `LAST_SECOND`.
+    pub fn new(alloc: Global, boot: u64, began: u64) -> ReportFilter
+        requires { began ≤ LAST_SECOND }
+        ensures makes { reports_make result ≡ report_filter boot began }
+        ensures taken { result.taken ≡ 0 }
+    {
+        ReportFilter {
+            log: BlockFilter::new(alloc, boot, began),
+        }
+    }
+
+    // Takes a line, and appends its text.
+    fn take_line(&mut self, alloc: Global, line: &[u8], text: &mut Vec<u8>) -> Result<(), NoMemory>
+        requires { self.old.taken ≤ LONGEST_SCRIPT }
+        ensures text { OnOk result (text.new.items
+            ≡ text.old.items ++ report_text_at self.old line.now) }
+        ensures after { OnOk result (self.new ≡ after_line self.old line.now) }
+        ensures kept { OnErr result (self.new.taken ≡ self.old.taken) }
+    {
+        match line_event(line) {
+            LineEvent::Absent => self.log.take_line(alloc, line, text),
+            LineEvent::Unread => self.log.take_unread(text),
+            LineEvent::Found(found) => self.take_event(alloc, found, text),
+        }
+    }
+
+    // Takes a line with this event, and appends the line of the event's block.
+    #[tactic(auto, using(crate::proofs::SectionLemmas::section_long))]
+    fn take_event(
+        &mut self,
+        alloc: Global,
+        found: FoundEvent,
+        text: &mut Vec<u8>,
+    ) -> Result<(), NoMemory>
+        requires { self.old.taken ≤ LONGEST_SCRIPT }
+        ensures text { OnOk result (text.new.items
+            ≡ text.old.items ++ event_text self.old.reports found) }
+        ensures after { OnOk result (self.new ≡ after_event self.old) }
+        ensures kept { OnErr result (self.new.taken ≡ self.old.taken) }
+    {
+        let mut section = Vec::new(alloc);
+        push_pcie_section(&mut section, found.event)?;
+        let mut block = Vec::new(alloc);
+        let severity = found.event.severity.number();
+        push_section_block(&mut block, &PCIE_TYPE, severity, &section)?;
+        self.log
+            .take_block(alloc, TRACE_SOURCE, found.stamp, &block, text)
+    }
+}
+
+impl LineFilter for ReportFilter {
+    ghost use Rattle.std.specs.Prelude.{refl};
+
+    ghost makes = { λ f. reports_make f };
+
+    ghost taken = { λ f. f.taken };
+
+    ghost none = { λ _. refl };
+
+    fn take(&mut self, alloc: Global, line: &[u8], text: &mut Vec<u8>) -> Result<(), LineRefused> {
+        match self.take_line(alloc, line, text) {
+            Ok(()) => Ok(()),
+            Err(NoMemory) => Err(LineRefused::NoMemory),
+        }
+    }
+
+    fn push_rest(&self, alloc: Global, text: &mut Vec<u8>) -> Result<(), NoMemory> {
+        self.log.push_rest(alloc, text)
+    }
+
+    fn push_last(&self, alloc: Global, text: &mut Vec<u8>) -> Result<(), NoMemory> {
+        self.log.push_last(alloc, text)
+    }
+}

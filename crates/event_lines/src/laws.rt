@@ -1,0 +1,68 @@
+//! What the filter reads and makes.
+
+ghost use Rattle.std.specs.Prelude.{◌≡◌, ◌+◌, ◌*◌, ◌<◌, ◌≤◌, ◌^◌, ℕ, List, [], ◌∷◌, Some, Ok, false};
+ghost use Rattle.std.specs.List.{AllByRecursion};
+ghost use Rattle.apei_sources.specs.Blocks.{block_of};
+ghost use Rattle.apei_sources.specs.Entries.{entry_data, entry_guid, entry_severity};
+ghost use Rattle.cper_pcie.specs.Section.{pcie_guid, pcie_of};
+ghost use Rattle.ras_facts.specs.Names.{same_name};
+ghost use Rattle.ras_script.specs.Line.{line_of};
+ghost use Rattle.ras_script.specs.LineLaws.{line_text};
+ghost use Rattle.bank_lines.specs.TraceHeads.{IsFront, Tracer};
+ghost use Rattle.bank_lines.specs.declared.log_line.TheConstants.{LAST_SECOND};
+ghost use Rattle.block_lines.specs.Blocks.{made_status};
+ghost use Rattle.block_lines.specs.Filter.{block_filter};
+ghost use Rattle.event_lines.specs.Aer.{aer_event_of, cper_severity};
+ghost use Rattle.event_lines.specs.Filter.{event_block, report_filter};
+ghost use Rattle.event_lines.specs.Kernel.{IsEvent, PrintedAer, aer_line, aer_text, event_head, event_of};
+ghost use Rattle.event_lines.specs.PcieBytes.{pcie_section_bytes};
+ghost use Rattle.event_lines.specs.ReadBack.{event_asked, event_entry, event_name, section_told};
+ghost use Rattle.event_lines.specs.Traced.{line_event_of};
+ghost use Rattle.event_lines.specs.declared.aer.AerEvent.{AerEvent};
+ghost use Rattle.event_lines.specs.declared.traced.FoundEvent.{FoundEvent};
+ghost use Rattle.event_lines.specs.declared.traced.LineEvent.TheVariants.{Absent, Found};
+
+/// The event of a PCI Express error, as the kernel prints it, is read as that event, whichever bits
+/// of the status are set: by its text, and behind what each tracer prints before it, with the time
+/// stamp of the line.
+pub fn printed_events_are_read()
+    ensures text { (p : PrintedAer) → IsEvent (event_of p)
+        → aer_event_of (aer_text p) ≡ Some (event_of p) }
+    ensures line { (tracer : Tracer) (front : List ℕ) (seconds micros spaces more : ℕ)
+        (p : PrintedAer)
+        → IsFront front seconds micros → IsEvent (event_of p)
+        → line_event_of (aer_line (event_head tracer front seconds micros spaces) more p)
+        ≡ Found (record { stamp = 1000000 * seconds + micros; event = event_of p }) }
+{}
+
+/// What is made of an event is read back: its section as its function and its status, its block as
+/// one entry with its severity and this section, its line as a report of this block.
+pub fn made_sections_are_read_back()
+    ensures section { (event : AerEvent) → IsEvent event
+        → pcie_of (pcie_section_bytes event) ≡ Ok (section_told event) }
+    ensures entry { (event : AerEvent) → (entry_guid (event_entry event) ≡ pcie_guid)
+        × (entry_severity (event_entry event) ≡ cper_severity event.severity)
+        × (entry_data (event_entry event) ≡ pcie_section_bytes event) }
+    ensures block { (event : AerEvent) → block_of (event_block event) ≡ Ok (record {
+      status = made_status (cper_severity event.severity) 1;
+      entries = event_entry event ∷ [];
+    }) }
+    ensures line { (boot began : ℕ) (found : FoundEvent) → boot < 2 ^ 64 → began ≤ LAST_SECOND
+        → found.stamp < 2 ^ 64 → IsEvent found.event
+        → line_of (line_text (event_asked boot began found)) ≡ Ok (event_asked boot began found) }
+    // Two events with different time stamps have different names.
+    ensures names { (boot : ℕ) (one other : FoundEvent) → ¬ (one.stamp ≡ other.stamp)
+        → same_name (event_name boot one) (event_name boot other) ≡ false }
+{}
+
+/// Over lines without an event the filter prints what the filter of the log alone prints.
+pub fn logs_are_filtered_as_before()
+    ensures answers { (boot began : ℕ) (lines : List (List ℕ))
+        → AllByRecursion (λ line. line_event_of line ≡ Absent) lines
+        → (report_filter boot began).answers lines ≡ (block_filter boot began).answers lines }
+    ensures rest { (boot began : ℕ) (lines : List (List ℕ))
+        → AllByRecursion (λ line. line_event_of line ≡ Absent) lines
+        → (report_filter boot began).rest lines ≡ (block_filter boot began).rest lines }
+    ensures last { (boot began : ℕ) (lines : List (List ℕ))
+        → (report_filter boot began).last lines ≡ (block_filter boot began).last lines }
+{}

@@ -1,0 +1,17 @@
+//! Converts the hardware errors among the kernel's trace events to lines of script: finds the events
+//! in the lines of a trace, makes the block of each, and the filter that reads the lines of a kernel
+//! log as well.
+//!
+//! A public function with an empty body is a law: its clauses are the point.
+#![tactic(auto)]
+
+mod aer;
+mod filter;
+mod flags;
+mod laws;
+mod pcie_bytes;
+mod traced;
+
+pub use aer::{AerDevice, AerEvent, AerSeverity, TlpHeader};
+pub use filter::{ReportFilter, TRACE_SOURCE};
+pub use laws::{logs_are_filtered_as_before, made_sections_are_read_back, printed_events_are_read};
