@@ -56,10 +56,15 @@ REPORT = (
     "[{0:5}.100006] node7 kernel: {{{0}}}[Hardware Error]:   node:1 card:0 module:2 rank:0 bank:3 row:12 column:8 \n"
 )
 LATER = "[99999.000001] node7 kernel: eth0: up\n"
-# An event's text that ends with a line feed of its own, so an empty line follows.
+# Other events of a trace. The first's text ends with a line feed of its own, so an empty line follows.
 PCIE = (
     "     irq/40-aerdrv-123     [003] ..... {0:5}.200001: aer_event: 0000:3b:00.1 PCIe Bus Error: severity=Corrected, "
     "Receiver Error|Bad TLP, TLP Header=Not available\n\n"
+)
+SECTION = (
+    "     kworker/0:1-7         [000] ..... {0:5}.200002: non_standard_event: severity: 1; "
+    "sec type:00112233-4455-6677-8899-aabbccddeeff; FRU: 00000000-0000-0000-0000-000000000000 A1; "
+    "data len:4; raw data:aa bb cc dd\n"
 )
 SETTINGS = ("MCG_CAP", "SOURCE", "BOOTS_KEPT")
 ROWS = "cpu 0 0\nmodule DIMM_A1 0 7 0\nmodule-limit 4 86400"
