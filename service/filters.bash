@@ -44,6 +44,18 @@ report_filter() {
         -- "${tied[@]}" "$program" lines ghes "$1" "$2")
 }
 
+# Prints of a boot's log the machine checks from before its trace: NAME-OF-BOOT CURSOR. They aren't in the trace, for example
+# what the last crash left in the banks.
+log_before_trace() {
+    local first
+    first=$(awk -f "$here/first-stamp.awk" "$traces/trace.$1")
+    if [[ -z $first ]]; then
+        echo "feed: $traces/trace.$1 has no time stamp, so machine checks from before the trace don't count" >&2
+        return
+    fi
+    journalctl -k -b "${1//-/}" -o short-monotonic ${2:+"--after-cursor=$2"} | awk -v end="$first" -f "$here/older-lines.awk"
+}
+
 # Sets make_lines to the command that converts a boot's trace: BOOT MCG_CAP. An injected error has no MCG_CAP, and gets this.
 trace_filter() {
     make_lines=("${whole[@]}" --tell '^CPU:[0-9]+ \[LOST|^\[LINE TOO BIG' "feed: the trace has a gap" --only 'mce_record: '

@@ -31,6 +31,7 @@ case " $* " in
         echo $$ > {room}/process
         exec tail -n +1 -f {room}/log ;;
     *" export "*) printf '__REALTIME_TIMESTAMP=1400000005000000\\n__MONOTONIC_TIMESTAMP=5000000\\n' ;;
+    *" {boot} "*) exec cat {room}/log ;;
     *)
         [ ! -e {room}/slow ] || {{ head -c 300000 {room}/log.$3; sleep 1; exec tail -c +300001 {room}/log.$3; }}
         exec cat {room}/log.$3 ;;
@@ -46,6 +47,7 @@ TRACED = (
     "ADDR/MISC/SYND: 0000000012345040/0000000000000086/{0}, RIP: 00:<{0}>, TSC: 3e8, PROCESSOR: 0:306e4, "
     "TIME: 1400000000, SOCKET: 0, APIC: 0\n"
 ).format("0" * 16)
+MARK = "     keep-trace-99  [001] .....   50.000001: tracing_mark_write: rasd-trace begins\n"
 # A report of the firmware in a log, about page {1:x}, and a later line, which shows that it has ended.
 REPORT = (
     "[{0:5}.100001] node7 kernel: {{{0}}}[Hardware Error]: Hardware error from APEI Generic Hardware Error Source: 3\n"
@@ -105,7 +107,7 @@ class Service:
         self.room, self.folder = pathlib.Path(room), pathlib.Path(folder)
         (self.room / "bin").mkdir(parents=True)
         stub = self.room / "bin" / "journalctl"
-        stub.write_text(JOURNALCTL.format(room=self.room))
+        stub.write_text(JOURNALCTL.format(room=self.room, boot=BOOT.replace("-", "")))
         stub.chmod(0o755)
         (self.room / "log").touch()
         (self.room / "rows").write_text(ROWS)
