@@ -25,16 +25,39 @@ log_filter() {
         -- "${tied[@]}" "$program" lines klog "$1" "$2")
 }
 
-# Sets make_lines to the command that converts what the firmware reported: BOOT SECOND, at which the boot began. Only a later
-# line shows that a report has ended, so some lines after each are passed too. A piece ends before a report.
+# An event, other than machine checks, that `rasd lines ghes` reads in a trace.
+any_event='\b(aer|non_standard|mc|extlog_mem)_event: '
+
+# Passes on of a log what the firmware reported. Only a later line shows that a report has ended, so some lines after each
+# are passed too, but none that looks like an event: a device can have that in its name.
+log_reports=("${whole[@]}" --only '\}\[Hardware Error\]: |^\[9{12}\.' --more 1000 --without "$any_event")
+
+# Passes on what the trace has beside machine checks. An Intel error that comes as extlog_mem_event is a machine check too.
+trace_events=("${whole[@]}" --only '\b(aer|non_standard)_event: ')
+
+# Sets make_lines to the command that converts what log_reports and trace_events pass on: BOOT SECOND, at which the boot
+# began. It is one command for both, since a run knows only the last table of the firmware's sources. A piece ends before a
+# report or an event.
 report_filter() {
-    make_lines=("${whole[@]}" --only '\}\[Hardware Error\]: |^\[9{12}\.' --more 1000 --piece "$piece" --last "$log_end"
+    make_lines=("${whole[@]}" --piece "$piece" --last "$log_end" --or-at "$any_event"
         --at '^(<\d>)?\[[ .\d]+\] (\S+ kernel: )?\{\d+\}\[Hardware Error\]: Hardware error from'
         -- "${tied[@]}" "$program" lines ghes "$1" "$2")
 }
 
+# Prints of a boot's log the machine checks from before its trace: NAME-OF-BOOT CURSOR. They aren't in the trace, for example
+# what the last crash left in the banks.
+log_before_trace() {
+    local first
+    first=$(awk -f "$here/first-stamp.awk" "$traces/trace.$1")
+    if [[ -z $first ]]; then
+        echo "feed: $traces/trace.$1 has no time stamp, so machine checks from before the trace don't count" >&2
+        return
+    fi
+    journalctl -k -b "${1//-/}" -o short-monotonic ${2:+"--after-cursor=$2"} | awk -v end="$first" -f "$here/older-lines.awk"
+}
+
 # Sets make_lines to the command that converts a boot's trace: BOOT MCG_CAP. An injected error has no MCG_CAP, and gets this.
 trace_filter() {
-    make_lines=("${whole[@]}" --tell '^CPU:[0-9]+ \[LOST' "feed: the trace has a gap" --only 'mce_record: '
+    make_lines=("${whole[@]}" --tell '^CPU:[0-9]+ \[LOST|^\[LINE TOO BIG' "feed: the trace has a gap" --only 'mce_record: '
         --replace 'MCGc/s: 0/' "MCGc/s: $2/" --piece "$piece" -- "${tied[@]}" "$program" lines trace "$1")
 }

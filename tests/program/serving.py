@@ -31,6 +31,7 @@ case " $* " in
         echo $$ > {room}/process
         exec tail -n +1 -f {room}/log ;;
     *" export "*) printf '__REALTIME_TIMESTAMP=1400000005000000\\n__MONOTONIC_TIMESTAMP=5000000\\n' ;;
+    *" {boot} "*) exec cat {room}/log ;;
     *)
         [ ! -e {room}/slow ] || {{ head -c 300000 {room}/log.$3; sleep 1; exec tail -c +300001 {room}/log.$3; }}
         exec cat {room}/log.$3 ;;
@@ -46,6 +47,27 @@ TRACED = (
     "ADDR/MISC/SYND: 0000000012345040/0000000000000086/{0}, RIP: 00:<{0}>, TSC: 3e8, PROCESSOR: 0:306e4, "
     "TIME: 1400000000, SOCKET: 0, APIC: 0\n"
 ).format("0" * 16)
+MARK = "     keep-trace-99  [001] .....   50.000001: tracing_mark_write: rasd-trace begins\n"
+# A report of the firmware in a log, about page {1:x}, and a later line, which shows that it has ended.
+REPORT = (
+    "[{0:5}.100001] node7 kernel: {{{0}}}[Hardware Error]: Hardware error from APEI Generic Hardware Error Source: 3\n"
+    "[{0:5}.100002] node7 kernel: {{{0}}}[Hardware Error]: event severity: corrected\n"
+    "[{0:5}.100003] node7 kernel: {{{0}}}[Hardware Error]:  Error 0, type: corrected\n"
+    "[{0:5}.100004] node7 kernel: {{{0}}}[Hardware Error]:   section_type: memory error\n"
+    "[{0:5}.100005] node7 kernel: {{{0}}}[Hardware Error]:   physical_address: 0x{1:016x}\n"
+    "[{0:5}.100006] node7 kernel: {{{0}}}[Hardware Error]:   node:1 card:0 module:2 rank:0 bank:3 row:12 column:8 \n"
+)
+LATER = "[99999.000001] node7 kernel: eth0: up\n"
+# Other events of a trace. The first's text ends with a line feed of its own, so an empty line follows.
+PCIE = (
+    "     irq/40-aerdrv-123     [003] ..... {0:5}.200001: aer_event: 0000:3b:00.1 PCIe Bus Error: severity=Corrected, "
+    "Receiver Error|Bad TLP, TLP Header=Not available\n\n"
+)
+SECTION = (
+    "     kworker/0:1-7         [000] ..... {0:5}.200002: non_standard_event: severity: 1; "
+    "sec type:00112233-4455-6677-8899-aabbccddeeff; FRU: 00000000-0000-0000-0000-000000000000 A1; "
+    "data len:4; raw data:aa bb cc dd\n"
+)
 SETTINGS = ("MCG_CAP", "SOURCE", "BOOTS_KEPT")
 ROWS = "cpu 0 0\nmodule DIMM_A1 0 7 0\nmodule-limit 4 86400"
 # The feed's line before the first error is a poll, behind rows, a bank that holds none, and a table with its comment.
@@ -85,7 +107,7 @@ class Service:
         self.room, self.folder = pathlib.Path(room), pathlib.Path(folder)
         (self.room / "bin").mkdir(parents=True)
         stub = self.room / "bin" / "journalctl"
-        stub.write_text(JOURNALCTL.format(room=self.room))
+        stub.write_text(JOURNALCTL.format(room=self.room, boot=BOOT.replace("-", "")))
         stub.chmod(0o755)
         (self.room / "log").touch()
         (self.room / "rows").write_text(ROWS)
@@ -167,6 +189,10 @@ class Service:
         """Lets the log go on."""
         with open(self.room / "log", "a") as log:
             log.write(text)
+
+    def trace(self, text, boot=BOOT):
+        """Lets a boot's trace be this."""
+        (self.room / f"trace.{boot}").write_text(text)
 
     def end_log(self):
         """Ends journalctl."""
