@@ -48,7 +48,8 @@ pub fn logs_are_made_lines()
         → first.tsc ≡ 0 → second.tsc ≡ 0 → count < MICROSECONDS → next < MICROSECONDS
         → (¬ (first.seconds % (LAST_SECOND + 1) ≡ second.seconds % (LAST_SECOND + 1)))
         ⊎ (¬ (count ≡ next))
-        → ¬ (bank_name (with_counter count None first) ≡ bank_name (with_counter next None second)) }
+        → ¬ (bank_name (with_counter count None first)
+        ≡ bank_name (with_counter next None second)) }
 {
     printed_lines_are_read_back();
 }
