@@ -30,7 +30,7 @@ settles_still f g (Some x) (Some y) was keeps = λ is. inl (was is)
 store_others : (file : FileNo) (a b : Option FolderPast) → IfTold (KeepsOthers file) a b → IfTold KeepsStore a b
 store_others file None b keeps = keeps
 store_others file (Some x) None keeps = keeps
-store_others file (Some x) (Some y) keeps = record { settled = keeps.settled; whole = keeps.whole }
+store_others file (Some x) (Some y) keeps = record { same = keeps.same; settled = keeps.settled; whole = keeps.whole }
 
 -- a call of one file
 pub moves_open : (file : FileNo) (R Step : Left → Left → Type 0) (f g : JournalFiles) (a b : Option FolderPast)

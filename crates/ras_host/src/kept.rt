@@ -6,14 +6,15 @@ ghost use Rattle.erst_store.specs.Actions.{range_length};
 ghost use Rattle.erst_store.specs.Device.{Device, act, with_put};
 ghost use Rattle.erst_store.specs.DeviceLaws.{IsDevice, MayChange};
 ghost use Rattle.erst_store.specs.Store.{AnswersRefusal, refusal_of};
-ghost use Rattle.host_system.specs.View.{seen_now};
+ghost use Rattle.host_system.specs.FolderPast.{bytes_named};
+ghost use Rattle.host_system.specs.View.{IsFileOf, seen_now};
 ghost use Rattle.ras_host.specs.Steps.Once.{CountsOnce};
 ghost use Rattle.ras_host.specs.Steps.KeptDevice.{Acts, Does, IfRefused, IsChange, IsHere, IsInStep, IsSaved, IsThere, IsUsed, Keeps, Looks, Puts, Stays, StaysOrLoses, Turned, after_answer, device_in};
 
 use crate::saved::{RECORD_HEADING, Saved};
 use board_core::{BoardPut, Failed, Reg};
 use erst_store::{Dev, PutRefused, file_laws};
-use host_system::{System, replace_store};
+use host_system::{FileName, System, replace_store};
 use std::alloc::Global;
 use std::mem::replace;
 
@@ -49,6 +50,8 @@ impl Kept {
         ensures taken { IfOk result (λ saved. IfSome (S.told system.old)
             (λ p. saved.device ≡ device_in self.old p)) }
         ensures used { IfOk result (λ saved. IsUsed self.old saved.device) }
+        ensures filed { IfOk result (λ saved. IfSome (S.told system.old)
+            (λ p. IsFileOf saved.device.store (bytes_named FileName.Store p))) }
         ensures answers { IsThere self.old → IsOk result }
         ensures told { S.told system.new ≡ S.told system.old }
         ensures lost { OnErr result (IfSome (S.told system.old) (Keeps self.old self.new)) }
