@@ -2,6 +2,7 @@
 ghost use Rattle.std.specs.Prelude.{◌≡◌, ◌⊎◌, Some, IfSome, IsSomeAnd, true};
 ghost use Rattle.host_system.specs.StoreFile.{SparesNoStore};
 ghost use Rattle.host_system.specs.View.{MayBegin};
+ghost use Rattle.listing_texts.specs.declared.listing.Listing.{Listing};
 ghost use Rattle.ras_cli.specs.OverCauses.{OverCaused};
 ghost use Rattle.ras_cli.specs.OverFolder.{Ends, NeverOpened, Outlives, OutlivesOpened, OverDamaged, OverFolder, OverOther, OverReport, PrintsAlone, Refuses, Reported};
 ghost use Rattle.ras_cli.specs.Steps.OneBoard.{KeepsAll};
@@ -56,7 +57,7 @@ pub fn rasd_over<S: System + Drop, I: Input + Drop>(
     ensures refused { OverDamaged (λ why past. IsSomeAnd (S.told result.system)
         (Refuses result.exit why past))
         (task_of words.now) (S.told system) }
-    // A report prints what the files contain, and changes nothing else.
+    // A report prints what the files contain, and changes nothing else. It makes and locks no file.
     ensures reported { OverReport (λ listing past. IsSomeAnd (S.told result.system)
         (Reported result.exit listing past))
         (task_of words.now) (S.told system) }
@@ -102,6 +103,8 @@ fn over_board<S: System + Drop, I: Input + Drop, U: Use, B: Found>(
     requires quiet { S.faults system ≡ 0 }
     requires found { B.past ≡ S.told system }
     requires alone { task_of words.now ≡ Some Task.Run → U.HOW ≡ 1 }
+    requires reads { (listing : Listing) → task_of words.now ≡ Some (Task.Report listing)
+        → U.HOW ≡ 0 }
     ensures { KeepsAll (task_of words.now) result.exit (I.left input) (I.left result.input)
         (I.faults input) (I.faults result.input) (S.faults result.system) (S.told system)
         (S.told result.system) }
@@ -119,7 +122,8 @@ fn over_board<S: System + Drop, I: Input + Drop, U: Use, B: Found>(
 
 // Returns whether the words ask for a run. Only one run at a time may work in a folder.
 fn is_run(words: &[RasWord]) -> bool
-    ensures { task_of words.now ≡ Some Task.Run → result ≡ true }
+    ensures each { task_of words.now ≡ Some Task.Run → result ≡ true }
+    ensures only { result ≡ true → task_of words.now ≡ Some Task.Run }
 {
     matches!(task_of(words), Some(Task::Run))
 }

@@ -32,7 +32,7 @@ use Rattle.host_system.specs.View.{HasWholeStore, IsFileOf, MayBeRead, MayBegin,
 use Rattle.host_system.specs.Steps.FolderPastLemmas.{stands}
 use Rattle.host_system.specs.declared.system.FileName.TheVariants.{Store}
 use Rattle.ras_host.specs.JournalFiles.{AreHeld, files_for}
-use Rattle.ras_host.specs.Steps.KeptDevice.{Acts, BecomesBy, IsChange, IsInStep, IsSaved, IsUsed, Keeps, KeepsOrLoses, MayTurn, Settles, StaysOrLoses, Turned, Turns, device_in, is_same_record, is_same_store, volatile_in}
+use Rattle.ras_host.specs.Steps.KeptDevice.{Acts, BecomesBy, IsChange, IsInStep, IsOff, IsSaved, IsUsed, Keeps, KeepsOrLoses, MayTurn, Settles, StaysOrLoses, Turned, Turns, device_in, is_same_record, is_same_store, kept_for, volatile_in}
 use Rattle.ras_host.specs.Steps.Settled.{IsSettledBy}
 use Rattle.ras_host.specs.Steps.Written.{Writes}
 use Rattle.ras_host.specs.declared.journal.JournalFiles.{JournalFiles}
@@ -515,14 +515,37 @@ pub store_kept : (AreBytes : List ℕ → Type 0) → ((bytes : List ℕ) → Ar
 store_kept AreBytes law None are = IsStore-nil
 store_kept AreBytes law (Some bytes) are = law bytes are
 
-pub in_step_begun : ((p : FolderPast) → MayBegin p → IsStore (seen_now p).store) → (told : Option FolderPast) → IfSome told MayBegin → IfSome told (IsInStep Unread)
-in_step_begun law None may = tt
-in_step_begun law (Some p) may = record {
+begun_unread : ((p : FolderPast) → MayBegin p → IsStore (seen_now p).store) → (p : FolderPast) → MayBegin p → IsInStep Unread p
+begun_unread law p may = record {
   filed = tt;
   over = tt;
   device = IsDevice-new (seen_now p).store 0 (law p may) (omega arith);
   whole = may.whole;
 }
+
+begun_unused : ((p : FolderPast) → MayBegin p → IsStore (seen_now p).store) → (p : FolderPast) → MayBegin p → IsInStep Unreadable p
+begun_unused law p may = record {
+  filed = tt;
+  over = tt;
+  device = IsDevice-new (seen_now p).store 0 (law p may) (omega arith);
+  whole = may.whole;
+}
+
+of_kept : (P : Kept → Type 0) (is_run : Bool) → P Unread → P Unreadable → P (if is_run then Unread else Unreadable)
+of_kept P true run report = run
+of_kept P false run report = report
+
+pub in_step_begun : ((p : FolderPast) → MayBegin p → IsStore (seen_now p).store) → (how : ℕ) (told : Option FolderPast) → IfSome told MayBegin → IfSome told (IsInStep (kept_for how))
+in_step_begun law how None may = tt
+in_step_begun law how (Some p) may = of_kept (λ k. IsInStep k p) (how == 1) (begun_unread law p may) (begun_unused law p may)
+
+pub off_begun : (how : ℕ) → how ≡ 0 → IsOff (kept_for how)
+off_begun how is = subst (λ (h : ℕ). IsOff (kept_for h)) (sym is) tt
+
+-- a device that can't be taken out isn't used
+pub off_never : {T E : Type 0} (P : Type 0) (result : Result T E) (x : T) → result ≡ Ok x → IsErr result → P
+off_never P (Ok y) x is never = absurd cc
+off_never P (Err e) x is never = absurd cc
 
 -- a fact of a run's files and of a report's
 of_files : (P : JournalFiles → Type 0) (is_run : Bool) → P Shut → P NotRead → P (if is_run then Shut else NotRead)

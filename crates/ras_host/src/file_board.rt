@@ -9,6 +9,7 @@ ghost use Rattle.host_system.specs.View.{MayBegin};
 ghost use Rattle.ras_host.specs.Steps.Telling.{clock_of, seen_of, told_of};
 ghost use Rattle.ras_host.specs.Blame.{AreCaused};
 ghost use Rattle.ras_host.specs.JournalFiles.{IsReady, files_for};
+ghost use Rattle.ras_host.specs.Steps.KeptDevice.{IsReading, kept_for};
 ghost use Rattle.ras_host.specs.Steps.BoardLaws.{board_told_left, board_text_left, board_earlier_left};
 
 use crate::faults::count_put;
@@ -25,7 +26,8 @@ use std::marker::{Model, PhantomData};
 /// A board over the files `rasd.0`, `rasd.1` and `rasd.store` of the working folder, and over
 /// standard output. It is modelled if its system is. Each call that fails is counted, by its kind.
 ///
-/// The record store is read when the device is first used, and is empty if its file is missing.
+/// The record store is read when the device is first used, and is empty if its file is missing. Only
+/// a run uses the device.
 /// Each change of the store is written to its file before the call returns. A file that isn't a
 /// store's isn't replaced.
 #[derive(Drop)]
@@ -44,12 +46,12 @@ pub struct FileBoard<S: System + Drop, U: Use, B: Found> {
 }
 
 impl<S: System + Drop, U: Use, B: Found> Model for FileBoard<S, U, B> {
-    ghost use Rattle.std.specs.Prelude.{IfSome, IsSomeAnd};
+    ghost use Rattle.std.specs.Prelude.{◌≡◌, IfSome, IsSomeAnd};
     ghost use Rattle.host_system.specs.StoreFile.{SparesNoStore};
     ghost use Rattle.ras_host.specs.Blame.{AreCaused};
     ghost use Rattle.ras_host.specs.BoardState.{BoardState};
     ghost use Rattle.ras_host.specs.JournalFiles.{AreHeld};
-    ghost use Rattle.ras_host.specs.Steps.KeptDevice.{IsInStep};
+    ghost use Rattle.ras_host.specs.Steps.KeptDevice.{IsInStep, IsReading};
     ghost use Rattle.ras_host.specs.Steps.Settled.{IsSettledBy};
 
     ghost Value = { BoardState };
@@ -76,7 +78,8 @@ impl<S: System + Drop, U: Use, B: Found> Model for FileBoard<S, U, B> {
           registers = b.register_faults;
           prints = b.print_faults;
         }) (S.faults b.system)
-        × IfSome B.past (λ found. IsSomeAnd (S.told b.system) (SparesNoStore found)) };
+        × IfSome B.past (λ found. IsSomeAnd (S.told b.system) (SparesNoStore found))
+        × (U.HOW ≡ 0 → IsReading b.kept B.past (S.told b.system)) };
 }
 
 impl<S: System + Drop, U: Use, B: Found> FileBoard<S, U, B> {
@@ -90,7 +93,7 @@ impl<S: System + Drop, U: Use, B: Found> FileBoard<S, U, B> {
         ensures past { result.past ≡ S.told system }
         ensures files { result.files ≡ files_for U.HOW }
         ensures faults { result.faults ≡ record { disk = 0; registers = 0; prints = 0 } }
-        ensures unread { result.kept ≡ Kept.Unread }
+        ensures kept { result.kept ≡ kept_for U.HOW }
         ensures unlisted { (result.disk_calls ≡ []) × (result.accesses ≡ []) }
     {
         file_laws();
@@ -98,7 +101,7 @@ impl<S: System + Drop, U: Use, B: Found> FileBoard<S, U, B> {
             alloc,
             system,
             files: JournalFiles::new(U::HOW),
-            kept: Kept::Unread,
+            kept: Kept::new(U::HOW),
             disk_faults: 0,
             register_faults: 0,
             print_faults: 0,
@@ -115,6 +118,7 @@ impl<S: System + Drop, U: Use, B: Found> FileBoard<S, U, B> {
         ensures count { S.faults result ≡ self.count }
         ensures caused { AreCaused U.HOW self.files self.kept self.faults self.count }
         ensures spares { IfSome B.past (λ found. IsSomeAnd self.past (SparesNoStore found)) }
+        ensures reading { U.HOW ≡ 0 → IsReading self.kept B.past self.past }
     {
         self.system
     }

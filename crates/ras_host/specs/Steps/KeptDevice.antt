@@ -1,5 +1,5 @@
 -- The device that a board keeps, over the record store that the folder's store file holds.
-use Rattle.std.specs.Prelude.{◌≡◌, ℕ, ◌⊎◌, Bool, ◌&&◌, nat_eq, if◌then◌else◌, List, [], Option, None, Some, IfSome, Result, Ok, Err, IsOk, OnOk, OnErr}
+use Rattle.std.specs.Prelude.{◌≡◌, ℕ, ◌⊎◌, Bool, ◌&&◌, nat_eq, ◌==◌, if◌then◌else◌, List, [], Option, None, Some, IfSome, IsSomeAnd, Result, Ok, Err, IsOk, OnOk, OnErr}
 use Rattle.std.specs.Cmp.Lexicographic.{pointwise}
 use Rattle.board_core.specs.Clock.{Passes}
 use Rattle.board_core.specs.Stop.{Becomes, InStore}
@@ -11,7 +11,7 @@ use Rattle.erst_store.specs.Device.{Device, Volatile, device_with, volatile_of, 
 use Rattle.erst_store.specs.DeviceLaws.{IsDevice}
 use Rattle.erst_store.specs.Store.{Stored, refusal_of}
 use Rattle.host_system.specs.BoardFile.{KeepsFile, HasSettledStore, with_store}
-use Rattle.host_system.specs.FolderPast.{FolderPast, IfTold, bytes_named}
+use Rattle.host_system.specs.FolderPast.{FolderPast, GoesOnBy, IfTold, PrintsOrSyncs, bytes_named}
 use Rattle.host_system.specs.StoreFile.{SparesNoStore}
 use Rattle.host_system.specs.View.{HasWholeStore, IsFileOf, clock_over, seen_now}
 use Rattle.host_system.specs.declared.system.FileName.TheVariants.{Store}
@@ -19,6 +19,25 @@ use Rattle.ras_host.specs.declared.kept.Change.{Change}
 use Rattle.ras_host.specs.declared.kept.Kept.{Kept}
 use Rattle.ras_host.specs.declared.saved.Saved.{Saved}
 use Rattle.ras_host.specs.declared.kept.Kept.TheVariants.{Unread, Here, Lost, Unreadable}
+
+-- the device of a board before its first use: a run's if the kind is 1; a report uses no device
+abbrev pub kept_for : ℕ → Kept
+kept_for how = if how == 1 then Unread else Unreadable
+
+-- The device isn't used: the board is a report's, or the store's file couldn't be read.
+abbrev pub IsOff : Kept → Type 0
+IsOff Unreadable = Unit {0}
+IsOff kept = ⊥
+
+-- A device that isn't used stays so, and the folder stays as it is.
+pub record StaysOff (old new : Kept) (before after : Option FolderPast) : Type 0 where
+  pub off : IsOff new
+  pub told : after ≡ before
+
+-- A report's board has used no device, and has only printed and synced since it found the folder.
+pub record IsReading (kept : Kept) (found now : Option FolderPast) : Type 0 where
+  pub off : IsOff kept
+  pub goes : IfSome found (λ past. IsSomeAnd now (GoesOnBy PrintsOrSyncs past))
 
 -- whether two stores are the same
 abbrev pub is_same_record : Stored → Stored → Bool

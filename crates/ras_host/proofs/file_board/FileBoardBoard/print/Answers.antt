@@ -3,6 +3,7 @@ use Rattle.host_system.proofs.CallLemmas.{prints}
 use Rattle.ras_host.specs.BoardState.{BoardState}
 use Rattle.ras_host.proofs.BlameLemmas.{caused_print}
 use Rattle.ras_host.proofs.DiskCallLemmas.{made_print}
+use Rattle.ras_host.proofs.ReadingLemmas.{goes_printed, reading_then}
 use Rattle.ras_host.proofs.ToldLemmas.{held_printed, in_step_printed, printed_keeps, settled_printed, spared_wrote}
 use Rattle.ras_host.proofs.file_board.FileBoardBoard.print.Goals as goal
 
@@ -16,6 +17,7 @@ invariant_of-self g c =
       settled_printed b.files b.kept _ _ keeps c.self.invariant.2,
       caused_print g.U.Use.HOW b.files b.kept _ _ _ _ c.print.result c.self.invariant.3 c.print.ensures.cause c.counted.ensures.counts,
       spared_wrote Zero g.B.Found.past _ _ (print.keeps Zero) c.self.invariant.4,
+      (λ is. reading_then b.kept g.B.Found.past _ _ (c.self.invariant.5 is) (goes_printed c.args.bytes.now c.print.result _ _ c.print.ensures.told c.print.ensures.failed)),
     )
 
 pub returns : goal.returns
