@@ -6,6 +6,7 @@ use board_core::{Board, Failed, FileNo};
 use ras_host::{Alone, FileBoard, Reading, RealSystem, Use};
 use std::env::Env;
 use std::fs;
+use std::marker::Brand;
 use std::test::Fail;
 
 fn enter(rt: &HostRuntime, name: &str) -> Result<(), Fail> {
@@ -21,7 +22,7 @@ fn leave(rt: &HostRuntime, name: &str) -> Result<(), Fail> {
     Ok(())
 }
 
-fn board<U: Use>(rt: HostRuntime) -> FileBoard<RealSystem, U> {
+fn board<U: Use>(rt: HostRuntime) -> FileBoard<RealSystem, U, Brand> {
     FileBoard::new(rt.alloc(), RealSystem::new(rt))
 }
 
@@ -36,7 +37,7 @@ fn holds(rt: &HostRuntime, name: &str, bytes: &[u8]) -> bool {
 
 // Returns how many bytes of file 1 are read at an offset, and the buffer that they are read into.
 fn read<U: Use>(
-    board: &mut FileBoard<RealSystem, U>,
+    board: &mut FileBoard<RealSystem, U, Brand>,
     place: u64,
 ) -> (Result<usize, Failed>, [u8; 4]) {
     let mut buf = [0; 4];
@@ -44,7 +45,7 @@ fn read<U: Use>(
 }
 
 // Returns whether bytes are written to file 1, and whether the file is synced.
-fn write<U: Use>(board: &mut FileBoard<RealSystem, U>, bytes: &[u8]) -> (bool, bool) {
+fn write<U: Use>(board: &mut FileBoard<RealSystem, U, Brand>, bytes: &[u8]) -> (bool, bool) {
     let is_written = board.write_at(FileNo::One, 0, bytes).is_ok();
     (is_written, board.sync(FileNo::One).is_ok())
 }

@@ -48,6 +48,7 @@ keeps_file file x y entry = record {
 
 pub keeps_others : (file : FileNo) (x y : Folder) → y.store ≡ x.store → entry_named (Journal (other_than file)) y ≡ entry_named (Journal (other_than file)) x → KeepsOthersIn file x y
 keeps_others file x y store entry = record {
+  same = ap bytes_now store;
   settled = λ is. subst IsSettled (sym store) is;
   whole = λ is. subst (λ (e : NameEntry). IsDurable e.now) (sym store) is;
   other = keeps_file (other_than file) x y entry;
@@ -55,6 +56,7 @@ keeps_others file x y store entry = record {
 
 keeps_then : (file : FileNo) (x y z : FolderPast) → KeepsOthers file x y → KeepsOthers file y z → KeepsOthers file x z
 keeps_then file x y z first second = record {
+  same = second.same ∙ first.same;
   settled = λ is. second.settled (first.settled is);
   whole = λ is. second.whole (first.whole is);
   other = record { named = λ is. second.other.named (first.other.named is); held = λ is. second.other.held (first.other.held is); usable = λ is. second.other.usable (first.other.usable is); openable = λ is. second.other.openable (first.other.openable is) };
@@ -94,7 +96,7 @@ named_keeps Zero f = record { named = λ is. refl; held = λ is. record { there 
 named_keeps One f = record { named = λ is. refl; held = λ is. record { there = is.there; is_locked = is.is_locked }; usable = λ is. record { there = is.there; named = refl; is_locked = is.is_locked }; openable = λ is. is }
 
 of_names : (file : FileNo) → IsOf file synced_names
-of_names file = record { keeps = λ f. record { settled = λ is. (refl, is.1); whole = λ is. is; other = named_keeps (other_than file) f }; during = λ f left may. may }
+of_names file = record { keeps = λ f. record { same = refl; settled = λ is. (refl, is.1); whole = λ is. is; other = named_keeps (other_than file) f }; during = λ f left may. may }
 
 -- ---- what a board sees of a call of one file
 

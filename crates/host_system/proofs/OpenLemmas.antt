@@ -23,7 +23,7 @@ pub record BothKept (old new : Option FolderPast) : Type 0 where
 both_then : (a b c : Option FolderPast) → BothKept a b → BothKept b c → BothKept a c
 both_then a b c first last = record {
   told = told_then SeesSame (λ x y z before after. after ∙ before) a b c first.told last.told;
-  store = told_then KeepsStore (λ x y z before after. record { settled = λ is. after.settled (before.settled is); whole = λ is. after.whole (before.whole is) }) a b c first.store last.store;
+  store = told_then KeepsStore (λ x y z before after. record { same = after.same ∙ before.same; settled = λ is. after.settled (before.settled is); whole = λ is. after.whole (before.whole is) }) a b c first.store last.store;
   stops = passes_then Same Same Same (clock_over a) (clock_over b) (clock_over c) (λ x y is. is) (λ x y z before after. after ∙ before) first.stops last.stops;
   openable = last.openable;
 }
@@ -37,7 +37,7 @@ both_openable One x y keeps was this = record { zero = keeps.other.openable was.
 one_opened : (file : FileNo) (old new : Option FolderPast) → IfSome old AreOpenable → IfTold SeesSame old new → IfTold (KeepsOthers file) old new → Passes Same (clock_over old) (clock_over new) → IfSome new (IsOpenable file) → BothKept old new
 one_opened file old new was told keeps stops this = record {
   told = told;
-  store = weaker (KeepsOthers file) KeepsStore (λ x y kept. record { settled = kept.settled; whole = kept.whole }) old new keeps;
+  store = weaker (KeepsOthers file) KeepsStore (λ x y kept. record { same = kept.same; settled = kept.settled; whole = kept.whole }) old new keeps;
   stops = stops;
   openable = may_by (KeepsOthers file) (λ (o n : Option FolderPast). IfSome o AreOpenable → IfSome n (IsOpenable file) → IfSome n AreOpenable) (λ w t. tt) (both_openable file) old new keeps was this;
 }

@@ -72,6 +72,7 @@ replaced_settled bytes entry others now = (others, now_whole bytes entry.now now
 
 replaced_seen : (bytes : List ℕ) (x y : FolderPast) → IsReplaced bytes x y → HasReplaced bytes x y
 replaced_seen bytes x y is = record {
+  file = ap (option_map (λ (f : FolderFile). f.bytes)) is.store;
   seen = parts (folder_of y) (folder_of x) (store_in (Some bytes)) (ap bytes_now is.zero) (ap bytes_now is.one) (ap (λ (now : Option FolderFile). store_in (option_map (λ (f : FolderFile). f.bytes) now)) is.store) is.out;
   settled = replaced_settled bytes (folder_of y).store is.others is.store;
 }

@@ -4,9 +4,9 @@ use Rattle.erst_store.specs.Store.{Stored}
 use Rattle.board_core.specs.Stop.{Left}
 use Rattle.board_core.specs.declared.board.FileNo.{FileNo}
 use Rattle.board_core.specs.declared.board.FileNo.TheVariants.{Zero, One}
-use Rattle.host_system.specs.declared.system.FileName.TheVariants.{Journal}
+use Rattle.host_system.specs.declared.system.FileName.TheVariants.{Journal, Store}
 use Rattle.host_system.specs.Folder.{Folder, NameEntry, locked, lost, entry_named, bytes_now}
-use Rattle.host_system.specs.FolderPast.{FolderPast, folder_of}
+use Rattle.host_system.specs.FolderPast.{FolderPast, bytes_named, folder_of}
 use Rattle.host_system.specs.View.{HasWholeStore, IsDurable, seen_now}
 
 -- A file exists, its name is durable, and it is locked.
@@ -96,8 +96,9 @@ pub record AreNamed (past : FolderPast) : Type 0 where
   pub one : IsNamed One past
   pub settled : HasWholeStore past → HasSettledStore past
 
--- After a call the store's file and its name are as durable as before.
+-- After a call the store's file has the same bytes, and it and its name are as durable as before.
 pub record KeepsStore (old new : FolderPast) : Type 0 where
+  pub same : bytes_named Store new ≡ bytes_named Store old
   pub settled : HasSettledStore old → HasSettledStore new
   pub whole : HasWholeStore old → HasWholeStore new
 
@@ -105,8 +106,10 @@ abbrev pub other_than : FileNo → FileNo
 other_than Zero = One
 other_than One = Zero
 
--- A call of one file leaves the other file as usable as it was, and the store's file as durable.
+-- A call of one file leaves the other file as usable as it was, and the store's file with the same bytes and as
+-- durable.
 pub record KeepsOthersIn (file : FileNo) (old new : Folder) : Type 0 where
+  pub same : bytes_now new.store ≡ bytes_now old.store
   pub settled : IsSettled old.store → IsSettled new.store
   pub whole : IsDurable old.store.now → IsDurable new.store.now
   pub other : KeepsFileIn (other_than file) old new

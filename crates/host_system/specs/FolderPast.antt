@@ -3,7 +3,7 @@ use Rattle.std.specs.Prelude.{◌≡◌, ℕ, zero, suc, ◌⊎◌, List, [], �
 use Rattle.std.specs.Option.{option_map, unwrap_or}
 use Rattle.host_system.specs.declared.system.FileName.{FileName}
 use Rattle.host_system.specs.declared.system.FileName.TheVariants.{Journal, Store, New}
-use Rattle.host_system.specs.Folder.{Folder, FolderChange, wrote, printed, folder_after, folder_after_all, FileUse, opened, locked, lost, Stopped, MayLeaveFolder, During, settled_folder, entry_named, bytes_now}
+use Rattle.host_system.specs.Folder.{Folder, FolderChange, wrote, synced, loses, synced_names, printed, folder_after, folder_after_all, FileUse, opened, locked, lost, Stopped, MayLeaveFolder, During, settled_folder, entry_named, bytes_now}
 
 -- the files and the output when all was durable, and what was done since, in order
 pub record FolderPast : Type 0 where
@@ -23,6 +23,27 @@ MayLeaveFolderSince folder [] zero left = MayLeaveFolder folder left
 MayLeaveFolderSince folder [] (suc t) left = ⊥
 MayLeaveFolderSince folder (change ∷ changes) zero left = During change folder left ⊎ MayLeaveFolderSince (folder_after change folder) changes zero left
 MayLeaveFolderSince folder (change ∷ changes) (suc t) left = MayLeaveFolderSince (folder_after change folder) changes t left
+
+-- Each of these changes has this property.
+abbrev pub AllAre : (FolderChange → Type 0) → List FolderChange → Type 0
+AllAre Is [] = Unit {0}
+AllAre Is (change ∷ changes) = Is change × AllAre Is changes
+
+-- The past goes on by changes that all have this property.
+pub record GoesOnBy (Is : FolderChange → Type 0) (old new : FolderPast) : Type 0 where
+  pub more : List FolderChange
+  pub first : new.first ≡ old.first
+  pub changes : new.changes ≡ old.changes ++ more
+  pub each : AllAre Is more
+
+-- A change prints a piece, or it syncs a journal file or the folder's names, or fails to. No file is opened, made,
+-- locked, written, removed or renamed.
+abbrev pub PrintsOrSyncs : FolderChange → Type 0
+PrintsOrSyncs (synced (Journal file)) = Unit {0}
+PrintsOrSyncs (loses (Journal file)) = Unit {0}
+PrintsOrSyncs synced_names = Unit {0}
+PrintsOrSyncs (printed piece) = Unit {0}
+PrintsOrSyncs change = ⊥
 
 -- ---- for the clauses of the calls
 

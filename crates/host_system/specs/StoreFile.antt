@@ -3,18 +3,25 @@ use Rattle.std.specs.Prelude.{◌≡◌, ℕ, ◌⊎◌, List, Option, Some, Res
 use Rattle.board_core.specs.Clock.{Passes}
 use Rattle.board_core.specs.Stop.{InStore, Becomes}
 use Rattle.board_core.specs.declared.board.FileNo.{FileNo}
+use Rattle.erst_store.specs.StoreFile.{IsNoStoreFile}
 use Rattle.host_system.specs.BoardFile.{KeepsFile, SeesSame, HasSettledStore, with_store}
-use Rattle.host_system.specs.FolderPast.{FolderPast, IfTold}
+use Rattle.host_system.specs.FolderPast.{FolderPast, IfTold, bytes_named}
 use Rattle.host_system.specs.View.{HasWholeStore, clock_over, seen_now, store_in}
+use Rattle.host_system.specs.declared.system.FileName.TheVariants.{Store}
 
 -- A board sees the store of these bytes, and everything else as before.
 abbrev pub SeesStore : List ℕ → FolderPast → FolderPast → Type 0
 SeesStore bytes old new = seen_now new ≡ with_store (store_in (Some bytes)) (seen_now old)
 
--- A board sees the store of these bytes, and its file is durable.
+-- The store's file has these bytes, and is durable. A board sees their store.
 pub record HasReplaced (bytes : List ℕ) (old new : FolderPast) : Type 0 where
+  pub file : bytes_named Store new ≡ Some bytes
   pub seen : SeesStore bytes old new
   pub settled : HasSettledStore new
+
+-- Bytes of the store's file that aren't a store's stay as they are.
+abbrev pub SparesNoStore : FolderPast → FolderPast → Type 0
+SparesNoStore old new = (bytes : List ℕ) → bytes_named Store old ≡ Some bytes → IsNoStoreFile bytes → bytes_named Store new ≡ Some bytes
 
 -- If the bytes of the store's file were durable, they still are.
 abbrev pub KeepsWhole : FolderPast → FolderPast → Type 0

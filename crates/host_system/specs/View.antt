@@ -3,6 +3,7 @@ use Rattle.std.specs.Prelude.{◌≡◌, ℕ, List, [], length, Option, None, So
 use Rattle.std.specs.Option.{option_map}
 use Rattle.std.specs.Result.{result_unwrap_or}
 use Rattle.erst_store.specs.Store.{Stored}
+use Rattle.erst_store.specs.StoreFile.{store_bytes}
 use Rattle.erst_store.specs.StoreReading.{file_at}
 use Rattle.ras_base.specs.LittleEndian.{AreBytes}
 use Rattle.board_core.specs.Clock.{Clock, untold}
@@ -17,6 +18,11 @@ use Rattle.host_system.specs.FolderPast.{FolderPast, MayLeaveFolderSince, bytes_
 abbrev pub store_in : Option (List ℕ) → List Stored
 store_in None = []
 store_in (Some bytes) = result_unwrap_or (file_at bytes) []
+
+-- The file has the bytes of this store. Without a file the store is empty.
+abbrev pub IsFileOf : List Stored → Option (List ℕ) → Type 0
+IsFileOf store None = store ≡ []
+IsFileOf store (Some bytes) = bytes ≡ store_bytes store
 
 -- what a board sees of these files
 abbrev pub seen_as : Stopped → Left

@@ -1,13 +1,15 @@
 -- What a run over a board says of the folder that the board is over.
 use Rattle.std.proofs.Common.{◌≡◌, ℕ, ◌≤◌, List, [], ◌++◌, refl, sym, ◌∙◌, ap, subst, inl, inr, None, Some}
-use Rattle.std.specs.Prelude.{◌⊎◌, Option, IfSome, IsSomeAnd}
+use Rattle.std.specs.Prelude.{◌⊎◌, ◌==◌, if◌then◌else◌, Bool, true, false, Option, IfSome, IsSomeAnd}
 use Rattle.std.specs.Option.{option_map}
 use Rattle.board_core.specs.Clock.{Adds, Always, Clock, LeftNow}
 use Rattle.board_core.specs.Device.{KeepsDevice, LeavesDevice}
 use Rattle.board_core.specs.Doing.{after_acts}
 use Rattle.board_core.specs.Stop.{Left}
 use Rattle.board_core.specs.Told.{Relates, Told}
-use Rattle.host_system.specs.FolderPast.{FolderPast}
+use Rattle.erst_store.specs.Device.{new_device, volatile_of}
+use Rattle.erst_store.specs.Store.{Stored}
+use Rattle.host_system.specs.FolderPast.{FolderPast, GoesOnBy, PrintsOrSyncs}
 use Rattle.host_system.specs.View.{clock_over, seen_now, told_over}
 use Rattle.line_filters.specs.Filter.{Filter}
 use Rattle.line_filters.specs.Filters.{Filters, OfBoth}
@@ -30,7 +32,9 @@ use Rattle.ras_exit.specs.Telling.{OnlyText, PrintsPart}
 use Rattle.ras_exit.specs.declared.exit.Exit.{Exit}
 use Rattle.ras_host.specs.BoardState.{BoardState}
 use Rattle.ras_host.specs.Steps.Telling.{clock_of, seen_of, told_of, told_with}
-use Rattle.ras_host.specs.declared.kept.Kept.TheVariants.{Unread}
+use Rattle.ras_host.specs.Steps.KeptDevice.{kept_for, volatile_in}
+use Rattle.ras_host.specs.declared.kept.Kept.{Kept}
+use Rattle.ras_host.specs.declared.kept.Kept.TheVariants.{Unread, Unreadable}
 use Rattle.ras_journal.specs.Recovered.{Recovers}
 use Rattle.ras_daemon.specs.Reporting.{ReportMoment, Reports, report_output}
 use Rattle.listing_texts.specs.declared.listing.Listing.{Listing}
@@ -91,9 +95,17 @@ from_refused P task before now t is_run is_told over =
 
 pub record Begun (past : Option FolderPast) (b : BoardState) : Type 0 where
   pub over : b.past ≡ past
-  pub kept : b.kept ≡ Unread
+  pub kept : (store : List Stored) → volatile_in b.kept store ≡ volatile_of (new_device [] 0)
   pub disk_calls : b.disk_calls ≡ []
   pub accesses : b.accesses ≡ []
+
+-- a board that is new has a new device, whether it is to use it or not
+begun_volatile : (is_run : Bool) (store : List Stored) → volatile_in (if is_run then Unread else Unreadable) store ≡ volatile_of (new_device [] 0)
+begun_volatile true store = refl
+begun_volatile false store = refl
+
+pub begun_kept : (how : ℕ) (kept : Kept) → kept ≡ kept_for how → (store : List Stored) → volatile_in kept store ≡ volatile_of (new_device [] 0)
+begun_kept how kept is store = ap (λ (k : Kept). volatile_in k store) is ∙ begun_volatile (how == 1) store
 
 abbrev value_or : Told → Option Told → Told
 value_or t None = t
@@ -103,7 +115,7 @@ some_same : (x y : Told) → Some x ≡ Some y → x ≡ y
 some_same x y is = ap (value_or x) is
 
 with_begun : (past : Option FolderPast) (b : BoardState) (p : FolderPast) → Begun past b → told_with b (seen_now p) ≡ begun_over p
-with_begun past b p begun = rw (begun.kept, begun.disk_calls, begun.accesses) refl
+with_begun past b p begun = rw (begun.kept (seen_now p).store, begun.disk_calls, begun.accesses) refl
 
 past_begun : (past : Option FolderPast) (b : BoardState) (p : FolderPast) → Begun past b → past ≡ Some p → b.past ≡ Some p
 past_begun past b p begun is_past = begun.over ∙ is_past
@@ -272,6 +284,9 @@ module _ (exit : Exit) (Same : Type 0) (task : Option Task) (past now : Option F
 
 -- ---- reports
 
+is_some : (p : FolderPast) (now : Option FolderPast) (P : FolderPast → Type 0) → now ≡ Some p → IsSomeAnd now P → P p
+is_some p now P is holds = subst (λ (o : Option FolderPast). IsSomeAnd o P) is holds
+
 pub over_report : (P : Listing → FolderPast → Type 0) (task : Option Task) (past : Option FolderPast)
     → ((listing : Listing) (p : FolderPast) → task ≡ Some (Report listing) → past ≡ Some p → P listing p)
     → OverReport P task past
@@ -290,7 +305,8 @@ over_report P (Some Version) past gives = tt
 over_report P None past gives = tt
 
 module _ (exit : Exit) (task : Option Task) (left rest : Option (List ℕ)) (past now : Option FolderPast) (old new : BoardState) (begun : Begun past old) (over : new.past ≡ now)
-    (commands : ByTask exit task left rest (told_of old) (told_of new) (clock_of old) (clock_of new)) where
+    (commands : ByTask exit task left rest (told_of old) (told_of new) (clock_of old) (clock_of new))
+    (reading : (listing : Listing) → task ≡ Some (Report listing) → IfSome past (λ p. IsSomeAnd now (GoesOnBy PrintsOrSyncs p))) where
   module _ (listing : Listing) (p : FolderPast) (asked : task ≡ Some (Report listing)) (is_past : past ≡ Some p) where
     abbrev text : List ℕ
     text = report_output listing (seen_now p)
@@ -315,6 +331,7 @@ module _ (exit : Exit) (task : Option Task) (left rest : Option (List ℕ)) (pas
               file0 = subst (λ (here : Left). here.file0 ≡ (seen_now p).file0) the_end.here r.file0;
               file1 = subst (λ (here : Left). here.file1 ≡ (seen_now p).file1) the_end.here r.file1;
               store = subst (λ (here : Left). here.store ≡ (seen_now p).store) the_end.here r.device.store;
+              changes = is_some the_end.now now (GoesOnBy PrintsOrSyncs p) (sym over ∙ the_end.over) (subst (λ (o : Option FolderPast). IfSome o (λ p. IsSomeAnd now (GoesOnBy PrintsOrSyncs p))) is_past (reading listing asked));
               stops = subst (λ (o : Option FolderPast). Adds (ReportMoment (clock_over (Some p)) text (seen_now p)) (clock_over (Some p)) (clock_over o)) the_end.over leaves.stops;
             })
 

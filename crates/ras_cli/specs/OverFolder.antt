@@ -3,7 +3,7 @@ use Rattle.std.specs.Prelude.{◌≡◌, ℕ, ◌≤◌, ◌⊎◌, List, [], �
 use Rattle.board_core.specs.Clock.{Adds, Always, LeftNow}
 use Rattle.board_core.specs.Told.{Told}
 use Rattle.erst_store.specs.Device.{new_device, volatile_of}
-use Rattle.host_system.specs.FolderPast.{FolderPast}
+use Rattle.host_system.specs.FolderPast.{FolderPast, GoesOnBy, PrintsOrSyncs}
 use Rattle.host_system.specs.View.{clock_over, seen_now}
 use Rattle.ras_account.specs.Account.{State}
 use Rattle.ras_exit.specs.Endings.{OnAnswer, OnWhole}
@@ -94,6 +94,8 @@ OverReport P task past = ⊤
 -- any point leaves what a crash before the report may have left, or everything as it was with a beginning of
 -- that text printed.
 pub record Reported (exit : Exit) (listing : Listing) (past now : FolderPast) : Type 0 where
+  -- The changes of the folder are prints and syncs. No file is opened, made or locked.
+  pub changes : GoesOnBy PrintsOrSyncs past now
   pub status : OnAnswer exit (exit ≡ report_exit (seen_now past))
   pub output : OnAnswer exit ((seen_now now).out ≡ (seen_now past).out ++ report_output listing (seen_now past))
   pub begun : PrintsPart (report_output listing (seen_now past)) (seen_now past).out (seen_now now).out

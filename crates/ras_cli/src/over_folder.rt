@@ -1,16 +1,20 @@
 //! Runs commands over a folder of files.
 ghost use Rattle.std.specs.Prelude.{◌≡◌, ◌⊎◌, Some, IfSome, IsSomeAnd, true};
+ghost use Rattle.host_system.specs.StoreFile.{SparesNoStore};
 ghost use Rattle.host_system.specs.View.{MayBegin};
+ghost use Rattle.listing_texts.specs.declared.listing.Listing.{Listing};
 ghost use Rattle.ras_cli.specs.OverCauses.{OverCaused};
 ghost use Rattle.ras_cli.specs.OverFolder.{Ends, NeverOpened, Outlives, OutlivesOpened, OverDamaged, OverFolder, OverOther, OverReport, PrintsAlone, Refuses, Reported};
+ghost use Rattle.ras_cli.specs.Steps.OneBoard.{KeepsAll};
 ghost use Rattle.ras_daemon.specs.Ahead.{TakesBy, TakesRecordBy};
 ghost use Rattle.ras_daemon.specs.Commands.{MayEnd};
 ghost use Rattle.ras_daemon.specs.Task.{ReadsBy, task_of};
 
 use host_system::{Input, System};
 use ras_daemon::{Exit, RasWord, Task, rasd, task_of};
-use ras_host::{Alone, FileBoard, FileSource, Reading};
+use ras_host::{Alone, FileBoard, FileSource, Found, Reading, Use};
 use std::alloc::Global;
+use std::marker::Brand;
 
 /// How a command ended, with its input and its system as they are afterwards.
 #[derive(Drop)]
@@ -53,7 +57,7 @@ pub fn rasd_over<S: System + Drop, I: Input + Drop>(
     ensures refused { OverDamaged (λ why past. IsSomeAnd (S.told result.system)
         (Refuses result.exit why past))
         (task_of words.now) (S.told system) }
-    // A report prints what the files contain, and changes nothing else.
+    // A report prints what the files contain, and changes nothing else. It makes and locks no file.
     ensures reported { OverReport (λ listing past. IsSomeAnd (S.told result.system)
         (Reported result.exit listing past))
         (task_of words.now) (S.told system) }
@@ -62,6 +66,9 @@ pub fn rasd_over<S: System + Drop, I: Input + Drop>(
     ensures commands { OverOther (λ past. IsSomeAnd (S.told result.system)
         (PrintsAlone result.exit (task_of words.now) (I.left input) (I.left result.input) past))
         (task_of words.now) (S.told system) }
+    // Bytes of rasd.store that aren't a store's stay as they are, whatever the command does.
+    ensures spares { IfSome (S.told system) (λ past. IsSomeAnd (S.told result.system)
+        (SparesNoStore past)) }
     // A command ends with a fault only if a call of the input or of the system failed, and then no
     // other call did. `OverCaused` has the few faults that may also come from lack of memory or
     // from damaged files.
@@ -77,31 +84,46 @@ pub fn rasd_over<S: System + Drop, I: Input + Drop>(
         (TakesRecordBy result.exit (I.left input) (I.left result.input))
         (I.left result.input ≡ I.left input) }
 {
-    let mut source = FileSource::new(input);
     if is_run(words) {
-        let mut board: FileBoard<S, Alone> = FileBoard::new(alloc, system);
-        let exit = rasd(alloc, words, &mut source, &mut board);
-        let (input, system) = (source.into_input(), board.into_system());
-        Ended {
-            exit,
-            input,
-            system,
-        }
+        over_board::<S, I, Alone, Brand>(alloc, words, input, system)
     } else {
-        let mut reader: FileBoard<S, Reading> = FileBoard::new(alloc, system);
-        let exit = rasd(alloc, words, &mut source, &mut reader);
-        let (input, system) = (source.into_input(), reader.into_system());
-        Ended {
-            exit,
-            input,
-            system,
-        }
+        over_board::<S, I, Reading, Brand>(alloc, words, input, system)
+    }
+}
+
+// Runs the command over a board that uses the files in this way. `B` names the folder's past, which
+// `rasd_over` picks: the folder as it found it.
+fn over_board<S: System + Drop, I: Input + Drop, U: Use, B: Found>(
+    alloc: Global,
+    words: &[RasWord],
+    input: I,
+    system: S,
+) -> Ended<I, S>
+    requires begins { IfSome (S.told system) MayBegin }
+    requires quiet { S.faults system ≡ 0 }
+    requires found { B.past ≡ S.told system }
+    requires alone { task_of words.now ≡ Some Task.Run → U.HOW ≡ 1 }
+    requires reads { (listing : Listing) → task_of words.now ≡ Some (Task.Report listing)
+        → U.HOW ≡ 0 }
+    ensures { KeepsAll (task_of words.now) result.exit (I.left input) (I.left result.input)
+        (I.faults input) (I.faults result.input) (S.faults result.system) (S.told system)
+        (S.told result.system) }
+{
+    let mut source = FileSource::new(input);
+    let mut board: FileBoard<S, U, B> = FileBoard::new(alloc, system);
+    let exit = rasd(alloc, words, &mut source, &mut board);
+    let (input, system) = (source.into_input(), board.into_system());
+    Ended {
+        exit,
+        input,
+        system,
     }
 }
 
 // Returns whether the words ask for a run. Only one run at a time may work in a folder.
 fn is_run(words: &[RasWord]) -> bool
-    ensures { task_of words.now ≡ Some Task.Run → result ≡ true }
+    ensures each { task_of words.now ≡ Some Task.Run → result ≡ true }
+    ensures only { result ≡ true → task_of words.now ≡ Some Task.Run }
 {
     matches!(task_of(words), Some(Task::Run))
 }

@@ -7,7 +7,7 @@ use Rattle.ras_host.specs.Blame.{AreBlamed, AreCaused, AreReports, FilesCause, I
 use Rattle.ras_host.specs.JournalFiles.{files_for}
 use Rattle.ras_host.specs.Steps.Once.{CountsOnce}
 use Rattle.erst_store.specs.Device.{Device}
-use Rattle.ras_host.specs.Steps.KeptDevice.{Does, IsHere, IsSaved, Puts, after_answer}
+use Rattle.ras_host.specs.Steps.KeptDevice.{Does, IsHere, IsSaved, Puts, after_answer, kept_for}
 use Rattle.ras_host.specs.declared.journal.JournalFiles.{JournalFiles}
 use Rattle.ras_host.specs.declared.journal.JournalFiles.TheVariants.{Shut, Open, Unread, Seen}
 use Rattle.ras_host.specs.declared.kept.Kept.{Kept}
@@ -64,6 +64,7 @@ caused_files how old new kept f d' n n' (Ok v) c blamed cause counts =
       each = let each = c.each in omega arith;
       blamed = blamed;
       run = λ is reports. c.run is (cause.comes reports);
+      report = λ is. cause.stays (c.report is);
       disk = λ is. rw still_so (rw same (c.disk is));
       print = rw same c.print;
       lost = c.lost;
@@ -72,6 +73,7 @@ caused_files how old new kept f d' n n' (Err e) c blamed cause counts = record {
   each = one_more n n' f.disk d' (f.registers + f.prints) cause.once.failed counts.later counts.failed c.each;
   blamed = blamed;
   run = λ is reports. c.run is (cause.comes reports);
+  report = λ is. cause.stays (c.report is);
   disk = λ is. inr (run_failed how old new n' f.registers c.run cause.comes cause.cause is);
   print = still (f.prints ≡ 0) n n' cause.once.later c.print;
   lost = c.lost;
@@ -97,6 +99,7 @@ caused_unasked how files kept f d' n c never later =
       each = let each = c.each in omega arith;
       blamed = c.blamed;
       run = c.run;
+      report = c.report;
       disk = λ is. inr (omega arith);
       print = c.print;
       lost = c.lost;
@@ -120,6 +123,7 @@ caused_device how files old new f g' n n' (Ok v) c once here counts =
       each = let each = c.each in omega arith;
       blamed = blamed_later files n n' once.later c.blamed;
       run = c.run;
+      report = c.report;
       disk = λ is. more (f.disk ≡ 0) n n' f.registers g' once.later counts.later (c.disk is);
       print = still (f.prints ≡ 0) n n' once.later c.print;
       lost = λ lost. absurd (here lost);
@@ -128,6 +132,7 @@ caused_device how files old new f g' n n' (Err e) c once here counts = record {
   each = middle n' g' f.disk f.prints (one_more n n' f.registers g' (f.disk + f.prints) once.failed counts.later counts.failed (middle n f.disk f.registers f.prints c.each));
   blamed = blamed_later files n n' once.later c.blamed;
   run = c.run;
+  report = c.report;
   disk = λ is. more (f.disk ≡ 0) n n' f.registers g' once.later counts.later (c.disk is);
   print = still (f.prints ≡ 0) n n' once.later c.print;
   lost = λ lost. rose f.registers g' counts.failed;
@@ -165,6 +170,7 @@ caused_print how files kept f p' n n' (Ok v) c cause counts =
       each = let each = c.each in omega arith;
       blamed = blamed_later files n n' cause.later c.blamed;
       run = c.run;
+      report = c.report;
       disk = λ is. more (f.disk ≡ 0) n n' f.registers f.registers cause.later (omega arith) (c.disk is);
       print = rw still_so (still (f.prints ≡ 0) n n' cause.later c.print);
       lost = c.lost;
@@ -173,6 +179,7 @@ caused_print how files kept f p' n n' (Err e) c cause counts = record {
   each = printed_back n' f.disk f.registers p' (both n n' f.prints p' (f.disk + f.registers) cause.failed counts.failed (printed_each n f.disk f.registers f.prints c.each));
   blamed = blamed_later files n n' cause.later c.blamed;
   run = c.run;
+  report = c.report;
   disk = λ is. more (f.disk ≡ 0) n n' f.registers f.registers cause.later (omega arith) (c.disk is);
   print = inr (rose n n' cause.failed);
   lost = c.lost;
@@ -184,12 +191,17 @@ begun_blamed : (is_run : Bool) (n : ℕ) → AreBlamed (if is_run then Shut else
 begun_blamed true n = tt
 begun_blamed false n = tt
 
-pub caused_begun : (how n : ℕ) → n ≡ 0 → AreCaused how (files_for how) NotRead (record { disk = 0; registers = 0; prints = 0 }) n
+begun_kept : (is_run : Bool) → IsLost (if is_run then NotRead else Unreadable) → ⊥
+begun_kept true lost = lost
+begun_kept false lost = lost
+
+pub caused_begun : (how n : ℕ) → n ≡ 0 → AreCaused how (files_for how) (kept_for how) (record { disk = 0; registers = 0; prints = 0 }) n
 caused_begun how n none = record {
   each = omega arith;
   blamed = begun_blamed (how == 1) n;
   run = λ is reports. subst (λ (h : ℕ). AreReports (files_for h)) is reports;
+  report = λ is. subst (λ (h : ℕ). AreReports (files_for h)) (sym is) tt;
   disk = λ is. inl refl;
   print = inl refl;
-  lost = λ lost. absurd lost;
+  lost = λ lost. absurd (begun_kept (how == 1) lost);
 }

@@ -7,8 +7,9 @@ use Rattle.board_core.specs.Stop.{Left, Same, file_in}
 use Rattle.board_core.specs.declared.board.FileNo.{FileNo}
 use Rattle.board_core.specs.declared.board.FileNo.TheVariants.{Zero, One}
 use Rattle.host_system.specs.BoardFile.{AreNamed, AreOpenable, AreOpened, IsReadable, IsUsable, KeepsFile, KeepsOthers, KeepsStore, SeesSame, HasSettledStore}
-use Rattle.host_system.specs.FolderPast.{FolderPast, IfTold}
+use Rattle.host_system.specs.FolderPast.{FolderPast, GoesOnBy, IfTold, PrintsOrSyncs}
 use Rattle.host_system.specs.View.{HasWholeStore, clock_over, seen_now}
+use Rattle.ras_host.specs.Blame.{AreReports}
 use Rattle.ras_host.specs.JournalFiles.{AreHeld, AreRead, AreSound, IsOneSound, IsRead, IsReady, Moves, SettlesStore, part_of, with_part}
 use Rattle.ras_host.specs.declared.journal.JournalFiles.{JournalFiles}
 use Rattle.ras_host.specs.declared.journal.JournalFiles.TheVariants.{Open, Seen, Shut, Unread}
@@ -30,18 +31,19 @@ settles_still f g (Some x) (Some y) was keeps = λ is. inl (was is)
 store_others : (file : FileNo) (a b : Option FolderPast) → IfTold (KeepsOthers file) a b → IfTold KeepsStore a b
 store_others file None b keeps = keeps
 store_others file (Some x) None keeps = keeps
-store_others file (Some x) (Some y) keeps = record { settled = keeps.settled; whole = keeps.whole }
+store_others file (Some x) (Some y) keeps = record { same = keeps.same; settled = keeps.settled; whole = keeps.whole }
 
 -- a call of one file
 pub moves_open : (file : FileNo) (R Step : Left → Left → Type 0) (f g : JournalFiles) (a b : Option FolderPast)
     → (IsOneSound g → IsOneSound f) → IfTold (SeesBy R) a b → IfTold (KeepsOthers file) a b
-    → Passes Step (clock_over a) (clock_over b) → Moves (SeesBy R) Step f g a b
-moves_open file R Step f g a b was sees keeps stops =
+    → Passes Step (clock_over a) (clock_over b) → (AreReports f → IfTold (GoesOnBy PrintsOrSyncs) a b) → Moves (SeesBy R) Step f g a b
+moves_open file R Step f g a b was sees keeps stops reading =
     record {
       sees = sees;
       store = store_others file a b keeps;
       settles = settles_still f g a b was (store_others file a b keeps);
       stops = stops;
+      reading = reading;
     }
 
 pub one_sound : (file : FileNo) (sound : Pair Bool) → IsTrue (part_of file sound) → IsTrue sound.zero ⊎ IsTrue sound.one
@@ -208,6 +210,7 @@ opened_moves result flag sound a b value is sees keeps stops opened = rw is (rec
   settles = settles_opened result flag Shut (Open (twice flag)) a b value (λ one. one) keeps
       (on_ok_some AreOpened (λ p. HasWholeStore p → HasSettledStore p) result b opened (λ p o. o.settled));
   stops = stops;
+  reading = λ reports. absurd reports;
 })
 
 pub opened_held : {T E : Type 0} (result : Result T E) (flag : Bool) (sound : Pair Bool) (b : Option FolderPast)
@@ -221,8 +224,8 @@ opened_held result flag sound (Some y) value is opened = rw is (record {
 pub names_moves : {T E : Type 0} (result : Result T E) (flag : Bool) (files : Pair ReadFile) (sound : Pair Bool)
     (f : JournalFiles) (o a b : Option FolderPast) → f ≡ Unread → a ≡ o → flag ≡ is_ok result → sound ≡ twice flag
     → IfTold SeesSame a b → ((file : FileNo) → IfTold (KeepsOthers file) a b) → Passes Same (clock_over a) (clock_over b)
-    → OnOk result (IfSome b AreNamed) → Moves SeesSame Same f (Seen files sound) o b
-names_moves result flag files sound f o a b unread same value is sees keeps stops named =
+    → OnOk result (IfSome b AreNamed) → IfTold (GoesOnBy PrintsOrSyncs) a b → Moves SeesSame Same f (Seen files sound) o b
+names_moves result flag files sound f o a b unread same value is sees keeps stops named goes =
     subst (λ (x : Option FolderPast). Moves SeesSame Same f (Seen files sound) x b) same
     (subst (λ (x : JournalFiles). Moves SeesSame Same x (Seen files sound) a b) (sym unread) (rw is (record {
       sees = sees;
@@ -231,6 +234,7 @@ names_moves result flag files sound f o a b unread same value is sees keeps stop
           (store_others Zero a b (keeps Zero))
           (on_ok_some AreNamed (λ p. HasWholeStore p → HasSettledStore p) result b named (λ p n. n.settled));
       stops = stops;
+      reading = λ reports. goes;
     })))
 
 names_readable : {T E : Type 0} (result : Result T E) (flag : Bool) (files : Pair ReadFile) (sound : Pair Bool)
@@ -286,3 +290,10 @@ pub file_reads : {E : Type 0} (R : ℕ → List ℕ → Type 0) (result : Result
 file_reads R (Ok n) read file None is reads = tt
 file_reads R (Ok n) read file (Some p) is reads = reads (file_in file (seen_now p)) is
 file_reads R (Err e) read file a is reads = tt
+
+-- a report's file that is ready was read, and isn't written
+pub reading_unwritten : (file : FileNo) (files : JournalFiles) → IsReady file files → ((read : Pair ReadFile) (sound : Pair Bool) → files ≡ Seen read sound → ⊥) → AreReports files → ⊥
+reading_unwritten file Shut ready not reports = reports
+reading_unwritten file (Open sound) ready not reports = reports
+reading_unwritten file Unread ready not reports = ready
+reading_unwritten file (Seen read sound) ready not reports = not read sound refl

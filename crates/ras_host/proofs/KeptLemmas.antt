@@ -27,12 +27,12 @@ use Rattle.erst_store.specs.Steps.KeptLemmas.{IsDevice-new}
 use Rattle.erst_store.specs.Steps.StoreLemmas.{IsStore-nil}
 use Rattle.host_system.specs.BoardFile.{KeepsFile, HasSettledStore, with_store}
 use Rattle.host_system.specs.FolderPast.{FolderPast, IfTold, bytes_named, bytes_or, length_told}
-use Rattle.host_system.specs.StoreFile.{HasReplaced, KeepsWhole, Replaces}
-use Rattle.host_system.specs.View.{HasWholeStore, MayBeRead, MayBegin, clock_over, seen_now, store_in}
+use Rattle.host_system.specs.StoreFile.{HasReplaced, KeepsWhole, Replaces, SparesNoStore}
+use Rattle.host_system.specs.View.{HasWholeStore, IsFileOf, MayBeRead, MayBegin, clock_over, seen_now, store_in}
 use Rattle.host_system.specs.Steps.FolderPastLemmas.{stands}
 use Rattle.host_system.specs.declared.system.FileName.TheVariants.{Store}
 use Rattle.ras_host.specs.JournalFiles.{AreHeld, files_for}
-use Rattle.ras_host.specs.Steps.KeptDevice.{Acts, BecomesBy, IsChange, IsInStep, IsSaved, IsUsed, Keeps, KeepsOrLoses, MayTurn, Settles, StaysOrLoses, Turned, Turns, device_in, is_same_record, is_same_store, volatile_in}
+use Rattle.ras_host.specs.Steps.KeptDevice.{Acts, BecomesBy, IsChange, IsInStep, IsOff, IsSaved, IsUsed, Keeps, KeepsOrLoses, MayTurn, Settles, StaysOrLoses, Turned, Turns, device_in, is_same_record, is_same_store, kept_for, volatile_in}
 use Rattle.ras_host.specs.Steps.Settled.{IsSettledBy}
 use Rattle.ras_host.specs.Steps.Written.{Writes}
 use Rattle.ras_host.specs.declared.journal.JournalFiles.{JournalFiles}
@@ -104,6 +104,10 @@ action_acts action d saved new (Err e) f other ok is device = tt
 
 -- ---- a call that didn't touch the store's file
 
+pub spares_same : (before after : Option FolderPast) → after ≡ before → IfTold SparesNoStore before after
+spares_same None after same = same
+spares_same (Some p) after same = subst (λ (o : Option FolderPast). IfTold SparesNoStore (Some p) o) (sym same) (λ bytes is none. is)
+
 pub settles_kept : (old new : Kept) (before after : Option FolderPast) → after ≡ before → IfSome before (Keeps old new) → IfTold (Settles old new) before after
 settles_kept old new None after same keeps = same
 settles_kept old new (Some p) after same keeps =
@@ -122,6 +126,7 @@ turned_kept step old new e before after same keeps is = record {
   stops = stops_still step old before after same;
   in_step = is;
   saved = settles_kept old new before after same keeps;
+  spares = spares_same before after same;
 }
 
 used_saved : (old : Kept) (d : Device) → IsUsed old d → IsSaved old
@@ -146,15 +151,16 @@ turns_taken step saved old new p q is turns =
 pub turned_taken : {T E : Type 0} (step : Device → Device) (saved : Saved) (old new : Kept) (result : Result T E) (before after : Option FolderPast) → IfSome before (λ p. saved.device ≡ device_in old p) → IsUsed old saved.device
     → Turned step (Here saved) new result before after → Turned step old new result before after
 turned_taken step saved old new result None after is used turned =
-    record { ok = turned.ok; err = turned.err; stops = turned.stops; in_step = turned.in_step; saved = turned.saved }
+    record { ok = turned.ok; err = turned.err; stops = turned.stops; in_step = turned.in_step; saved = turned.saved; spares = turned.spares }
 turned_taken step saved old new result (Some p) None is used turned =
-    record { ok = turned.ok; err = turned.err; stops = absurd turned.saved; in_step = turned.in_step; saved = turned.saved }
+    record { ok = turned.ok; err = turned.err; stops = absurd turned.saved; in_step = turned.in_step; saved = turned.saved; spares = turned.spares }
 turned_taken step saved old new result (Some p) (Some q) is used turned = record {
   ok = on_ok_weaker result (turns_taken step saved old new p q is) turned.ok;
   err = on_err_weaker result (λ may. elim may [ inl turns ↦ inl (turns_taken (λ d. d) saved old new p q is turns) | inr turns ↦ inr (turns_taken step saved old new p q is turns) ]) turned.err;
   stops = subst (λ (d : Device). Passes (InStore (Becomes (step d).store)) (clock_over (Some p)) (clock_over (Some q))) (taken_is saved old p is) turned.stops;
   in_step = turned.in_step;
   saved = λ now. (used_saved old saved.device used, (turned.saved now).1);
+  spares = turned.spares;
 }
 
 -- an action does this
@@ -166,9 +172,9 @@ turned_action {T = T} {E = E} reg value saved old new result told before after a
     (subst (λ (o : Option FolderPast). Turned {T = T} {E = E} (act value) (Here saved) new result o after) same turned))
 
 -- a step that left the store as it was
-in_step_acts : (saved : Saved) (store : List Stored) (p : FolderPast) → HasWholeStore p → saved.device.store ≡ (seen_now p).store → IsDevice saved.device → IsInStep (Here saved) p
-in_step_acts saved store p whole over kept =
-    record { over = over; device = subst (λ (s : List Stored). IsDevice (device_with s (volatile_of saved.device))) over kept; whole = whole }
+in_step_acts : (saved : Saved) (store : List Stored) (p : FolderPast) → HasWholeStore p → IsFileOf saved.device.store (bytes_named Store p) → saved.device.store ≡ (seen_now p).store → IsDevice saved.device → IsInStep (Here saved) p
+in_step_acts saved store p whole filed over kept =
+    record { filed = filed; over = over; device = subst (λ (s : List Stored). IsDevice (device_with s (volatile_of saved.device))) over kept; whole = whole }
 
 acts_turns : (step : Device → Device) (saved : Saved) (old : Kept) (p : FolderPast) → saved.device ≡ step (device_in old p) → (step (device_in old p)).store ≡ (seen_now p).store → Turns step old (Here saved) p p
 acts_turns step saved old p is store =
@@ -185,31 +191,36 @@ record DidStep (step : Device → Device) (old new : Kept) (before after : Optio
   in_step : IfSome after (IsInStep new)
   saved : IfTold (Settles old new) before after
 
-did_step : (step : Device → Device) (was : Device) (old new : Kept) (before after : Option FolderPast) → IfSome before (IsInStep old) → IfSome before (λ p. was ≡ device_in old p) → IsUsed old was → after ≡ before → Acts step was new → DidStep step old new before after
-did_step step was old new None after in_step taken used same acts =
+-- the store's file is of the store of the device that was taken out
+abbrev pub FiledAs : Device → Option FolderPast → Type 0
+FiledAs was told = IfSome told (λ p. IsFileOf was.store (bytes_named Store p))
+
+did_step : (step : Device → Device) (was : Device) (old new : Kept) (before after : Option FolderPast) → IfSome before (IsInStep old) → FiledAs was before → IfSome before (λ p. was ≡ device_in old p) → IsUsed old was → after ≡ before → Acts step was new → DidStep step old new before after
+did_step step was old new None after in_step filed taken used same acts =
     record { turns = same; in_step = subst (λ (o : Option FolderPast). IfSome o (IsInStep new)) (sym same) tt; saved = same }
-did_step step was old new (Some p) after in_step taken used same acts =
+did_step step was old new (Some p) after in_step filed taken used same acts =
     let is : acts.saved.device ≡ step (device_in old p) = acts.after ∙ ap step taken in
     let store : (step (device_in old p)).store ≡ (seen_now p).store = ap (λ (d : Device). (step d).store) (sym taken) ∙ (acts.store ∙ ap (λ (d : Device). d.store) taken) in
     subst (λ (k : Kept). DidStep step old k (Some p) after) (sym acts.kept)
     (subst (λ (o : Option FolderPast). DidStep step old (Here acts.saved) (Some p) o) (sym same) (record {
       turns = acts_turns step acts.saved old p is store;
-      in_step = in_step_acts acts.saved (seen_now p).store p in_step.whole (ap (λ (d : Device). d.store) is ∙ store) acts.device;
+      in_step = in_step_acts acts.saved (seen_now p).store p in_step.whole
+          (subst (λ (s : List Stored). IsFileOf s (bytes_named Store p)) (sym (ap (λ (d : Device). d.store) acts.after ∙ acts.store)) filed) (ap (λ (d : Device). d.store) is ∙ store) acts.device;
       saved = λ now. (used_saved old was used, inl refl);
     }))
 
-pub acts_ok : {T E : Type 0} (step : Device → Device) (was : Device) (old new : Kept) (x : T) (before after : Option FolderPast) → IfSome before (IsInStep old) → IfSome before (λ p. was ≡ device_in old p) → IsUsed old was → after ≡ before
+pub acts_ok : {T E : Type 0} (step : Device → Device) (was : Device) (old new : Kept) (x : T) (before after : Option FolderPast) → IfSome before (IsInStep old) → FiledAs was before → IfSome before (λ p. was ≡ device_in old p) → IsUsed old was → after ≡ before
     → Acts step was new → Turned {E = E} step old new (Ok x) before after
-acts_ok step was old new x before after in_step taken used same acts =
-    let did = did_step step was old new before after in_step taken used same acts in
-    record { ok = did.turns; err = tt; stops = stops_still step old before after same; in_step = did.in_step; saved = did.saved }
+acts_ok step was old new x before after in_step filed taken used same acts =
+    let did = did_step step was old new before after in_step filed taken used same acts in
+    record { ok = did.turns; err = tt; stops = stops_still step old before after same; in_step = did.in_step; saved = did.saved; spares = spares_same before after same }
 
-pub acts_any : {T E : Type 0} (step : Device → Device) (was : Device) (old new : Kept) (result : Result T E) (before after : Option FolderPast) → IfSome before (IsInStep old) → IfSome before (λ p. was ≡ device_in old p) → IsUsed old was → after ≡ before
+pub acts_any : {T E : Type 0} (step : Device → Device) (was : Device) (old new : Kept) (result : Result T E) (before after : Option FolderPast) → IfSome before (IsInStep old) → FiledAs was before → IfSome before (λ p. was ≡ device_in old p) → IsUsed old was → after ≡ before
     → OnOk result (Acts step was new) → OnErr result (Acts (λ d. d) was new) → Turned step old new result before after
-acts_any step was old new (Ok x) before after in_step taken used same ok err = acts_ok step was old new x before after in_step taken used same ok
-acts_any step was old new (Err e) before after in_step taken used same ok err =
-    let did = did_step (λ d. d) was old new before after in_step taken used same err in
-    record { ok = tt; err = may_turn step old new before after did.turns; stops = stops_still step old before after same; in_step = did.in_step; saved = did.saved }
+acts_any step was old new (Ok x) before after in_step filed taken used same ok err = acts_ok step was old new x before after in_step filed taken used same ok
+acts_any step was old new (Err e) before after in_step filed taken used same ok err =
+    let did = did_step (λ d. d) was old new before after in_step filed taken used same err in
+    record { ok = tt; err = may_turn step old new before after did.turns; stops = stops_still step old before after same; in_step = did.in_step; saved = did.saved; spares = spares_same before after same }
 
 -- ---- the store's file is written
 
@@ -224,6 +235,7 @@ record Wrote {T E : Type 0} (store : List Stored) (result : Result T E) (p : Fol
   err : OnErr result (IfTold (λ x y. (seen_now y ≡ seen_now x) ⊎ (seen_now y ≡ with_store store (seen_now x))) (Some p) after)
   files : (file : FileNo) → IfTold (KeepsFile file) (Some p) after
   whole : IfSome after HasWholeStore
+  filed : OnOk result (IfSome after (λ q. IsFileOf store (bytes_named Store q)))
   stops : Passes (InStore (Becomes store)) (clock_over (Some p)) (clock_over after)
   saved : OnOk result (IfTold (λ x y. (y ≡ x) ⊎ HasSettledStore y) (Some p) after)
 
@@ -243,8 +255,15 @@ replaced_whole : (p : FolderPast) (after : Option FolderPast) → HasWholeStore 
 replaced_whole p None whole keeps = tt
 replaced_whole p (Some q) whole keeps = keeps whole
 
-wrote : {T E : Type 0} (had bytes : List ℕ) (result : Result T E) (p : FolderPast) (after : Option FolderPast) → store_in (Some had) ≡ (seen_now p).store → HasWholeStore p → Writes had bytes result (Some p) after → Wrote (store_in (Some bytes)) result p after
-wrote {T = T} {E = E} had bytes result p after was whole (inl had_them) =
+replaced_filed : {T E : Type 0} (bytes : List ℕ) (result : Result T E) (p : FolderPast) (after : Option FolderPast) → bytes ≡ store_bytes (store_in (Some bytes)) → OnOk result (IfTold (HasReplaced bytes) (Some p) after)
+    → OnOk result (IfSome after (λ q. IsFileOf (store_in (Some bytes)) (bytes_named Store q)))
+replaced_filed bytes (Err e) p after own is = tt
+replaced_filed bytes (Ok x) p None own is = tt
+replaced_filed bytes (Ok x) p (Some q) own is = subst (IsFileOf (store_in (Some bytes))) (sym is.file) own
+
+wrote : {T E : Type 0} (had bytes : List ℕ) (result : Result T E) (p : FolderPast) (after : Option FolderPast) → store_in (Some had) ≡ (seen_now p).store → HasWholeStore p
+    → IsFileOf (store_in (Some had)) (bytes_named Store p) → bytes ≡ store_bytes (store_in (Some bytes)) → Writes had bytes result (Some p) after → Wrote (store_in (Some bytes)) result p after
+wrote {T = T} {E = E} had bytes result p after was whole filed own (inl had_them) =
     let store : store_in (Some bytes) ≡ (seen_now p).store = ap (λ (b : List ℕ). store_in (Some b)) had_them.same ∙ was in
     let seen : seen_now p ≡ with_store (store_in (Some bytes)) (seen_now p) = ap (λ (s : List Stored). with_store s (seen_now p)) (sym store) in
     subst (λ (o : Option FolderPast). Wrote {T = T} {E = E} (store_in (Some bytes)) result p o) (sym had_them.told) (record {
@@ -252,14 +271,17 @@ wrote {T = T} {E = E} had bytes result p after was whole (inl had_them) =
       err = (had_ok result had_them.ok (Unit {0}) ((seen_now p ≡ seen_now p) ⊎ (seen_now p ≡ with_store (store_in (Some bytes)) (seen_now p))) tt).1;
       files = λ file. same_file file p;
       whole = whole;
+      filed = (had_ok result had_them.ok (IsFileOf (store_in (Some bytes)) (bytes_named Store p)) ⊥
+          (subst (λ (b : List ℕ). IsFileOf (store_in (Some b)) (bytes_named Store p)) (sym had_them.same) filed)).0;
       stops = stands (InStore (Becomes (store_in (Some bytes)))) (clock_over (Some p)) (λ left. record { store = left.store; step = inl refl; rest = refl });
       saved = (had_ok result had_them.ok ((p ≡ p) ⊎ HasSettledStore p) ⊥ (inl refl)).0;
     })
-wrote had bytes result p after was whole (inr replaces) = record {
+wrote had bytes result p after was whole filed own (inr replaces) = record {
   ok = replaced_sees bytes result p after replaces.ok;
   err = replaces.err;
   files = replaces.files;
   whole = replaced_whole p after whole replaces.whole;
+  filed = replaced_filed bytes result p after own replaces.ok;
   stops = replaces.stops;
   saved = replaced_settles bytes result p after replaces.ok;
 }
@@ -327,6 +349,11 @@ lost_as step saved before made p q is was same kept sees files = elim (lost_is b
       })
 ]
 
+-- a file that isn't a store's isn't the file of a device that is there
+spared_here : (saved : Saved) (p q : FolderPast) → IsInStep (Here saved) p → SparesNoStore p q
+spared_here saved p q is bytes there none =
+    absurd (none saved.device.store (subst IsStore (sym is.over) is.device.store) (subst (IsFileOf saved.device.store) there is.filed))
+
 -- a call that lost the device
 pub turned_lost : {T E : Type 0} (step : Device → Device) (saved : Saved) (before made : Device) (new : Kept) (e : E) (p : FolderPast) (after : Option FolderPast) → IsInStep (Here saved) p → before ≡ record saved.device { store = [] }
     → made ≡ step saved.device → IsDevice made → new ≡ Lost before made → IfTold (λ x y. (seen_now y ≡ seen_now x) ⊎ (seen_now y ≡ with_store made.store (seen_now x))) (Some p) after
@@ -340,16 +367,17 @@ turned_lost {T = T} {E = E} step saved before made new e p (Some q) is was same 
       ok = tt;
       err = ends.turns;
       stops = subst (λ (d : Device). Passes (InStore (Becomes d.store)) (clock_over (Some p)) (clock_over (Some q))) made_is stops;
-      in_step = record { over = tt; device = ends.device; whole = whole };
+      in_step = record { filed = tt; over = tt; device = ends.device; whole = whole };
       saved = λ never. absurd never;
+      spares = spared_here saved p q is;
     })
 
 -- a call that kept the device
 turned_put_back : {T E : Type 0} (step : Device → Device) (saved made : Saved) (new : Kept) (x : T) (p : FolderPast) (after : Option FolderPast) → IsInStep (Here saved) p → made.device ≡ step saved.device → IsDevice made.device → new ≡ Here made
-    → IfTold (λ x y. seen_now y ≡ with_store made.device.store (seen_now x)) (Some p) after → ((file : FileNo) → IfTold (KeepsFile file) (Some p) after) → IfSome after HasWholeStore
+    → IfTold (λ x y. seen_now y ≡ with_store made.device.store (seen_now x)) (Some p) after → ((file : FileNo) → IfTold (KeepsFile file) (Some p) after) → IfSome after HasWholeStore → FiledAs made.device after
     → Passes (InStore (Becomes made.device.store)) (clock_over (Some p)) (clock_over after) → IfTold (λ x y. (y ≡ x) ⊎ HasSettledStore y) (Some p) after → Turned {E = E} step (Here saved) new (Ok x) (Some p) after
-turned_put_back step saved made new x p None is same kept here sees files whole stops settled = absurd sees
-turned_put_back {T = T} {E = E} step saved made new x p (Some q) is same kept here sees files whole stops settled =
+turned_put_back step saved made new x p None is same kept here sees files whole filed stops settled = absurd sees
+turned_put_back {T = T} {E = E} step saved made new x p (Some q) is same kept here sees files whole filed stops settled =
     let taken : saved.device ≡ device_in (Here saved) p = ap (λ (s : List Stored). device_with s (volatile_of saved.device)) is.over in
     let made_is : made.device ≡ step (device_in (Here saved) p) = same ∙ ap step taken in
     let over : made.device.store ≡ (seen_now q).store = sym (ap (λ (l : Left). l.store) sees) in
@@ -361,8 +389,9 @@ turned_put_back {T = T} {E = E} step saved made new x p (Some q) is same kept he
       };
       err = tt;
       stops = subst (λ (d : Device). Passes (InStore (Becomes d.store)) (clock_over (Some p)) (clock_over (Some q))) made_is stops;
-      in_step = record { over = over; device = subst (λ (s : List Stored). IsDevice (device_with s (volatile_of made.device))) over kept; whole = whole };
+      in_step = record { filed = filed; over = over; device = subst (λ (s : List Stored). IsDevice (device_with s (volatile_of made.device))) over kept; whole = whole };
       saved = λ now. (tt, settled);
+      spares = spared_here saved p q is;
     })
 
 -- where nothing is told
@@ -373,6 +402,7 @@ turned_untold step old new result after same = record {
   stops = stops_still step old None after same;
   in_step = subst (λ (o : Option FolderPast). IfSome o (IsInStep new)) (sym same) tt;
   saved = same;
+  spares = same;
 }
   where
     any_ok : {T E : Type 0} (result : Result T E) → OnOk result (after ≡ None)
@@ -394,13 +424,16 @@ pub turned_wrote : {T E : Type 0} (step : Device → Device) (saved made : Saved
 turned_wrote step saved made had before new result None after again is was same kept keeps held writes = turned_untold step (Here saved) new result after (writes_untold had made.file result after writes)
 turned_wrote {T = T} {E = E} step saved made had before new result (Some p) after again is was same kept keeps held writes =
     let store : IsStore saved.device.store = subst IsStore (sym is.over) is.device.store in
+    let had_store : store_in (Some had) ≡ saved.device.store = bytes_again again had saved.device.store store (held ∙ saved.same) in
     let w : Wrote {T = T} {E = E} made.device.store result p after =
     subst (λ (s : List Stored). Wrote {T = T} {E = E} s result p after) (bytes_again again made.file made.device.store kept.store made.same)
-    (wrote had made.file result p after (bytes_again again had saved.device.store store (held ∙ saved.same) ∙ is.over) is.whole writes) in
+    (wrote had made.file result p after (had_store ∙ is.over) is.whole
+    (subst (λ (s : List Stored). IsFileOf s (bytes_named Store p)) (sym had_store) is.filed)
+    (made.same ∙ ap store_bytes (sym (bytes_again again made.file made.device.store kept.store made.same))) writes) in
     by result keeps w
   where
     by : (result : Result T E) → KeepsOrLoses result before made new → Wrote {T = T} {E = E} made.device.store result p after → Turned step (Here saved) new result (Some p) after
-    by (Ok x) keeps w = turned_put_back step saved made new x p after is same kept keeps w.ok w.files w.whole w.stops w.saved
+    by (Ok x) keeps w = turned_put_back step saved made new x p after is same kept keeps w.ok w.files w.whole w.filed w.stops w.saved
     by (Err e) keeps w = turned_lost step saved before made.device new e p after is was same kept keeps w.err w.files w.whole w.stops
 
 -- the device was made, and its store didn't come to the file
@@ -440,10 +473,14 @@ device_here : (saved : Saved) (told : Option FolderPast) → IfSome told (IsInSt
 device_here saved None is = tt
 device_here saved (Some p) is = ap (λ (s : List Stored). device_with s (volatile_of saved.device)) is.over
 
+filed_here : (saved : Saved) (told : Option FolderPast) → IfSome told (IsInStep (Here saved)) → FiledAs saved.device told
+filed_here saved None is = tt
+filed_here saved (Some p) is = is.filed
+
 pub turned_failed : {T E : Type 0} (step : Device → Device) (saved : Saved) (new : Kept) (e : E) (told after : Option FolderPast) → after ≡ told → IfSome told (IsInStep (Here saved)) → StaysOrLoses step saved new
     → Turned {T = T} step (Here saved) new (Err e) told after
 turned_failed {T = T} {E = E} step saved new e told after same is (inl acts) =
-    acts_any {T = T} {E = E} step saved.device (Here saved) new (Err e) told after is (device_here saved told is) refl same tt acts
+    acts_any {T = T} {E = E} step saved.device (Here saved) new (Err e) told after is (filed_here saved told is) (device_here saved told is) refl same tt acts
 turned_failed step saved new e told after same is (inr lost) =
     turned_unwritten step saved lost.before lost.made new e told after same is lost.was lost.same lost.device lost.lost
 
@@ -456,17 +493,18 @@ turned_ended step saved new (Ok x) told after failed same is ends = absurd (not_
 turned_ended {T = T} step saved new (Err e) told after failed same is ends = turned_failed {T = T} step saved new e told after same is ends
 
 -- the device that was taken out and the folder go together
-pub in_step_taken : (saved : Saved) (old : Kept) (told : Option FolderPast) → IfSome told (IsInStep old) → IfSome told (λ p. saved.device ≡ device_in old p) → IfSome told (IsInStep (Here saved))
-in_step_taken saved old None is taken = tt
-in_step_taken saved old (Some p) is taken = record {
+pub in_step_taken : (saved : Saved) (old : Kept) (told : Option FolderPast) → IfSome told (IsInStep old) → FiledAs saved.device told → IfSome told (λ p. saved.device ≡ device_in old p) → IfSome told (IsInStep (Here saved))
+in_step_taken saved old None is filed taken = tt
+in_step_taken saved old (Some p) is filed taken = record {
+  filed = filed;
   over = ap (λ (d : Device). d.store) taken;
   device = subst IsDevice (sym (taken_is saved old p taken)) is.device;
   whole = is.whole;
 }
 
 pub turned_or : {T E F : Type 0} (step : Device → Device) (old new : Kept) (result : Result T E) (f : F) (before after : Option FolderPast) → Turned step old new result before after → Turned step old new (result_or result (Err f)) before after
-turned_or step old new (Ok x) f before after turned = record { ok = turned.ok; err = tt; stops = turned.stops; in_step = turned.in_step; saved = turned.saved }
-turned_or step old new (Err e) f before after turned = record { ok = tt; err = turned.err; stops = turned.stops; in_step = turned.in_step; saved = turned.saved }
+turned_or step old new (Ok x) f before after turned = record { ok = turned.ok; err = tt; stops = turned.stops; in_step = turned.in_step; saved = turned.saved; spares = turned.spares }
+turned_or step old new (Err e) f before after turned = record { ok = tt; err = turned.err; stops = turned.stops; in_step = turned.in_step; saved = turned.saved; spares = turned.spares }
 
 pub put_is : (id : ℕ) (bytes : List ℕ) (d made : Device) → made ≡ with_put id bytes d → refusal_of id bytes d.store ≡ None → made ≡ after_put id bytes d
 put_is id bytes d made is free = is ∙ ap (λ (r : Option PutRefused). unless_refused r (with_put id bytes d) d) (sym free)
@@ -477,13 +515,37 @@ pub store_kept : (AreBytes : List ℕ → Type 0) → ((bytes : List ℕ) → Ar
 store_kept AreBytes law None are = IsStore-nil
 store_kept AreBytes law (Some bytes) are = law bytes are
 
-pub in_step_begun : ((p : FolderPast) → MayBegin p → IsStore (seen_now p).store) → (told : Option FolderPast) → IfSome told MayBegin → IfSome told (IsInStep Unread)
-in_step_begun law None may = tt
-in_step_begun law (Some p) may = record {
+begun_unread : ((p : FolderPast) → MayBegin p → IsStore (seen_now p).store) → (p : FolderPast) → MayBegin p → IsInStep Unread p
+begun_unread law p may = record {
+  filed = tt;
   over = tt;
   device = IsDevice-new (seen_now p).store 0 (law p may) (omega arith);
   whole = may.whole;
 }
+
+begun_unused : ((p : FolderPast) → MayBegin p → IsStore (seen_now p).store) → (p : FolderPast) → MayBegin p → IsInStep Unreadable p
+begun_unused law p may = record {
+  filed = tt;
+  over = tt;
+  device = IsDevice-new (seen_now p).store 0 (law p may) (omega arith);
+  whole = may.whole;
+}
+
+of_kept : (P : Kept → Type 0) (is_run : Bool) → P Unread → P Unreadable → P (if is_run then Unread else Unreadable)
+of_kept P true run report = run
+of_kept P false run report = report
+
+pub in_step_begun : ((p : FolderPast) → MayBegin p → IsStore (seen_now p).store) → (how : ℕ) (told : Option FolderPast) → IfSome told MayBegin → IfSome told (IsInStep (kept_for how))
+in_step_begun law how None may = tt
+in_step_begun law how (Some p) may = of_kept (λ k. IsInStep k p) (how == 1) (begun_unread law p may) (begun_unused law p may)
+
+pub off_begun : (how : ℕ) → how ≡ 0 → IsOff (kept_for how)
+off_begun how is = subst (λ (h : ℕ). IsOff (kept_for h)) (sym is) tt
+
+-- a device that can't be taken out isn't used
+pub off_never : {T E : Type 0} (P : Type 0) (result : Result T E) (x : T) → result ≡ Ok x → IsErr result → P
+off_never P (Ok y) x is never = absurd cc
+off_never P (Err e) x is never = absurd cc
 
 -- a fact of a run's files and of a report's
 of_files : (P : JournalFiles → Type 0) (is_run : Bool) → P Shut → P NotRead → P (if is_run then Shut else NotRead)

@@ -2,5 +2,6 @@ pub mod BlameLemmas
 pub mod JournalLemmas
 pub mod KeptLemmas
 mod ReadLemmas
+pub mod ReadingLemmas
 pub mod ToldLemmas
 mod DiskCallLemmas

@@ -1,7 +1,7 @@
 -- What a board over a system tells after a call, by what it told before. Of the board here are what
 -- the system tells, the device that is kept, and what is listed.
 use Rattle.std.proofs.Common.{◌≡◌, ℕ, List, [], ◌∷◌, ◌++◌, Some, refl, sym, ap, subst, ◌∙◌, inl, inr}
-use Rattle.std.specs.Prelude.{Option, None, IfSome, IfOk, Result, Ok, Err, OnOk, OnErr, IsErr}
+use Rattle.std.specs.Prelude.{Option, None, IfSome, IsSomeAnd, IfOk, Result, Ok, Err, OnOk, OnErr, IsErr}
 use Rattle.std.specs.Option.{option_map}
 use Rattle.std.specs.Result.{result_unwrap_or}
 use Rattle.board_core.specs.Cause.{FailsAs, device_call, put_failure, with_count}
@@ -22,12 +22,14 @@ use Rattle.erst_store.specs.DeviceLaws.{IsDevice}
 use Rattle.erst_store.specs.Store.{Stored}
 use Rattle.host_system.specs.BoardFile.{KeepsFile, KeepsOthers, KeepsStore, HasSettledStore}
 use Rattle.host_system.specs.Steps.Calls.{SeesBegun, SeesPrinted, WritesFile}
-use Rattle.host_system.specs.FolderPast.{FolderPast, IfTold}
+use Rattle.host_system.specs.FolderPast.{FolderPast, IfTold, bytes_named}
+use Rattle.host_system.specs.declared.system.FileName.TheVariants.{Store}
+use Rattle.host_system.specs.StoreFile.{SparesNoStore}
 use Rattle.host_system.specs.View.{HasWholeStore, clock_over, seen_now, told_over}
 use Rattle.host_system.specs.Steps.FolderPastLemmas.{stands}
 use Rattle.host_system.specs.Steps.LawLemmas.{store_left}
 use Rattle.ras_host.specs.JournalFiles.{AreHeld, IsOneSound, IsRead, Moves}
-use Rattle.ras_host.specs.Steps.KeptDevice.{BecomesBy, Does, IfRefused, IsHere, IsInStep, IsOver, IsSaved, Keeps, MayTurn, Puts, Settles, Stays, Turned, Turns, after_answer, device_in, volatile_in}
+use Rattle.ras_host.specs.Steps.KeptDevice.{BecomesBy, Does, IfRefused, IsFiled, IsHere, IsInStep, IsOver, IsSaved, Keeps, MayTurn, Puts, Settles, Stays, Turned, Turns, after_answer, device_in, volatile_in}
 use Rattle.ras_host.specs.Steps.Settled.{IsSettledBy}
 use Rattle.ras_host.specs.declared.journal.JournalFiles.{JournalFiles}
 use Rattle.ras_host.specs.declared.journal.JournalFiles.TheVariants.{Shut, Open, Unread, Seen}
@@ -260,8 +262,9 @@ settled_now files kept None is sound saved = tt
 settled_now files kept (Some p) is sound saved = is sound saved
 
 -- the device goes on with the folder, whose store is the same to see
-pub in_step_store : (kept : Kept) (p q : FolderPast) → (seen_now q).store ≡ (seen_now p).store → HasWholeStore q → IsInStep kept p → IsInStep kept q
-in_step_store kept p q same whole is = record {
+pub in_step_store : (kept : Kept) (p q : FolderPast) → (seen_now q).store ≡ (seen_now p).store → bytes_named Store q ≡ bytes_named Store p → HasWholeStore q → IsInStep kept p → IsInStep kept q
+in_step_store kept p q same file whole is = record {
+  filed = subst (IsFiled kept) (sym file) is.filed;
   over = subst (λ (s : List Stored). IsOver kept s) (sym same) is.over;
   device = subst (λ (s : List Stored). IsDevice (device_with s (volatile_in kept s))) (sym same) is.device;
   whole = whole;
@@ -271,7 +274,49 @@ pub in_step_moved : (Step : Left → Left → Type 0) (Sees : FolderPast → Fol
     → ((p q : FolderPast) → Sees p q → (seen_now q).store ≡ (seen_now p).store) → IfSome before (IsInStep kept) → IfSome after (IsInStep kept)
 in_step_moved Step Sees f g kept None after moves store is = subst (λ (o : Option FolderPast). IfSome o (IsInStep kept)) (sym moves.store) tt
 in_step_moved Step Sees f g kept (Some p) None moves store is = tt
-in_step_moved Step Sees f g kept (Some p) (Some q) moves store is = in_step_store kept p q (store p q moves.sees) (moves.store.whole is.whole) is
+in_step_moved Step Sees f g kept (Some p) (Some q) moves store is = in_step_store kept p q (store p q moves.sees) moves.store.same (moves.store.whole is.whole) is
+
+-- ---- the folder as the board found it
+
+pub since_then : (P : FolderPast → FolderPast → Type 0) → ((x y z : FolderPast) → P x y → P y z → P x z) → (found before after : Option FolderPast)
+    → IfSome found (λ x. IsSomeAnd before (P x)) → IfTold P before after → IfSome found (λ x. IsSomeAnd after (P x))
+since_then P trans None before after was now = tt
+since_then P trans (Some x) None after was now = absurd was
+since_then P trans (Some x) (Some y) None was now = absurd now
+since_then P trans (Some x) (Some y) (Some z) was now = trans x y z was now
+
+-- bytes that aren't a store's stay
+spares_then : (x y z : FolderPast) → SparesNoStore x y → SparesNoStore y z → SparesNoStore x z
+spares_then x y z first second bytes is none = second bytes (first bytes is none) none
+
+abbrev pub IsSpared : Option FolderPast → Option FolderPast → Type 0
+IsSpared found now = IfSome found (λ x. IsSomeAnd now (SparesNoStore x))
+
+pub spared_then : (found before after : Option FolderPast) → IsSpared found before → IfTold SparesNoStore before after → IsSpared found after
+spared_then found before after was now = since_then SparesNoStore spares_then found before after was now
+
+store_spares : (before after : Option FolderPast) → IfTold KeepsStore before after → IfTold SparesNoStore before after
+store_spares None after keeps = keeps
+store_spares (Some x) None keeps = keeps
+store_spares (Some x) (Some y) keeps = λ bytes is none. keeps.same ∙ is
+
+pub spared_moved : (Sees : FolderPast → FolderPast → Type 0) (Step : Left → Left → Type 0) (f g : JournalFiles) (found before after : Option FolderPast) → Moves Sees Step f g before after → IsSpared found before → IsSpared found after
+spared_moved Sees Step f g found before after moves was = spared_then found before after was (store_spares before after moves.store)
+
+pub spared_same : (found before after : Option FolderPast) → after ≡ before → IsSpared found before → IsSpared found after
+spared_same found before after same was = subst (IsSpared found) (sym same) was
+
+others_spare : (file : FileNo) (before after : Option FolderPast) → IfTold (KeepsOthers file) before after → IfTold SparesNoStore before after
+others_spare file None after keeps = keeps
+others_spare file (Some x) None keeps = keeps
+others_spare file (Some x) (Some y) keeps = λ bytes is none. keeps.same ∙ is
+
+pub spared_wrote : (file : FileNo) (found before after : Option FolderPast) → IfTold (KeepsOthers file) before after → IsSpared found before → IsSpared found after
+spared_wrote file found before after keeps was = spared_then found before after was (others_spare file before after keeps)
+
+pub spared_begun : (found now : Option FolderPast) → IfSome found (λ past. now ≡ Some past) → IsSpared found now
+spared_begun None now is = tt
+spared_begun (Some past) now is = subst (λ (o : Option FolderPast). IsSomeAnd o (SparesNoStore past)) (sym is) (λ bytes there none. there)
 
 -- ---- a print
 
@@ -284,7 +329,7 @@ all_kept : (text : List ℕ) (p q : FolderPast) → seen_now q ≡ record (seen_
 all_kept text p q sees keeps = record {
   files = record { zero = ap (λ (l : Left). l.file0) sees; one = ap (λ (l : Left). l.file1) sees; keeps = each };
   same = ap (λ (l : Left). l.store) sees;
-  store = record { settled = (keeps Zero).settled; whole = (keeps Zero).whole };
+  store = record { same = (keeps Zero).same; settled = (keeps Zero).settled; whole = (keeps Zero).whole };
 }
   where
     each : (file : FileNo) → KeepsFile file p q
@@ -304,7 +349,7 @@ held_printed files before after keeps is = held_seen files before after (told_fi
 pub in_step_printed : (kept : Kept) (before after : Option FolderPast) → IfTold KeepsAll before after → IfSome before (IsInStep kept) → IfSome after (IsInStep kept)
 in_step_printed kept None after keeps is = subst (λ (o : Option FolderPast). IfSome o (IsInStep kept)) (sym keeps) tt
 in_step_printed kept (Some p) None keeps is = tt
-in_step_printed kept (Some p) (Some q) keeps is = in_step_store kept p q keeps.same (keeps.store.whole is.whole) is
+in_step_printed kept (Some p) (Some q) keeps is = in_step_store kept p q keeps.same keeps.store.same (keeps.store.whole is.whole) is
 
 pub settled_printed : (files : JournalFiles) (kept : Kept) (before after : Option FolderPast) → IfTold KeepsAll before after → IfSome before (IsSettledBy files kept) → IfSome after (IsSettledBy files kept)
 settled_printed files kept None after keeps is = subst (λ (o : Option FolderPast). IfSome o (IsSettledBy files kept)) (sym keeps) tt
@@ -325,7 +370,7 @@ pub in_step_wrote : {T E : Type 0} (file : FileNo) (place : ℕ) (bytes : List �
     → IfSome before (IsInStep kept) → IfSome after (IsInStep kept)
 in_step_wrote file place bytes result kept None after w is = subst (λ (o : Option FolderPast). IfSome o (IsInStep kept)) (sym w.keeps) tt
 in_step_wrote file place bytes result kept (Some p) None w is = tt
-in_step_wrote file place bytes result kept (Some p) (Some q) w is = in_step_store kept p q (wrote_store file place bytes result p q w) (w.keeps.whole is.whole) is
+in_step_wrote file place bytes result kept (Some p) (Some q) w is = in_step_store kept p q (wrote_store file place bytes result p q w) w.keeps.same (w.keeps.whole is.whole) is
 
 pub settled_wrote : (file : FileNo) (files : JournalFiles) (kept : Kept) (before after : Option FolderPast) → IfTold (KeepsOthers file) before after → IfSome before (IsSettledBy files kept) → IfSome after (IsSettledBy files kept)
 settled_wrote file files kept None after keeps is = subst (λ (o : Option FolderPast). IfSome o (IsSettledBy files kept)) (sym keeps) tt

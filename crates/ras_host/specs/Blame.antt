@@ -47,6 +47,7 @@ pub record AreCaused (how : ℕ) (files : JournalFiles) (kept : Kept) (faults : 
   pub each : count ≤ faults.disk + (faults.registers + faults.prints)
   pub blamed : AreBlamed files count
   pub run : how ≡ 1 → AreReports files → ⊥
+  pub report : how ≡ 0 → AreReports files
   -- A run's disk call fails only if a call of the system failed, or a call of the device before.
   pub disk : how ≡ 1 → (faults.disk ≡ 0) ⊎ (0 < count + faults.registers)
   -- A print fails only if the system's print failed.

@@ -5,8 +5,9 @@ use Rattle.board_core.specs.Stop.{Left}
 use Rattle.board_core.specs.declared.board.FileNo.{FileNo}
 use Rattle.board_core.specs.declared.board.FileNo.TheVariants.{Zero, One}
 use Rattle.host_system.specs.BoardFile.{AreOpenable, IsReadable, IsUsable, KeepsStore, HasSettledStore}
-use Rattle.host_system.specs.FolderPast.{FolderPast, IfTold}
+use Rattle.host_system.specs.FolderPast.{FolderPast, GoesOnBy, IfTold, PrintsOrSyncs}
 use Rattle.host_system.specs.View.{HasWholeStore, clock_over, seen_now}
+use Rattle.ras_host.specs.Blame.{AreReports}
 use Rattle.ras_host.specs.declared.journal.JournalFiles.{JournalFiles}
 use Rattle.ras_host.specs.declared.journal.JournalFiles.TheVariants.{Shut, Open, Unread, Seen}
 use Rattle.ras_host.specs.declared.reading.Pair.{Pair}
@@ -83,3 +84,5 @@ pub record Moves (Sees : FolderPast → FolderPast → Type 0) (Step : Left → 
   pub store : IfTold KeepsStore before after
   pub settles : IfTold (SettlesStore old new) before after
   pub stops : Passes Step (clock_over before) (clock_over after)
+  -- A report's files are read and synced, and nothing else is done.
+  pub reading : AreReports old → IfTold (GoesOnBy PrintsOrSyncs) before after

@@ -1,20 +1,22 @@
 //! The working folder's files and standard output as a board.
-ghost use Rattle.std.specs.Prelude.{◌≡◌, [], IfSome, OnOk};
+ghost use Rattle.std.specs.Prelude.{◌≡◌, [], IfSome, IsSomeAnd, Some, OnOk};
 ghost use Rattle.board_core.specs.Cause.{FailsAs, disk_call};
 ghost use Rattle.board_core.specs.Clock.{Passes};
 ghost use Rattle.board_core.specs.Stop.{Same};
 ghost use Rattle.board_core.specs.Told.{Steps, with_call};
+ghost use Rattle.host_system.specs.StoreFile.{SparesNoStore};
 ghost use Rattle.host_system.specs.View.{MayBegin};
 ghost use Rattle.ras_host.specs.Steps.Telling.{clock_of, seen_of, told_of};
 ghost use Rattle.ras_host.specs.Blame.{AreCaused};
 ghost use Rattle.ras_host.specs.JournalFiles.{IsReady, files_for};
+ghost use Rattle.ras_host.specs.Steps.KeptDevice.{IsReading, kept_for};
 ghost use Rattle.ras_host.specs.Steps.BoardLaws.{board_told_left, board_text_left, board_earlier_left};
 
 use crate::faults::count_put;
 use crate::journal::JournalFiles;
 use crate::kept::Kept;
 use crate::listed::{list_access, list_disk_call};
-use crate::uses::Use;
+use crate::uses::{Found, Use};
 use board_core::{Access, Board, BoardPut, DiskCall, Failed, FileNo, Reg};
 use erst_store::file_laws;
 use host_system::{FileName, Notes, System, counted};
@@ -24,10 +26,12 @@ use std::marker::{Model, PhantomData};
 /// A board over the files `rasd.0`, `rasd.1` and `rasd.store` of the working folder, and over
 /// standard output. It is modelled if its system is. Each call that fails is counted, by its kind.
 ///
-/// The record store is read when the device is first used, and is empty if its file is missing.
-/// Each change of the store is written to its file before the call returns.
+/// The record store is read when the device is first used, and is empty if its file is missing. Only
+/// a run uses the device.
+/// Each change of the store is written to its file before the call returns. A file that isn't a
+/// store's isn't replaced.
 #[derive(Drop)]
-pub struct FileBoard<S: System + Drop, U: Use> {
+pub struct FileBoard<S: System + Drop, U: Use, B: Found> {
     alloc: Global,
     system: S,
     files: JournalFiles,
@@ -38,14 +42,16 @@ pub struct FileBoard<S: System + Drop, U: Use> {
     disk_calls: Notes,
     accesses: Notes,
     used: PhantomData<U>,
+    found: PhantomData<B>,
 }
 
-impl<S: System + Drop, U: Use> Model for FileBoard<S, U> {
-    ghost use Rattle.std.specs.Prelude.{IfSome};
+impl<S: System + Drop, U: Use, B: Found> Model for FileBoard<S, U, B> {
+    ghost use Rattle.std.specs.Prelude.{◌≡◌, IfSome, IsSomeAnd};
+    ghost use Rattle.host_system.specs.StoreFile.{SparesNoStore};
     ghost use Rattle.ras_host.specs.Blame.{AreCaused};
     ghost use Rattle.ras_host.specs.BoardState.{BoardState};
     ghost use Rattle.ras_host.specs.JournalFiles.{AreHeld};
-    ghost use Rattle.ras_host.specs.Steps.KeptDevice.{IsInStep};
+    ghost use Rattle.ras_host.specs.Steps.KeptDevice.{IsInStep, IsReading};
     ghost use Rattle.ras_host.specs.Steps.Settled.{IsSettledBy};
 
     ghost Value = { BoardState };
@@ -71,20 +77,23 @@ impl<S: System + Drop, U: Use> Model for FileBoard<S, U> {
           disk = b.disk_faults;
           registers = b.register_faults;
           prints = b.print_faults;
-        }) (S.faults b.system) };
+        }) (S.faults b.system)
+        × IfSome B.past (λ found. IsSomeAnd (S.told b.system) (SparesNoStore found))
+        × (U.HOW ≡ 0 → IsReading b.kept B.past (S.told b.system)) };
 }
 
-impl<S: System + Drop, U: Use> FileBoard<S, U> {
+impl<S: System + Drop, U: Use, B: Found> FileBoard<S, U, B> {
     /// Returns the board over a system, with no faults. Opens no file yet. Requires a system none
     /// of whose calls has failed; if the system is modelled, its folder must be one that a board
     /// may begin over.
-    pub fn new(alloc: Global, system: S) -> FileBoard<S, U>
+    pub fn new(alloc: Global, system: S) -> FileBoard<S, U, B>
         requires begins { IfSome (S.told system) MayBegin }
         requires quiet { S.faults system ≡ 0 }
+        requires found { IfSome B.past (λ past. S.told system ≡ Some past) }
         ensures past { result.past ≡ S.told system }
         ensures files { result.files ≡ files_for U.HOW }
         ensures faults { result.faults ≡ record { disk = 0; registers = 0; prints = 0 } }
-        ensures unread { result.kept ≡ Kept.Unread }
+        ensures kept { result.kept ≡ kept_for U.HOW }
         ensures unlisted { (result.disk_calls ≡ []) × (result.accesses ≡ []) }
     {
         file_laws();
@@ -92,13 +101,14 @@ impl<S: System + Drop, U: Use> FileBoard<S, U> {
             alloc,
             system,
             files: JournalFiles::new(U::HOW),
-            kept: Kept::Unread,
+            kept: Kept::new(U::HOW),
             disk_faults: 0,
             register_faults: 0,
             print_faults: 0,
             disk_calls: Notes::new(),
             accesses: Notes::new(),
             used: PhantomData,
+            found: PhantomData,
         }
     }
 
@@ -107,12 +117,14 @@ impl<S: System + Drop, U: Use> FileBoard<S, U> {
         ensures past { S.told result ≡ self.past }
         ensures count { S.faults result ≡ self.count }
         ensures caused { AreCaused U.HOW self.files self.kept self.faults self.count }
+        ensures spares { IfSome B.past (λ found. IsSomeAnd self.past (SparesNoStore found)) }
+        ensures reading { U.HOW ≡ 0 → IsReading self.kept B.past self.past }
     {
         self.system
     }
 }
 
-impl<S: System + Drop, U: Use> FileBoard<S, U> {
+impl<S: System + Drop, U: Use, B: Found> FileBoard<S, U, B> {
     // Lists a disk call, and opens or reads the journal's files, unless that was done. Fails if this
     // file may not be used, which is the call's fault.
     fn begin(&mut self, file: FileNo, call: DiskCall) -> Result<(), Failed>
@@ -128,7 +140,7 @@ impl<S: System + Drop, U: Use> FileBoard<S, U> {
     }
 }
 
-impl<S: System + Drop, U: Use> Board for FileBoard<S, U> {
+impl<S: System + Drop, U: Use, B: Found> Board for FileBoard<S, U, B> {
     ghost seen = { λ b. seen_of b };
 
     ghost told_may_be_left = { λ b t told. board_told_left b t told };

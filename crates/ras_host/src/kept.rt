@@ -1,5 +1,5 @@
 //! The device of a board, over the record store of the working folder.
-ghost use Rattle.std.specs.Prelude.{◌≡◌, ◌+◌, ◌≤◌, [], false, length, take, drop, Some, IsOk, IsTrue, OnOk, OnErr, IfOk, IfSome};
+ghost use Rattle.std.specs.Prelude.{◌≡◌, ◌+◌, ◌≤◌, [], false, length, take, drop, Some, IsOk, IsTrue, OnOk, OnErr, IfOk, IfSome, IsErr};
 ghost use Rattle.board_core.specs.Cause.{put_failure};
 ghost use Rattle.board_core.specs.Told.{AnswersPut, after_put, after_range_write, after_reg_write, register_in};
 ghost use Rattle.erst_store.specs.declared.device.Command.TheVariants.{Clear};
@@ -8,14 +8,15 @@ ghost use Rattle.erst_store.specs.Device.{Device, act, with_put};
 ghost use Rattle.erst_store.specs.DeviceLaws.{IsDevice, MayChange};
 ghost use Rattle.erst_store.specs.Store.{AnswersRefusal, refusal_of};
 ghost use Rattle.erst_store.specs.StoreFile.{store_bytes};
-ghost use Rattle.host_system.specs.View.{seen_now};
+ghost use Rattle.host_system.specs.View.{seen_now, IsFileOf};
+ghost use Rattle.host_system.specs.FolderPast.{bytes_named};
 ghost use Rattle.ras_host.specs.Steps.Once.{CountsOnce};
-ghost use Rattle.ras_host.specs.Steps.KeptDevice.{Acts, Does, IfRefused, IsChange, IsHere, IsInStep, IsSaved, IsThere, IsUsed, Keeps, Looks, Puts, Stays, StaysOrLoses, Turned, after_answer, device_in};
+ghost use Rattle.ras_host.specs.Steps.KeptDevice.{Acts, Does, IfRefused, IsChange, IsHere, IsInStep, IsOff, IsSaved, IsThere, IsUsed, Keeps, Looks, Puts, Stays, StaysOff, StaysOrLoses, Turned, after_answer, device_in, kept_for};
 
 use crate::saved::{RECORD_HEADING, Saved};
 use board_core::{BoardPut, Failed, Reg};
 use erst_store::{Dev, PutRefused, StoreFile, file_laws};
-use host_system::{System, replace_store};
+use host_system::{System, replace_store, FileName};
 use std::alloc::Global;
 use std::mem::replace;
 
@@ -30,7 +31,7 @@ pub enum Kept {
     /// the store from before the call or from after it. So the device isn't used again. `before`
     /// has an empty store.
     Lost { before: Dev, after: Dev },
-    /// The store's file couldn't be read.
+    /// The device isn't used: the board is a report's, or the store's file couldn't be read.
     Unreadable,
 }
 
@@ -44,6 +45,16 @@ struct Change {
 }
 
 impl Kept {
+    /// Returns the device before its first use: a run's if `how` is 1. A report uses none.
+    pub fn new(how: u8) -> Kept
+        ensures { result ≡ kept_for how }
+    {
+        match how {
+            1 => Kept::Unread,
+            _ => Kept::Unreadable,
+        }
+    }
+
     // Takes the device out, reading it at its first use. The caller puts it back, or marks it as
     // lost.
     fn take<S: System>(&mut self, alloc: Global, system: &mut S) -> Result<Saved, Failed>
@@ -51,10 +62,13 @@ impl Kept {
         ensures taken { IfOk result (λ saved. IfSome (S.told system.old)
             (λ p. saved.device ≡ device_in self.old p)) }
         ensures used { IfOk result (λ saved. IsUsed self.old saved.device) }
+        ensures filed { IfOk result (λ saved. IfSome (S.told system.old)
+            (λ p. IsFileOf saved.device.store (bytes_named FileName.Store p))) }
         ensures answers { IsThere self.old → IsOk result }
         ensures told { S.told system.new ≡ S.told system.old }
         ensures lost { OnErr result (IfSome (S.told system.old) (Keeps self.old self.new)) }
         ensures in_step { OnErr result (IfSome (S.told system.new) (IsInStep self.new)) }
+        ensures off { IsOff self.old → IsErr result × IsOff self.new }
         ensures once { CountsOnce (S.faults system.old) (S.faults system.new) result }
     {
         match replace(self, Kept::Unreadable) {
@@ -96,6 +110,8 @@ impl Kept {
             (λ p. n ≡ register_in reg (device_in self.old p))) }
         ensures reads { IfOk result (λ n. (d : Device) → IsHere self.new d → n ≡ register_in reg d) }
         ensures looks { Looks self.old self.new result (S.told system.old) (S.told system.new) }
+        ensures off { IsOff self.old → StaysOff self.old self.new (S.told system.old)
+            (S.told system.new) }
         ensures once { CountsOnce (S.faults system.old) (S.faults system.new) result }
     {
         let saved = self.take(alloc, system)?;
@@ -117,6 +133,8 @@ impl Kept {
         ensures turned { Turned (after_reg_write reg value) self.old self.new result
             (S.told system.old) (S.told system.new) }
         ensures does { OnOk result (Does (after_reg_write reg value) self.old self.new) }
+        ensures off { IsOff self.old → StaysOff self.old self.new (S.told system.old)
+            (S.told system.new) }
         ensures once { CountsOnce (S.faults system.old) (S.faults system.new) result }
     {
         let saved = self.take(alloc, system)?;
@@ -242,6 +260,8 @@ impl Kept {
         ensures copies { OnOk result ((d : Device) → IsHere self.new d
             → buf.new ≡ take (length buf.old) (drop place d.range)) }
         ensures looks { Looks self.old self.new result (S.told system.old) (S.told system.new) }
+        ensures off { IsOff self.old → StaysOff self.old self.new (S.told system.old)
+            (S.told system.new) }
         ensures once { CountsOnce (S.faults system.old) (S.faults system.new) result }
     {
         let saved = self.take(alloc, system)?;
@@ -266,6 +286,8 @@ impl Kept {
         ensures does { OnOk result (Does (after_range_write place bytes.now) self.old self.new) }
         ensures answers { IsThere self.old → IsOk result }
         ensures told { S.told system.new ≡ S.told system.old }
+        ensures off { IsOff self.old → StaysOff self.old self.new (S.told system.old)
+            (S.told system.new) }
         ensures once { CountsOnce (S.faults system.old) (S.faults system.new) result }
     {
         let mut saved = self.take(alloc, system)?;
@@ -292,6 +314,8 @@ impl Kept {
             (λ p. AnswersPut result (refusal_of id bytes.now (seen_now p).store)) }
         ensures refused { IfRefused result (Stays self.old self.new (S.told system.old)
             (S.told system.new)) }
+        ensures off { IsOff self.old → StaysOff self.old self.new (S.told system.old)
+            (S.told system.new) }
         ensures once { CountsOnce (S.faults system.old) (S.faults system.new) (put_failure result) }
     {
         match self.take(alloc, system) {

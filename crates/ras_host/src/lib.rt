@@ -25,4 +25,4 @@ pub use file_board::FileBoard;
 pub use file_source::FileSource;
 pub use real_input::RealInput;
 pub use real_system::RealSystem;
-pub use uses::{Alone, Reading, Use};
+pub use uses::{Alone, Found, Reading, Use};

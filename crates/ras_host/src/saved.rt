@@ -4,7 +4,7 @@ ghost use Rattle.std.specs.Option.{option_map};
 ghost use Rattle.erst_store.specs.Device.{new_device};
 ghost use Rattle.erst_store.specs.StoreFile.{store_bytes};
 ghost use Rattle.host_system.specs.FolderPast.{bytes_named};
-ghost use Rattle.host_system.specs.View.{HasWholeStore, seen_now, store_in};
+ghost use Rattle.host_system.specs.View.{HasWholeStore, IsFileOf, seen_now, store_in};
 ghost use Rattle.ras_host.specs.Steps.Once.{CountsOnce};
 
 use board_core::Failed;
@@ -29,7 +29,8 @@ pub struct Saved {
 }
 
 impl Saved {
-    /// Returns a new device over the record store of the working folder.
+    /// Returns a new device over the record store of the working folder. The store's file is
+    /// missing, or it is the file of the device's store.
     ///
     /// # Errors
     ///
@@ -38,6 +39,8 @@ impl Saved {
         requires { IfSome (S.told system.old) HasWholeStore }
         ensures new { IfOk result (λ saved. IfSome (S.told system.old)
             (λ p. saved.device ≡ new_device (seen_now p).store 0)) }
+        ensures file { IfOk result (λ saved. IfSome (S.told system.old)
+            (λ p. IsFileOf saved.device.store (bytes_named FileName.Store p))) }
         ensures fresh { IfOk result (λ saved. saved.device ≡ new_device saved.device.store 0) }
         ensures told { S.told system.new ≡ S.told system.old }
         ensures once { CountsOnce (S.faults system.old) (S.faults system.new) result }
@@ -73,9 +76,11 @@ fn read_store<S: System>(system: &mut S) -> Result<Option<Vec<u8>>, Failed>
     }
 }
 
-// Returns the store in these bytes, which is empty if there are none.
+// Returns the store whose file has these bytes, or the empty store without a file. Bytes that aren't
+// a store's file are an error: a store that is damaged isn't empty.
 fn store_from(alloc: Global, found: Option<Vec<u8>>) -> Result<Store, Failed>
-    ensures { IfOk result (λ store. store ≡ store_in (option_map (λ v. v.items) found)) }
+    ensures seen { IfOk result (λ store. store ≡ store_in (option_map (λ v. v.items) found)) }
+    ensures file { IfOk result (λ store. IsFileOf store (option_map (λ v. v.items) found)) }
 {
     match found {
         Some(bytes) => Store::from_bytes(alloc, &bytes).or(Err(Failed)),

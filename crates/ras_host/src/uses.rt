@@ -1,5 +1,8 @@
-//! What a board does with the journal's files.
-ghost use Rattle.std.specs.Prelude.{ℕ};
+//! What a board does with the journal's files, and the folder that it found.
+ghost use Rattle.std.specs.Prelude.{ℕ, None, Option};
+ghost use Rattle.host_system.specs.FolderPast.{FolderPast};
+
+use std::marker::Brand;
 
 /// How a board uses the journal's files. It is in the board's type, because only the type survives
 /// a command.
@@ -27,4 +30,15 @@ impl Use for Reading {
     ghost HOW = { 0 };
 
     const HOW: u8 = 0;
+}
+
+/// The past of the folder when a board over it was new, for contracts alone: they compare the
+/// folder with it. It is in the board's type too. A caller that passes `Brand` picks any past in
+/// its proof; without a pick nothing is compared.
+pub trait Found {
+    ghost past: { Option FolderPast };
+}
+
+impl Found for Brand {
+    ghost past = { None };
 }

@@ -13,6 +13,7 @@ use mem_system::{Effect, LeftFolder, MemSystem, NamePick, StopPick, WriteLeft};
 use ras_daemon::{Exit, RasWord, rasd};
 use ras_host::{Alone, FileBoard, Reading, Use};
 use std::alloc::Global;
+use std::marker::Brand;
 use std::test::Fail;
 
 // More calls of the system than each run here makes.
@@ -83,7 +84,7 @@ fn call_over<U: Use>(
         Trouble::Failure(call, effect) => system.fail_at(call, effect)?,
     }
     let mut source = MemSource::new(script, 7, Vec::new(alloc));
-    let mut board: FileBoard<MemSystem, U> = FileBoard::new(alloc, system);
+    let mut board: FileBoard<MemSystem, U, Brand> = FileBoard::new(alloc, system);
     let exit = rasd(alloc, words, &mut source, &mut board);
     Ok((exit, board.into_system()))
 }

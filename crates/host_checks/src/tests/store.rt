@@ -9,6 +9,7 @@ use erst_store::actions::{
 use ras_host::{Alone, FileBoard, RealSystem};
 use std::fs;
 use std::fs::Permissions;
+use std::marker::Brand;
 use std::os::unix::fs::{MetadataExt, PermissionsExt, chown, symlink};
 use std::test::Fail;
 
@@ -24,7 +25,7 @@ const NONE: &[u8] = b"RASERST1\0\0\0\0";
 // The longest file of a store has a byte less.
 const TOO_LONG: u64 = 16_789_517;
 
-type RunBoard = FileBoard<RealSystem, Alone>;
+type RunBoard = FileBoard<RealSystem, Alone, Brand>;
 
 fn act(board: &mut RunBoard, action: u64) -> bool {
     board.reg_write(Reg::Action, action).is_ok()

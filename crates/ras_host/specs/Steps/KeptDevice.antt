@@ -1,5 +1,5 @@
 -- The device that a board keeps, over the record store that the folder's store file holds.
-use Rattle.std.specs.Prelude.{◌≡◌, ℕ, ◌⊎◌, Bool, false, ◌&&◌, nat_eq, if◌then◌else◌, List, [], Option, None, Some, IfSome, Result, Ok, Err, IsOk, OnOk, OnErr}
+use Rattle.std.specs.Prelude.{◌≡◌, ℕ, ◌⊎◌, Bool, false, ◌&&◌, nat_eq, if◌then◌else◌, List, [], Option, None, Some, IfSome, Result, Ok, Err, IsOk, OnOk, OnErr, ◌==◌, IsSomeAnd}
 use Rattle.std.specs.Cmp.Lexicographic.{pointwise}
 use Rattle.board_core.specs.Clock.{Passes}
 use Rattle.board_core.specs.Stop.{Becomes, InStore}
@@ -11,12 +11,33 @@ use Rattle.erst_store.specs.Device.{Device, Volatile, device_with, volatile_of, 
 use Rattle.erst_store.specs.DeviceLaws.{IsDevice}
 use Rattle.erst_store.specs.Store.{Stored, refusal_of}
 use Rattle.host_system.specs.BoardFile.{KeepsFile, HasSettledStore, with_store}
-use Rattle.host_system.specs.FolderPast.{FolderPast, IfTold}
-use Rattle.host_system.specs.View.{HasWholeStore, clock_over, seen_now}
+use Rattle.host_system.specs.FolderPast.{FolderPast, GoesOnBy, IfTold, PrintsOrSyncs, bytes_named}
+use Rattle.host_system.specs.StoreFile.{SparesNoStore}
+use Rattle.host_system.specs.View.{HasWholeStore, IsFileOf, clock_over, seen_now}
+use Rattle.host_system.specs.declared.system.FileName.TheVariants.{Store}
 use Rattle.ras_host.specs.declared.kept.Change.{Change}
 use Rattle.ras_host.specs.declared.kept.Kept.{Kept}
 use Rattle.ras_host.specs.declared.saved.Saved.{Saved}
 use Rattle.ras_host.specs.declared.kept.Kept.TheVariants.{Unread, Here, Lost, Unreadable}
+
+-- the device of a board before its first use: a run's if the kind is 1; a report uses no device
+abbrev pub kept_for : ℕ → Kept
+kept_for how = if how == 1 then Unread else Unreadable
+
+-- The device isn't used: the board is a report's, or the store's file couldn't be read.
+abbrev pub IsOff : Kept → Type 0
+IsOff Unreadable = Unit {0}
+IsOff kept = ⊥
+
+-- A device that isn't used stays so, and the folder stays as it is.
+pub record StaysOff (old new : Kept) (before after : Option FolderPast) : Type 0 where
+  pub off : IsOff new
+  pub told : after ≡ before
+
+-- A report's board has used no device, and has only printed and synced since it found the folder.
+pub record IsReading (kept : Kept) (found now : Option FolderPast) : Type 0 where
+  pub off : IsOff kept
+  pub goes : IfSome found (λ past. IsSomeAnd now (GoesOnBy PrintsOrSyncs past))
 
 -- whether two stores are the same
 abbrev pub is_same_record : Stored → Stored → Bool
@@ -42,8 +63,15 @@ abbrev pub IsOver : Kept → List Stored → Type 0
 IsOver (Here saved) store = saved.device.store ≡ store
 IsOver kept store = Unit {0}
 
+-- The store's file has the bytes of the store of a device that is there. If the file is missing, that
+-- store is empty.
+abbrev pub IsFiled : Kept → Option (List ℕ) → Type 0
+IsFiled (Here saved) file = IsFileOf saved.device.store file
+IsFiled kept file = Unit {0}
+
 -- The device that is kept and the folder go together.
 pub record IsInStep (kept : Kept) (past : FolderPast) : Type 0 where
+  pub filed : IsFiled kept (bytes_named Store past)
   pub over : IsOver kept (seen_now past).store
   pub device : IsDevice (device_in kept past)
   pub whole : HasWholeStore past
@@ -95,6 +123,8 @@ pub record Turned {T E : Type 0} (step : Device → Device) (old new : Kept) (re
   pub stops : Passes (InStore (BecomesBy step old before)) (clock_over before) (clock_over after)
   pub in_step : IfSome after (IsInStep new)
   pub saved : IfTold (Settles old new) before after
+  -- A file that isn't a store's isn't replaced.
+  pub spares : IfTold SparesNoStore before after
 
 -- what holds of a put that the store refused
 abbrev pub IfRefused : Result (Unit {0}) BoardPut → Type 0 → Type 0

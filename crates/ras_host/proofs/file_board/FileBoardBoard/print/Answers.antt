@@ -1,8 +1,10 @@
+use Rattle.board_core.specs.declared.board.FileNo.TheVariants.{Zero}
 use Rattle.host_system.proofs.CallLemmas.{prints}
 use Rattle.ras_host.specs.BoardState.{BoardState}
 use Rattle.ras_host.proofs.BlameLemmas.{caused_print}
 use Rattle.ras_host.proofs.DiskCallLemmas.{made_print}
-use Rattle.ras_host.proofs.ToldLemmas.{held_printed, in_step_printed, printed_keeps, settled_printed}
+use Rattle.ras_host.proofs.ReadingLemmas.{goes_printed, reading_then}
+use Rattle.ras_host.proofs.ToldLemmas.{held_printed, in_step_printed, printed_keeps, settled_printed, spared_wrote}
 use Rattle.ras_host.proofs.file_board.FileBoardBoard.print.Goals as goal
 
 pub invariant_of-self : goal.invariant_of-self
@@ -14,6 +16,8 @@ invariant_of-self g c =
       in_step_printed b.kept _ _ keeps c.self.invariant.1,
       settled_printed b.files b.kept _ _ keeps c.self.invariant.2,
       caused_print g.U.Use.HOW b.files b.kept _ _ _ _ c.print.result c.self.invariant.3 c.print.ensures.cause c.counted.ensures.counts,
+      spared_wrote Zero g.B.Found.past _ _ (print.keeps Zero) c.self.invariant.4,
+      (λ is. reading_then b.kept g.B.Found.past _ _ (c.self.invariant.5 is) (goes_printed c.args.bytes.now c.print.result _ _ c.print.ensures.told c.print.ensures.failed)),
     )
 
 pub returns : goal.returns

@@ -6,7 +6,8 @@ use Rattle.std.proofs.lemmas.Result.{on_err_weaker, on_ok_weaker}
 use Rattle.board_core.specs.Told.{AnswersPut, after_put}
 use Rattle.erst_store.specs.Store.{refusal_of}
 use Rattle.ras_host.proofs.BlameLemmas.{caused_device, put_here}
-use Rattle.ras_host.proofs.ToldLemmas.{device_kept, held_turned, may_turn_told, of_device, put_made, put_went, puts_saved, settled_turned, stops_refused, store_stops, store_stored, told_refused, turned_told}
+use Rattle.ras_host.proofs.ReadingLemmas.{reading_off}
+use Rattle.ras_host.proofs.ToldLemmas.{device_kept, held_turned, may_turn_told, of_device, put_made, put_went, puts_saved, settled_turned, spared_then, stops_refused, store_stops, store_stored, told_refused, turned_told}
 use Rattle.ras_host.proofs.file_board.FileBoardBoard.put.Goals as goal
 
 pub returns-clause-answers : goal.returns-clause-answers
@@ -46,4 +47,6 @@ invariant_of-self g c =
       turned.in_step,
       settled_turned b.files b.kept r.new.self _ _ turned.saved c.self.invariant.2,
       caused_device g.U.Use.HOW b.files b.kept r.new.self _ _ _ _ (put_failure r.result) c.self.invariant.3 r.ensures.once (put_here c.args.id c.args.bytes.now r.result b.kept r.new.self (put_failure r.result) r.ensures.puts) c.count_put.ensures,
+      spared_then g.B.Found.past _ _ c.self.invariant.4 turned.spares,
+      (λ is. reading_off b.kept r.new.self g.B.Found.past _ _ (c.self.invariant.5 is) r.ensures.off),
     )

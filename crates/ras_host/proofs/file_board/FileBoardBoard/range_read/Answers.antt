@@ -4,7 +4,8 @@ use Rattle.ras_host.specs.Steps.Listed.{accesses_noted, disk_calls_noted}
 use Rattle.std.specs.Prelude.{length, take, drop}
 use Rattle.board_core.specs.declared.board.Access.TheVariants.{RangeRead}
 use Rattle.ras_host.proofs.BlameLemmas.{caused_device, done_here}
-use Rattle.ras_host.proofs.ToldLemmas.{device_kept, held_same, kept_listed, of_device, on_any_ok, on_ok, relates_listed, same_stops, settled_same}
+use Rattle.ras_host.proofs.ReadingLemmas.{reading_off}
+use Rattle.ras_host.proofs.ToldLemmas.{device_kept, held_same, kept_listed, of_device, on_any_ok, on_ok, relates_listed, same_stops, settled_same, spared_same}
 use Rattle.ras_host.proofs.KeptLemmas.{on_any_err}
 use Rattle.ras_host.proofs.file_board.FileBoardBoard.range_read.Goals as goal
 
@@ -43,4 +44,6 @@ invariant_of-self g c =
       r.ensures.looks.in_step,
       settled_same b.files b.kept r.new.self _ _ r.ensures.looks.told r.ensures.looks.same c.self.invariant.2,
       caused_device g.U.Use.HOW b.files b.kept r.new.self _ _ _ _ r.result c.self.invariant.3 r.ensures.once (done_here (λ d. d) b.kept r.new.self r.result r.ensures.looks.does) c.counted.ensures.counts,
+      spared_same g.B.Found.past _ _ r.ensures.looks.told c.self.invariant.4,
+      (λ is. reading_off b.kept r.new.self g.B.Found.past _ _ (c.self.invariant.5 is) r.ensures.off),
     )

@@ -5,7 +5,8 @@ use Rattle.std.specs.Prelude.{length}
 use Rattle.board_core.specs.Told.{after_range_write}
 use Rattle.board_core.specs.declared.board.Access.TheVariants.{RangeWrite}
 use Rattle.ras_host.proofs.BlameLemmas.{caused_device, done_here}
-use Rattle.ras_host.proofs.ToldLemmas.{device_kept, held_turned, may_turn_listed, of_device, on_any_ok, on_err, on_ok, same_stops, settled_turned, turned_listed}
+use Rattle.ras_host.proofs.ReadingLemmas.{reading_off}
+use Rattle.ras_host.proofs.ToldLemmas.{device_kept, held_turned, may_turn_listed, of_device, on_any_ok, on_err, on_ok, same_stops, settled_turned, spared_then, turned_listed}
 use Rattle.ras_host.proofs.file_board.FileBoardBoard.range_write.Goals as goal
 
 pub returns-clause-does : goal.returns-clause-does
@@ -38,4 +39,6 @@ invariant_of-self g c =
       turned.in_step,
       settled_turned b.files b.kept r.new.self _ _ turned.saved c.self.invariant.2,
       caused_device g.U.Use.HOW b.files b.kept r.new.self _ _ _ _ r.result c.self.invariant.3 r.ensures.once (done_here (after_range_write c.args.place c.args.bytes.now) b.kept r.new.self r.result r.ensures.does) c.counted.ensures.counts,
+      spared_then g.B.Found.past _ _ c.self.invariant.4 turned.spares,
+      (λ is. reading_off b.kept r.new.self g.B.Found.past _ _ (c.self.invariant.5 is) r.ensures.off),
     )

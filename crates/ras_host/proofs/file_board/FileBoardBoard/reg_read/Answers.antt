@@ -4,7 +4,8 @@ use Rattle.ras_host.specs.Steps.Listed.{accesses_noted, disk_calls_noted}
 use Rattle.board_core.specs.Told.{register_in}
 use Rattle.board_core.specs.declared.board.Access.TheVariants.{Read}
 use Rattle.ras_host.proofs.BlameLemmas.{caused_device, done_here}
-use Rattle.ras_host.proofs.ToldLemmas.{device_kept, held_same, if_ok, kept_listed, of_device, on_any_ok, read_err, read_told, same_stops, settled_same}
+use Rattle.ras_host.proofs.ReadingLemmas.{reading_off}
+use Rattle.ras_host.proofs.ToldLemmas.{device_kept, held_same, if_ok, kept_listed, of_device, on_any_ok, read_err, read_told, same_stops, settled_same, spared_same}
 use Rattle.ras_host.proofs.file_board.FileBoardBoard.reg_read.Goals as goal
 
 pub returns-clause-value : goal.returns-clause-value
@@ -43,4 +44,6 @@ invariant_of-self g c =
       r.ensures.looks.in_step,
       settled_same b.files b.kept r.new.self _ _ r.ensures.looks.told r.ensures.looks.same c.self.invariant.2,
       caused_device g.U.Use.HOW b.files b.kept r.new.self _ _ _ _ r.result c.self.invariant.3 r.ensures.once (done_here (λ d. d) b.kept r.new.self r.result r.ensures.looks.does) c.counted.ensures.counts,
+      spared_same g.B.Found.past _ _ r.ensures.looks.told c.self.invariant.4,
+      (λ is. reading_off b.kept r.new.self g.B.Found.past _ _ (c.self.invariant.5 is) r.ensures.off),
     )

@@ -4,7 +4,8 @@ use Rattle.ras_host.specs.Steps.Listed.{accesses_noted, disk_calls_noted}
 use Rattle.board_core.specs.Told.{after_reg_write}
 use Rattle.board_core.specs.declared.board.Access.TheVariants.{Write}
 use Rattle.ras_host.proofs.BlameLemmas.{caused_device, done_here}
-use Rattle.ras_host.proofs.ToldLemmas.{device_kept, does_saved, held_turned, may_turn_listed, of_device, on_err, on_ok, settled_turned, store_stops, store_stored, turned_listed}
+use Rattle.ras_host.proofs.ReadingLemmas.{reading_off}
+use Rattle.ras_host.proofs.ToldLemmas.{device_kept, does_saved, held_turned, may_turn_listed, of_device, on_err, on_ok, settled_turned, spared_then, store_stops, store_stored, turned_listed}
 use Rattle.ras_host.proofs.file_board.FileBoardBoard.reg_write.Goals as goal
 
 pub returns-clause-does : goal.returns-clause-does
@@ -38,4 +39,6 @@ invariant_of-self g c =
       turned.in_step,
       settled_turned b.files b.kept r.new.self _ _ turned.saved c.self.invariant.2,
       caused_device g.U.Use.HOW b.files b.kept r.new.self _ _ _ _ r.result c.self.invariant.3 r.ensures.once (done_here (after_reg_write c.args.reg c.args.value) b.kept r.new.self r.result r.ensures.does) c.counted.ensures.counts,
+      spared_then g.B.Found.past _ _ c.self.invariant.4 turned.spares,
+      (λ is. reading_off b.kept r.new.self g.B.Found.past _ _ (c.self.invariant.5 is) r.ensures.off),
     )

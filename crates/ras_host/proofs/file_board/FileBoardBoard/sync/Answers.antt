@@ -7,7 +7,8 @@ use Rattle.ras_host.specs.BoardState.{BoardState}
 use Rattle.ras_host.specs.Steps.KeptDevice.{IsSaved}
 use Rattle.ras_host.proofs.BlameLemmas.{caused_files}
 use Rattle.ras_host.proofs.DiskCallLemmas.{begun, made_synced}
-use Rattle.ras_host.proofs.ToldLemmas.{in_step_moved, settled_moved, settled_now}
+use Rattle.ras_host.proofs.ReadingLemmas.{reading_then}
+use Rattle.ras_host.proofs.ToldLemmas.{in_step_moved, settled_moved, settled_now, spared_moved}
 use Rattle.ras_host.proofs.file_board.FileBoardBoard.sync.Goals as goal
 
 pub invariant_of-self-2 : goal.invariant_of-self-2
@@ -19,6 +20,8 @@ invariant_of-self-2 g c =
       in_step_moved Same SeesSame b.files r.new.self b.kept _ _ r.ensures.moves (λ p q same. ap (λ (l : Left). l.store) same) was.1,
       settled_moved SeesSame Same b.files r.new.self b.kept _ _ r.ensures.moves was.1 was.2,
       caused_files g.U.Use.HOW b.files r.new.self b.kept _ _ _ _ r.result was.3 r.ensures.blamed r.ensures.cause c.counted-2.ensures.counts,
+      spared_moved SeesSame Same b.files r.new.self g.B.Found.past _ _ r.ensures.moves was.4,
+      (λ is. reading_then b.kept g.B.Found.past _ _ (was.5 is) (r.ensures.moves.reading (was.3.report is))),
     )
 
 pub returns : goal.returns

@@ -5,8 +5,8 @@ use Rattle.ras_host.specs.BoardState.{BoardState}
 use Rattle.ras_host.specs.JournalFiles.{IsReady}
 use Rattle.ras_host.proofs.BlameLemmas.{blamed_later, caused_files, files_asked}
 use Rattle.ras_host.proofs.DiskCallLemmas.{begun, begun_file, made_refused, made_wrote, write_unready}
-use Rattle.ras_host.proofs.JournalLemmas.{held_wrote, ready_open}
-use Rattle.ras_host.proofs.ToldLemmas.{in_step_wrote, settled_wrote}
+use Rattle.ras_host.proofs.JournalLemmas.{held_wrote, ready_open, reading_unwritten}
+use Rattle.ras_host.proofs.ToldLemmas.{in_step_wrote, settled_wrote, spared_wrote}
 use Rattle.ras_host.proofs.file_board.FileBoardBoard.write_at.Goals as goal
 
 pub returns-in_err-begin : goal.returns-in_err-begin
@@ -53,6 +53,8 @@ invariant_of-self-2 g c =
       in_step_wrote c.args.file c.args.place c.args.bytes.now r.result b.kept _ _ wrote c.self.invariant.1,
       settled_wrote c.args.file b.files b.kept _ _ wrote.keeps c.self.invariant.2,
       caused_files g.U.Use.HOW b.files b.files b.kept _ _ _ _ r.result c.self.invariant.3 (blamed_later b.files _ _ r.ensures.cause.later c.self.invariant.3.blamed) (files_asked b.files _ _ r.result r.ensures.cause) c.counted-2.ensures.counts,
+      spared_wrote c.args.file g.B.Found.past _ _ wrote.keeps c.self.invariant.4,
+      (λ is. absurd (reading_unwritten c.args.file b.files ready c.in_default.not-Seen (c.self.invariant.3.report is))),
     )
 
 pub returns : goal.returns

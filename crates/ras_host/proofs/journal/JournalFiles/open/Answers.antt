@@ -1,5 +1,6 @@
 use Rattle.host_system.proofs.CallLemmas.{names}
 use Rattle.ras_host.proofs.JournalLemmas.{names_held, names_moves}
+use Rattle.ras_host.proofs.ReadingLemmas.{goes_names}
 use Rattle.ras_host.proofs.journal.JournalFiles.open.Goals as goal
 
 pub returns-in_ok-files-in-Unread-clause-moves : goal.returns-in_ok-files-in-Unread-clause-moves
@@ -9,7 +10,7 @@ returns-in_ok-files-in-Unread-clause-moves g c =
     let after = names n.result _ _ n.ensures.told n.ensures.failed in
     names_moves c.sync_names-answer.result c.is_ok-is_sound-in-Unread.result read.files c.both-in-Unread.result _ _ _ _
     c.in-Unread.is read.ensures.told c.is_ok-is_sound-in-Unread.ensures.value c.both-in-Unread.ensures
-    after.told after.keeps after.stops after.named
+    after.told after.keeps after.stops after.named (goes_names n.result _ _ n.ensures.told n.ensures.failed)
 
 pub returns-in_ok-files-in-Unread-clause-held : goal.returns-in_ok-files-in-Unread-clause-held
 returns-in_ok-files-in-Unread-clause-held g c =

@@ -12,7 +12,7 @@ returns-in_err-change-in-Action-clause-turned g c =
     let taken = c.in_ok-saved.ensures in
     let saved = c.in_ok-saved.saved in
     let failed = c.from_residual-in_err-change-in-Action in
-    let in_step = subst (λ (o : Option FolderPast). IfSome o (IsInStep (Here saved))) (sym taken.told) (in_step_taken saved _ _ c.requires taken.taken) in
+    let in_step = subst (λ (o : Option FolderPast). IfSome o (IsInStep (Here saved))) (sym taken.told) (in_step_taken saved _ _ c.requires taken.filed taken.taken) in
     turned_action c.args.reg c.args.value saved c.args.self.now c.act.new.self failed.result _ _ _ c.in-Action.is taken.told taken.taken taken.used
     (turned_ended (act c.args.value) saved c.act.new.self failed.result _ _ failed.ensures.0 refl in_step c.in_err-change-in-Action.ensures.err)
 
@@ -20,6 +20,6 @@ pub returns-in_ok-change-in-Action-clause-turned : goal.returns-in_ok-change-in-
 returns-in_ok-change-in-Action-clause-turned g c =
     let taken = c.in_ok-saved.ensures in
     let saved = c.in_ok-saved.saved in
-    let in_step = subst (λ (o : Option FolderPast). IfSome o (IsInStep (Here saved))) (sym taken.told) (in_step_taken saved _ _ c.requires taken.taken) in
+    let in_step = subst (λ (o : Option FolderPast). IfSome o (IsInStep (Here saved))) (sym taken.told) (in_step_taken saved _ _ c.requires taken.filed taken.taken) in
     turned_action c.args.reg c.args.value saved c.args.self.now c.save.new.self c.save.result _ _ _ c.in-Action.is taken.told taken.taken taken.used
     (c.save.ensures.turned (act c.args.value) saved c.in_ok-change-in-Action.ensures.ok in_step)
