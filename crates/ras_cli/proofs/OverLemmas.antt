@@ -30,9 +30,9 @@ use Rattle.ras_exit.specs.Endings.{CallEnding, OnAnswer, UnlessFaulted, answered
 use Rattle.ras_exit.specs.StopLine.{stop_line}
 use Rattle.ras_exit.specs.Telling.{OnlyText, PrintsPart}
 use Rattle.ras_exit.specs.declared.exit.Exit.{Exit}
-use Rattle.ras_host.specs.BoardState.{BoardState}
+use Rattle.ras_host.specs.BoardState.{BoardState, kept_for}
 use Rattle.ras_host.specs.Steps.Telling.{clock_of, seen_of, told_of, told_with}
-use Rattle.ras_host.specs.Steps.KeptDevice.{kept_for, volatile_in}
+use Rattle.ras_host.specs.Steps.KeptDevice.{volatile_in}
 use Rattle.ras_host.specs.declared.kept.Kept.{Kept}
 use Rattle.ras_host.specs.declared.kept.Kept.TheVariants.{Unread, Unreadable}
 use Rattle.ras_journal.specs.Recovered.{Recovers}

@@ -4,10 +4,11 @@ use Rattle.std.specs.Prelude.{◌⊎◌, ◌==◌, if◌then◌else◌, Bool, tr
 use Rattle.board_core.specs.Cause.{Faults, HasCause, Rose}
 use Rattle.board_core.specs.declared.board.BoardPut.{BoardPut}
 use Rattle.ras_host.specs.Blame.{AreBlamed, AreCaused, AreReports, FilesCause, IsLost}
+use Rattle.ras_host.specs.BoardState.{kept_for}
 use Rattle.ras_host.specs.JournalFiles.{files_for}
 use Rattle.ras_host.specs.Steps.Once.{CountsOnce}
 use Rattle.erst_store.specs.Device.{Device}
-use Rattle.ras_host.specs.Steps.KeptDevice.{Does, IsHere, IsSaved, Puts, after_answer, kept_for}
+use Rattle.ras_host.specs.Steps.KeptDevice.{Does, IsHere, IsSaved, Puts, after_answer}
 use Rattle.ras_host.specs.declared.journal.JournalFiles.{JournalFiles}
 use Rattle.ras_host.specs.declared.journal.JournalFiles.TheVariants.{Shut, Open, Unread, Seen}
 use Rattle.ras_host.specs.declared.kept.Kept.{Kept}

@@ -31,8 +31,9 @@ use Rattle.host_system.specs.StoreFile.{HasReplaced, KeepsWhole, Replaces, Spare
 use Rattle.host_system.specs.View.{HasWholeStore, IsFileOf, MayBeRead, MayBegin, clock_over, seen_now, store_in}
 use Rattle.host_system.specs.Steps.FolderPastLemmas.{stands}
 use Rattle.host_system.specs.declared.system.FileName.TheVariants.{Store}
+use Rattle.ras_host.specs.BoardState.{kept_for}
 use Rattle.ras_host.specs.JournalFiles.{AreHeld, files_for}
-use Rattle.ras_host.specs.Steps.KeptDevice.{Acts, BecomesBy, IsChange, IsInStep, IsOff, IsSaved, IsUsed, Keeps, KeepsOrLoses, MayTurn, Settles, StaysOrLoses, Turned, Turns, device_in, is_same_record, is_same_store, kept_for, volatile_in}
+use Rattle.ras_host.specs.Steps.KeptDevice.{Acts, BecomesBy, IsChange, IsInStep, IsOff, IsSaved, IsUsed, Keeps, KeepsOrLoses, MayTurn, Settles, StaysOrLoses, Turned, Turns, device_in, is_same_record, is_same_store, volatile_in}
 use Rattle.ras_host.specs.Steps.Settled.{IsSettledBy}
 use Rattle.ras_host.specs.Steps.Written.{Writes}
 use Rattle.ras_host.specs.declared.journal.JournalFiles.{JournalFiles}
@@ -41,28 +42,6 @@ use Rattle.ras_host.specs.declared.kept.Change.{Change}
 use Rattle.ras_host.specs.declared.kept.Kept.{Kept}
 use Rattle.ras_host.specs.declared.kept.Kept.TheVariants.{Unread, Here, Lost, Unreadable}
 use Rattle.ras_host.specs.declared.saved.Saved.{Saved}
-
--- ---- the store's file is read
-
-whole : (most n : ℕ) (o : Option (List ℕ)) → Some n ≡ option_map length o → n ≤ most → option_map (take most) o ≡ o
-whole most n None is within = absurd (none_is is)
-  where
-    none_is : Some n ≡ None → ⊥
-    none_is e = cc
-whole most n (Some bytes) is within = ap Some (take_all most bytes (short is))
-  where
-    short : Some n ≡ Some (length bytes) → length bytes ≤ most
-    short e = let count : n ≡ length bytes = cc in omega arith
-
-pub read_whole : {V E : Type 0} (items : V → List ℕ) (result : Result (Option V) E) (most n : ℕ) (a b : Option FolderPast) → b ≡ a → IfSome a HasWholeStore
-    → IfSome a (λ p. Some n ≡ length_told Store p) → n ≤ most
-    → IfOk result (λ found. IfSome b (λ p. MayBeRead Store p → option_map items found ≡ option_map (take most) (bytes_named Store p)))
-    → IfOk result (λ found. IfSome a (λ p. option_map items found ≡ bytes_named Store p))
-read_whole items (Err e) most n a b same settled is within read = tt
-read_whole items (Ok found) most n None b same settled is within read = tt
-read_whole items (Ok found) most n (Some p) b same settled is within read =
-    (subst (λ (o : Option FolderPast). IfSome o (λ p. MayBeRead Store p → option_map items found ≡ option_map (take most) (bytes_named Store p))) same read) settled
-    ∙ whole most n (bytes_named Store p) is within
 
 pub whole_in : (kept : Kept) (told : Option FolderPast) → IfSome told (IsInStep kept) → IfSome told HasWholeStore
 whole_in kept None is = tt
@@ -508,54 +487,3 @@ turned_or step old new (Err e) f before after turned = record { ok = tt; err = t
 
 pub put_is : (id : ℕ) (bytes : List ℕ) (d made : Device) → made ≡ with_put id bytes d → refusal_of id bytes d.store ≡ None → made ≡ after_put id bytes d
 put_is id bytes d made is free = is ∙ ap (λ (r : Option PutRefused). unless_refused r (with_put id bytes d) d) (sym free)
-
--- ---- a beginning
-
-pub store_kept : (AreBytes : List ℕ → Type 0) → ((bytes : List ℕ) → AreBytes bytes → IsStore (store_at bytes)) → (o : Option (List ℕ)) → AreBytes (bytes_or o) → IsStore (store_in o)
-store_kept AreBytes law None are = IsStore-nil
-store_kept AreBytes law (Some bytes) are = law bytes are
-
-begun_unread : ((p : FolderPast) → MayBegin p → IsStore (seen_now p).store) → (p : FolderPast) → MayBegin p → IsInStep Unread p
-begun_unread law p may = record {
-  filed = tt;
-  over = tt;
-  device = IsDevice-new (seen_now p).store 0 (law p may) (omega arith);
-  whole = may.whole;
-}
-
-begun_unused : ((p : FolderPast) → MayBegin p → IsStore (seen_now p).store) → (p : FolderPast) → MayBegin p → IsInStep Unreadable p
-begun_unused law p may = record {
-  filed = tt;
-  over = tt;
-  device = IsDevice-new (seen_now p).store 0 (law p may) (omega arith);
-  whole = may.whole;
-}
-
-of_kept : (P : Kept → Type 0) (is_run : Bool) → P Unread → P Unreadable → P (if is_run then Unread else Unreadable)
-of_kept P true run report = run
-of_kept P false run report = report
-
-pub in_step_begun : ((p : FolderPast) → MayBegin p → IsStore (seen_now p).store) → (how : ℕ) (told : Option FolderPast) → IfSome told MayBegin → IfSome told (IsInStep (kept_for how))
-in_step_begun law how None may = tt
-in_step_begun law how (Some p) may = of_kept (λ k. IsInStep k p) (how == 1) (begun_unread law p may) (begun_unused law p may)
-
-pub off_begun : (how : ℕ) → how ≡ 0 → IsOff (kept_for how)
-off_begun how is = subst (λ (h : ℕ). IsOff (kept_for h)) (sym is) tt
-
--- a device that can't be taken out isn't used
-pub off_never : {T E : Type 0} (P : Type 0) (result : Result T E) (x : T) → result ≡ Ok x → IsErr result → P
-off_never P (Ok y) x is never = absurd cc
-off_never P (Err e) x is never = absurd cc
-
--- a fact of a run's files and of a report's
-of_files : (P : JournalFiles → Type 0) (is_run : Bool) → P Shut → P NotRead → P (if is_run then Shut else NotRead)
-of_files P true run report = run
-of_files P false run report = report
-
-pub held_begun : (how : ℕ) (told : Option FolderPast) → IfSome told MayBegin → IfSome told (AreHeld (files_for how))
-held_begun how None may = tt
-held_begun how (Some p) may = of_files (λ f. AreHeld f p) (how == 1) (record { zero = may.zero; one = may.one }) (record { zero = may.zero; one = may.one })
-
-pub settled_begun : (how : ℕ) (kept : Kept) (told : Option FolderPast) → IfSome told (IsSettledBy (files_for how) kept)
-settled_begun how kept None = tt
-settled_begun how kept (Some p) = of_files (λ f. IsSettledBy f kept p) (how == 1) (λ never. absurd never) (λ never. absurd never)

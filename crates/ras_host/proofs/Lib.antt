@@ -1,3 +1,4 @@
+pub mod BegunLemmas
 pub mod BlameLemmas
 pub mod JournalLemmas
 pub mod KeptLemmas

@@ -3,7 +3,7 @@ use Rattle.std.proofs.Common.{◌≡◌, ℕ, List, [], ◌∷◌, ◌++◌, app
 use Rattle.std.specs.Prelude.{Option, None, IfSome, IsSomeAnd, Result, Ok, Err, OnErr}
 use Rattle.board_core.specs.declared.board.FileNo.{FileNo}
 use Rattle.host_system.specs.Folder.{FolderChange, synced, loses, synced_names, printed}
-use Rattle.host_system.specs.FolderPast.{AllAre, Did, FolderPast, GoesOnBy, IfTold, MayPrint, PrintsOrSyncs, changed_by}
+use Rattle.host_system.specs.FolderPast.{AllAre, Did, FolderPast, GoesOnBy, IfTold, MayPrint, PrintsOrSyncs}
 use Rattle.host_system.specs.declared.system.FileName.TheVariants.{Journal}
 use Rattle.ras_host.specs.Steps.KeptDevice.{IsOff, IsReading, StaysOff}
 use Rattle.ras_host.specs.declared.kept.Kept.{Kept}

@@ -1,9 +1,14 @@
 -- What contracts can say of a board over a system.
-use Rattle.std.specs.Prelude.{ℕ, List, Option}
+use Rattle.std.specs.Prelude.{ℕ, ◌==◌, if◌then◌else◌, List, Option}
 use Rattle.board_core.specs.Cause.{Faults}
 use Rattle.host_system.specs.FolderPast.{FolderPast}
 use Rattle.ras_host.specs.declared.journal.JournalFiles.{JournalFiles}
 use Rattle.ras_host.specs.declared.kept.Kept.{Kept}
+use Rattle.ras_host.specs.declared.kept.Kept.TheVariants.{Unread, Unreadable}
+
+-- the device of a board before its first use, which only a run uses: its kind is 1
+abbrev pub kept_for : ℕ → Kept
+kept_for how = if how == 1 then Unread else Unreadable
 
 -- what was done to the folder, if the system is modelled; the journal's files and the device as the board has
 -- them; how often its calls have failed, and how often the system's; the calls that it lists, as numbers

@@ -4,12 +4,13 @@ ghost use Rattle.board_core.specs.Cause.{FailsAs, disk_call};
 ghost use Rattle.board_core.specs.Clock.{Passes};
 ghost use Rattle.board_core.specs.Stop.{Same};
 ghost use Rattle.board_core.specs.Told.{Steps, with_call};
+ghost use Rattle.host_system.specs.FolderPast.{GoesOnBy, PrintsOrSyncs};
 ghost use Rattle.host_system.specs.StoreFile.{SparesNoStore};
 ghost use Rattle.host_system.specs.View.{MayBegin};
 ghost use Rattle.ras_host.specs.Steps.Telling.{clock_of, seen_of, told_of};
 ghost use Rattle.ras_host.specs.Blame.{AreCaused};
 ghost use Rattle.ras_host.specs.JournalFiles.{IsReady, files_for};
-ghost use Rattle.ras_host.specs.Steps.KeptDevice.{IsReading, kept_for};
+ghost use Rattle.ras_host.specs.BoardState.{kept_for};
 ghost use Rattle.ras_host.specs.Steps.BoardLaws.{board_told_left, board_text_left, board_earlier_left};
 
 use crate::faults::count_put;
@@ -26,10 +27,9 @@ use std::marker::{Model, PhantomData};
 /// A board over the files `rasd.0`, `rasd.1` and `rasd.store` of the working folder, and over
 /// standard output. It is modelled if its system is. Each call that fails is counted, by its kind.
 ///
-/// The record store is read when the device is first used, and is empty if its file is missing. Only
-/// a run uses the device.
+/// The record store is read when the device is first used, and is empty if its file is missing.
 /// Each change of the store is written to its file before the call returns. A file that isn't a
-/// store's isn't replaced.
+/// store's isn't replaced. Only a run uses the device.
 #[derive(Drop)]
 pub struct FileBoard<S: System + Drop, U: Use, B: Found> {
     alloc: Global,
@@ -118,7 +118,8 @@ impl<S: System + Drop, U: Use, B: Found> FileBoard<S, U, B> {
         ensures count { S.faults result ≡ self.count }
         ensures caused { AreCaused U.HOW self.files self.kept self.faults self.count }
         ensures spares { IfSome B.past (λ found. IsSomeAnd self.past (SparesNoStore found)) }
-        ensures reading { U.HOW ≡ 0 → IsReading self.kept B.past self.past }
+        ensures reading { U.HOW ≡ 0 → IfSome B.past (λ found. IsSomeAnd self.past
+            (GoesOnBy PrintsOrSyncs found)) }
     {
         self.system
     }

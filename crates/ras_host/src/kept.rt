@@ -10,8 +10,9 @@ ghost use Rattle.erst_store.specs.Store.{AnswersRefusal, refusal_of};
 ghost use Rattle.erst_store.specs.StoreFile.{store_bytes};
 ghost use Rattle.host_system.specs.View.{seen_now, IsFileOf};
 ghost use Rattle.host_system.specs.FolderPast.{bytes_named};
+ghost use Rattle.ras_host.specs.BoardState.{kept_for};
 ghost use Rattle.ras_host.specs.Steps.Once.{CountsOnce};
-ghost use Rattle.ras_host.specs.Steps.KeptDevice.{Acts, Does, IfRefused, IsChange, IsHere, IsInStep, IsOff, IsSaved, IsThere, IsUsed, Keeps, Looks, Puts, Stays, StaysOff, StaysOrLoses, Turned, after_answer, device_in, kept_for};
+ghost use Rattle.ras_host.specs.Steps.KeptDevice.{Acts, Does, IfRefused, IsChange, IsHere, IsInStep, IsOff, IsSaved, IsThere, IsUsed, Keeps, Looks, Puts, Stays, StaysOff, StaysOrLoses, Turned, after_answer, device_in};
 
 use crate::saved::{RECORD_HEADING, Saved};
 use board_core::{BoardPut, Failed, Reg};

@@ -20,10 +20,6 @@ use Rattle.ras_host.specs.declared.kept.Kept.{Kept}
 use Rattle.ras_host.specs.declared.saved.Saved.{Saved}
 use Rattle.ras_host.specs.declared.kept.Kept.TheVariants.{Unread, Here, Lost, Unreadable}
 
--- the device of a board before its first use: a run's if the kind is 1; a report uses no device
-abbrev pub kept_for : ℕ → Kept
-kept_for how = if how == 1 then Unread else Unreadable
-
 -- The device isn't used: the board is a report's, or the store's file couldn't be read.
 abbrev pub IsOff : Kept → Type 0
 IsOff Unreadable = Unit {0}

@@ -2,7 +2,7 @@ use Rattle.std.proofs.Common.{◌≡◌, ℕ, subst}
 use Rattle.std.specs.Prelude.{IfSome, Option}
 use Rattle.host_system.specs.FolderPast.{length_told}
 use Rattle.host_system.specs.declared.system.FileName.TheVariants.{Store}
-use Rattle.ras_host.proofs.KeptLemmas.{read_whole}
+use Rattle.ras_host.proofs.BegunLemmas.{read_whole}
 use Rattle.ras_host.proofs.saved.read_store.Goals as goal
 
 pub returns-in-Some-2-clause-read : goal.returns-in-Some-2-clause-read

@@ -1,8 +1,8 @@
 use Rattle.host_system.specs.FolderPast.{bytes_named}
 use Rattle.host_system.specs.declared.system.FileName.TheVariants.{Store}
-use Rattle.ras_host.specs.Steps.KeptDevice.{kept_for}
+use Rattle.ras_host.specs.BoardState.{kept_for}
 use Rattle.ras_host.proofs.BlameLemmas.{caused_begun}
-use Rattle.ras_host.proofs.KeptLemmas.{held_begun, in_step_begun, off_begun, settled_begun, store_kept}
+use Rattle.ras_host.proofs.BegunLemmas.{held_begun, in_step_begun, off_begun, settled_begun, store_kept}
 use Rattle.ras_host.proofs.ReadingLemmas.{reading_begun}
 use Rattle.ras_host.proofs.ToldLemmas.{spared_begun}
 use Rattle.ras_host.proofs.file_board.FileBoard.new.Goals as goal
