@@ -1,5 +1,5 @@
 -- An event that counts what is made of its line, by the account that it is counted after.
-use Rattle.std.proofs.Common.{◌≡◌, ℕ, Bool, true, false, if◌then◌else◌, ◌||◌, Option, None, Some, List, [], ◌++◌, Result, Ok, Err, OnErr, IfErr, refl, sym, ap, subst, ◌∙◌, append_assoc, append-nil, arith}
+use Rattle.std.proofs.Common.{◌≡◌, ℕ, Bool, true, false, if◌then◌else◌, ◌||◌, Option, None, Some, List, [], ◌++◌, Result, Ok, Err, OnErr, IfErr, refl, sym, ap, subst, ◌∙◌, append-nil, arith}
 use Rattle.std.proofs.lemmas.Bool.Decides.{nat_tests}
 use Rattle.board_core.specs.Cause.{print_call}
 use Rattle.board_core.specs.Doing.{Act, Does, IsBad, Seen, one_end, went_well}
@@ -32,10 +32,10 @@ use Rattle.ras_run.specs.Taking.{CountsMade, CountsNews, CountsPolled, IsPrintEx
 
 -- ---- room
 
-within_past : (n : Numbers) → AreWithin n → are_past n ≡ false
+pub within_past : (n : Numbers) → AreWithin n → are_past n ≡ false
 within_past n within = grind (arith, nat_tests, within.names, within.entries, within.total)
 
-no_or : (a b : Bool) → a ≡ false → b ≡ false → (a || b) ≡ false
+pub no_or : (a b : Bool) → a ≡ false → b ≡ false → (a || b) ≡ false
 no_or a b one two = rw (one, two) refl
 
 pub text_told : (a now : State) (made : List Piece) (news : List Entry) (first text : List ℕ) → now ≡ a → news ≡ fresh_entries_in a (entries_in made) → first ≡ text_along a made
@@ -139,21 +139,16 @@ module _ (made : List Piece) (before after : Ledger) (fit : IsFit made) (refusal
 -- ---- its text is printed, and then its done line
 
 module _ {X : Type 0} (see : X → Seen) (a : State) (number : ℕ) (s : Standing) (made : List Piece) where
-  both_are : told_acts a s made ++ print_acts (done_line number) ≡ made_acts a number s made
-  both_are = append_assoc (news_acts s a (fresh_entries_in a (entries_in made))) (print_acts (event_text_in a made)) (print_acts (done_line number))
-
   pub not_told : (exit : Exit) (x y : X) → Does see (told_acts a s made) (end_of (ending_of exit)) x y → Does see (made_acts a number s made) (end_of (ending_of exit)) x y
   not_told exit x y does =
-      subst (λ (acts : List Act). Does see acts (end_of (ending_of exit)) x y) both_are
-      (does_first see (told_acts a s made) (print_acts (done_line number)) (end_of (ending_of exit)) x y (end_is_bad (ending_of exit)) does)
+      does_first see (told_acts a s made) (print_acts (done_line number)) (end_of (ending_of exit)) x y (end_is_bad (ending_of exit)) does
 
   pub told_done : (done : List ℕ) (printed : Result (Unit {0}) Exit) (x y z : X) → done ≡ done_line number → Does see (told_acts a s made) went_well x y → Does see (print_acts done) (one_end print_call printed) y z
       → OnErr printed (printed ≡ Err PrintFault) → Does see (made_acts a number s made) (part_end printed) x z
   told_done done printed x y z done_is first second fault =
       as_part see (made_acts a number s made) printed x z fault
-      (subst (λ (acts : List Act). Does see acts (one_end print_call printed) x z) both_are
       (does_then see (told_acts a s made) (print_acts (done_line number)) (one_end print_call printed) x y z first (made_one print_call printed)
-      (subst (λ bytes. Does see (print_acts bytes) (one_end print_call printed) y z) done_is second)))
+      (subst (λ bytes. Does see (print_acts bytes) (one_end print_call printed) y z) done_is second))
 
 -- ---- a line that reports no news
 
@@ -165,4 +160,4 @@ module _ (number : ℕ) (settings : Settings) (line : Line) (text : List ℕ) (b
   repeat_acts =
       ap (λ bytes. event_prints bytes number)
       (text_told before.account.state before.account.state repeat.made [] text text refl (sym repeat.none) repeat.lines (sym (append-nil text)))
-      ∙ ap (λ (news : List Entry). news_acts before.journal.standing before.account.state news ++ event_prints (event_text_in before.account.state repeat.made) number) (sym repeat.none)
+      ∙ ap (λ (news : List Entry). (news_acts before.journal.standing before.account.state news ++ print_acts (event_text_in before.account.state repeat.made)) ++ print_acts (done_line number)) (sym repeat.none)

@@ -1,17 +1,14 @@
 -- What stops leave of the prints of a line, as the course of the line has it.
-use Rattle.std.proofs.Common.{◌≡◌, ◌∙◌, ℕ, false, List, [], ◌++◌, if◌then◌else◌, refl, sym, ap, subst, inl, inr, append-nil}
-use Rattle.board_core.specs.Doing.{Moment, after_acts}
+use Rattle.std.proofs.Common.{◌≡◌, ◌∙◌, ℕ, List, [], ◌++◌, refl, sym, ap, subst, inl, inr, append-nil}
+use Rattle.board_core.specs.Doing.{Moment}
 use Rattle.board_core.specs.Stop.{Begins, InOut, Left}
 use Rattle.board_core.specs.Told.{Told}
-use Rattle.board_core.proofs.DoingLemmas.{moment_parts}
 use Rattle.ras_account.specs.Account.{State}
 use Rattle.ras_journal.specs.declared.standing.Standing.{Standing}
 use Rattle.ras_journal.specs.Recovered.{IsAt, Recovers, recovered}
-use Rattle.ras_events.specs.Stores.{unreadable}
 use Rattle.ras_exit.specs.Acts.{print_acts}
-use Rattle.ras_exit.proofs.PrintLemmas.{after_printed, print_moment}
+use Rattle.ras_exit.proofs.PrintLemmas.{print_moment}
 use Rattle.ras_run.specs.Moments.{Course, CourseMoment, store_left}
-use Rattle.ras_run.proofs.StandsLemmas.{print_at}
 
 -- ---- one print
 
@@ -57,20 +54,3 @@ module _ (Accepted : Type 0) (accepted : Accepted) (c : Course) (out : List ℕ)
           text = subst (λ before. Begins c.done before left.out) text (begun c.done u.here left by);
         })),
       )
-
--- of both, if it clears none
-module _ (Accepted : Type 0) (accepted : Accepted) (c : Course) (out : List ℕ) (u : Told) (s : Standing) (at : IsAt s c.after u.here) (store : u.here.store ≡ c.stored) (none : c.clears ≡ false) (text : u.here.out ≡ out) where
-  abbrev printed : Told
-  printed = after_acts (print_acts c.text) u
-
-  store_then : printed.here.store ≡ store_left c
-  store_then = ap (λ (v : Told). v.here.store) (after_printed c.text u) ∙ (store ∙ sym (ap (λ b. if b then unreadable c.stored else c.stored) none))
-
-  text_then : printed.here.out ≡ out ++ c.text
-  text_then = ap (λ (v : Told). v.here.out) (after_printed c.text u) ∙ ap (λ before. before ++ c.text) text
-
-  pub course_prints : (left : Left) → Moment (print_acts c.text ++ print_acts c.done) u left → CourseMoment Accepted c out left
-  course_prints left moment = elim (moment_parts (print_acts c.text) (print_acts c.done) u left moment) [
-    | inl first ↦ text_moment Accepted accepted c out u s at store text left first
-    | inr second ↦ done_moment Accepted accepted c out printed s (print_at c.text s c.after u at) store_then text_then left second
-  ]

@@ -19,13 +19,17 @@ use Rattle.ras_events.specs.declared.event.LineRefusal.{LineRefusal}
 use Rattle.ras_events.specs.declared.event.LineRefusal.TheVariants.{Bad, NoTable}
 use Rattle.ras_events.specs.declared.settings.Settings.{Settings}
 use Rattle.ras_events.specs.Events.{Lists, event_of, has_source, panic_refusal, report_event, settings_after}
+use Rattle.ras_run.specs.Deeds.{Asking, deed_of, polls, saves}
 use Rattle.ras_run.proofs.StoreLemmas.{chosen, each, tabled, unless}
 
--- an event that is done by the driver
+-- what is asked for is done by the driver
+abbrev pub IsByDriver : Asking → Type 0
+IsByDriver (saves r) = Unit {0}
+IsByDriver (polls seconds) = Unit {0}
+IsByDriver asks = ⊥
+
 abbrev pub IsDriven : Event → Type 0
-IsDriven (Saved id bytes) = Unit {0}
-IsDriven (Polled seconds) = Unit {0}
-IsDriven event = ⊥
+IsDriven event = IsByDriver (deed_of (Ok event)).asks
 
 pub record Driven (settings : Settings) (line : Line) : Type 0 where
   pub lists : Lists

@@ -22,6 +22,6 @@ pub mod DeviceActLemmas
 pub mod CourseLemmas
 pub mod AskedLemmas
 pub mod MadeLemmas
-pub mod PollLemmas
+pub mod DeedLemmas
 pub mod LineLawLemmas
 pub mod LineFewLemmas

@@ -21,13 +21,12 @@ use Rattle.ras_run.specs.Keeping.{lacks_room}
 use Rattle.ras_run.proofs.KeepingLemmas.{keeping_ends, keeping_leaves}
 use Rattle.ras_events.specs.declared.made.Piece.{Piece}
 use Rattle.ras_events.specs.Making.{entries_in}
-use Rattle.ras_events.specs.Preparing.{event_text_in}
 use Rattle.ras_events.specs.Sizes.{IsFit}
 use Rattle.ras_events.proofs.HistoryLemmas.{news_account}
 use Rattle.ras_events.proofs.NewsLemmas.{numbers_news, valid_news}
 use Rattle.ras_exit.specs.declared.exit.Exit.TheVariants.{Full}
 use Rattle.ras_exit.specs.Acts.{print_acts}
-use Rattle.ras_run.specs.LineActs.{news_acts, told_acts}
+use Rattle.ras_run.specs.LineActs.{news_acts, telling_acts}
 use Rattle.ras_run.specs.Moments.{Course, CourseMoment}
 use Rattle.ras_run.specs.Places.{has_no_room_for, lacks_room_for, standing_with_news}
 use Rattle.ras_run.proofs.CourseLemmas.{begins_nothing, text_moment}
@@ -105,15 +104,15 @@ module _ (a : State) (s : Standing) (u : Told) (account : IsAccount a) (at : IsA
   abbrev kept : Told
   kept = after_acts (news_acts s a news) u
 
-  pub told_at : IsAt made_standing made_account (after_acts (told_acts a s made) u).here
-  told_at = subst (λ (v : Told). IsAt made_standing made_account v.here) (sym (told_is s a made u)) (print_at (event_text_in a made) made_standing made_account kept news_at)
+  pub told_at : (text : List ℕ) → IsAt made_standing made_account (after_acts (telling_acts a s made text) u).here
+  told_at text = subst (λ (v : Told). IsAt made_standing made_account v.here) (sym (told_is s a made text u)) (print_at text made_standing made_account kept news_at)
 
   -- what stops leave meanwhile, of a line that goes so
-  module _ (Accepted : Type 0) (accepted : Accepted) (c : Course) (out : List ℕ) (before : c.before ≡ a) (after : c.after ≡ made_account) (text : c.text ≡ event_text_in a made) (store : u.here.store ≡ c.stored) (here : u.here.out ≡ out) where
+  module _ (Accepted : Type 0) (accepted : Accepted) (c : Course) (out : List ℕ) (before : c.before ≡ a) (after : c.after ≡ made_account) (store : u.here.store ≡ c.stored) (here : u.here.out ≡ out) where
     news_store : kept.here.store ≡ c.stored
     news_store = (acts_device (news_acts s a news) (news_off s a news) u).store ∙ store
 
-    pub news_moment : (left : Left) → Moment (news_acts s a news) u left → CourseMoment Accepted c out left
+    news_moment : (left : Left) → Moment (news_acts s a news) u left → CourseMoment Accepted c out left
     news_moment left moment =
         let leaves = kept_moment left news refl parts.1 moment in
         let same : left.store ≡ c.stored = moment_store (news_acts s a news) (news_off s a news) u left moment ∙ store in
@@ -129,10 +128,8 @@ module _ (a : State) (s : Standing) (u : Told) (account : IsAccount a) (at : IsA
           )
         ]
 
-    pub told_moment : (left : Left) → Moment (told_acts a s made) u left → CourseMoment Accepted c out left
-    told_moment left moment = elim (moment_parts (news_acts s a news) (print_acts (event_text_in a made)) u left moment) [
+    pub told_moment : (left : Left) → Moment (telling_acts a s made c.text) u left → CourseMoment Accepted c out left
+    told_moment left moment = elim (moment_parts (news_acts s a news) (print_acts c.text) u left moment) [
       | inl keeping ↦ news_moment left keeping
-      | inr printing ↦
-          text_moment Accepted accepted c out kept made_standing (subst (λ (b : State). IsAt made_standing b kept.here) (sym after) news_at) news_store (news_out s a news u ∙ here) left
-          (subst (λ (piece : List ℕ). Moment (print_acts piece) kept left) (sym text) printing)
+      | inr printing ↦ text_moment Accepted accepted c out kept made_standing (subst (λ (b : State). IsAt made_standing b kept.here) (sym after) news_at) news_store (news_out s a news u ∙ here) left printing
     ]

@@ -23,6 +23,7 @@ use Rattle.ras_journal.specs.declared.standing.Standing.{Standing}
 use Rattle.ras_events.specs.declared.made.Piece.{Piece}
 use Rattle.ras_events.specs.Events.{Lists}
 use Rattle.ras_events.specs.Making.{entries_in, polled}
+use Rattle.ras_events.specs.Preparing.{event_text_in}
 use Rattle.ras_events.specs.Sizes.{IsFit}
 use Rattle.ras_exit.specs.declared.exit.Exit.{Exit}
 use Rattle.ras_exit.specs.declared.exit.Exit.TheVariants.{ErstBusy, Full, PrintFault}
@@ -171,7 +172,7 @@ module _ {X : Type 0} {see : X → Seen} {lists : Lists} {rows : List Row} {seco
     at_y = told_behind (acts_of (look_calls lists t)) (see x) (see y) t f.does f.at
 
     can : CanClear lists looked.readable.items (after_acts told u)
-    can = clear_kept lists looked.readable.items u (after_acts told u) (acts_device told (told_off s a looked.made) u) (can_behind lists t f.admitted f.device rows seconds looked f.has)
+    can = clear_kept lists looked.readable.items u (after_acts told u) (acts_device told (told_off s a looked.made (event_text_in a looked.made)) u) (can_behind lists t f.admitted f.device rows seconds looked f.has)
 
     pub cleared : (result : Result (Unit {0}) Exit) (done : List ℕ) (v end : X) → done ≡ done_line number → IfSome (see w).told (λ n. Does see (acts_of (each_calls (clear_calls lists) ids n)) went_well w v)
         → OnErr result (result ≡ Err PrintFault) → Does see (print_acts done) (one_end print_call result) v end → Ends result new end

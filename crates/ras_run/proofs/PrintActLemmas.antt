@@ -3,7 +3,7 @@ use Rattle.std.proofs.Common.{◌≡◌, ℕ, ◌+◌, ◌≤◌, Bool, true, fa
 use Rattle.std.proofs.lemmas.Bool.Decides.{nat_tests}
 use Rattle.std.specs.List.{flat_map}
 use Rattle.board_core.specs.declared.board.DiskCall.{DiskCall}
-use Rattle.board_core.specs.Told.{Told, after_print}
+use Rattle.board_core.specs.Told.{Told}
 use Rattle.board_core.specs.Doing.{Act, AreOffDevice, after_acts, calls, calls_of, disk_calls_by}
 use Rattle.board_core.proofs.ActLemmas.{acts_out, on_disk_off}
 use Rattle.board_core.proofs.DoingLemmas.{after-append}
@@ -23,24 +23,14 @@ use Rattle.ras_recover.specs.Switching.{CanSwitch, has_no_room}
 use Rattle.journal_format.specs.Links.{link_bytes}
 use Rattle.ras_run.specs.Keeping.{CanMake, lacks_room}
 use Rattle.ras_run.proofs.KeepingLemmas.{is_keeping, keeping_on_disk}
-use Rattle.ras_texts.specs.Text.{done_line}
 use Rattle.ras_exit.specs.Acts.{print_acts}
 use Rattle.ras_exit.proofs.PrintLemmas.{after_printed}
 use Rattle.ras_account.specs.Numbers.{fresh_entries_in}
 use Rattle.ras_events.specs.declared.made.Piece.{Piece}
 use Rattle.ras_events.specs.Making.{entries_in}
-use Rattle.ras_events.specs.Preparing.{event_text_in}
-use Rattle.ras_run.specs.LineActs.{event_prints, news_acts, told_acts}
+use Rattle.ras_run.specs.LineActs.{news_acts, telling_acts}
 use Rattle.ras_run.specs.LineCalls.{AreNewsCalls}
 use Rattle.ras_recover.proofs.OpeningActsLemmas.{after_reading}
-
--- ---- two texts
-
-pub after_prints : (one two : List ℕ) (t : Told) → after_acts (print_acts one ++ print_acts two) t ≡ after_print (one ++ two) t
-after_prints one two t =
-    after-append (print_acts one) (print_acts two) t
-    ∙ (after_printed two (after_acts (print_acts one) t)
-    ∙ (ap (after_print two) (after_printed one t) ∙ ap (λ text. record t { here = record t.here { out = text } }) (append_assoc t.here.out one two)))
 
 -- ---- the device is left alone
 
@@ -60,17 +50,8 @@ pub news_off : (s : Standing) (a : State) (news : List Entry) → AreOffDevice (
 news_off s a [] = tt
 news_off s a (entry ∷ entries) = (let link : List ℕ = link_bytes (entry ∷ entries) in on_disk_off _ (keeping_on_disk s a link))
 
-pub prints_off : (text : List ℕ) (number : ℕ) → AreOffDevice (event_prints text number)
-prints_off text number = off_both (print_acts text) (print_acts (done_line number)) (print_off text) (print_off (done_line number))
-
-pub news_prints_off : (s : Standing) (a : State) (news : List Entry) (text : List ℕ) (number : ℕ) → AreOffDevice (news_acts s a news ++ event_prints text number)
-news_prints_off s a news text number = off_both (news_acts s a news) (event_prints text number) (news_off s a news) (prints_off text number)
-
-pub told_off : (s : Standing) (a : State) (made : List Piece) → AreOffDevice (told_acts a s made)
-told_off s a made = off_both (news_acts s a (fresh_entries_in a (entries_in made))) (print_acts (event_text_in a made)) (news_off s a (fresh_entries_in a (entries_in made))) (print_off (event_text_in a made))
-
-pub reading_prints_off : (made : List DiskCall) (text : List ℕ) (number : ℕ) → AreOffDevice (map calls made ++ event_prints text number)
-reading_prints_off made text number = off_both (map calls made) (event_prints text number) (reading_off made) (prints_off text number)
+pub told_off : (s : Standing) (a : State) (made : List Piece) (text : List ℕ) → AreOffDevice (telling_acts a s made text)
+told_off s a made text = off_both (news_acts s a (fresh_entries_in a (entries_in made))) (print_acts text) (news_off s a (fresh_entries_in a (entries_in made))) (print_off text)
 
 -- ---- the disk calls
 
@@ -82,13 +63,8 @@ pub print_calls : (text : List ℕ) → calls_of (print_acts text) ≡ []
 print_calls [] = refl
 print_calls (b ∷ text) = refl
 
-pub prints_calls : (text : List ℕ) (number : ℕ) → calls_of (event_prints text number) ≡ []
-prints_calls text number =
-    calls_both (print_acts text) (print_acts (done_line number))
-    ∙ (ap (λ (l : List DiskCall). l ++ calls_of (print_acts (done_line number))) (print_calls text) ∙ print_calls (done_line number))
-
-pub calls_before : (xs : List Act) (text : List ℕ) (number : ℕ) → calls_of (xs ++ event_prints text number) ≡ calls_of xs
-calls_before xs text number = calls_both xs (event_prints text number) ∙ (ap (λ (l : List DiskCall). calls_of xs ++ l) (prints_calls text number) ∙ append-nil (calls_of xs))
+pub calls_before : (xs ys : List Act) → calls_of ys ≡ [] → calls_of (xs ++ ys) ≡ calls_of xs
+calls_before xs ys none = calls_both xs ys ∙ (ap (λ (l : List DiskCall). calls_of xs ++ l) none ∙ append-nil (calls_of xs))
 
 pub reading_calls : (made : List DiskCall) → calls_of (map calls made) ≡ made
 reading_calls [] = refl
@@ -107,20 +83,16 @@ news_out s a (entry ∷ entries) t = acts_out _ (keeping_on_disk s a (link_bytes
 pub reading_here : (made : List DiskCall) (t : Told) → (after_acts (map calls made) t).here ≡ t.here
 reading_here made t = ap (λ (u : Told). u.here) (after_reading made t)
 
-pub out_before : (xs : List Act) (one two : List ℕ) (t : Told) → (after_acts xs t).here.out ≡ t.here.out → (after_acts (xs ++ (print_acts one ++ print_acts two)) t).here.out ≡ t.here.out ++ (one ++ two)
-out_before xs one two t same =
-    ap (λ (u : Told). u.here.out) (after-append xs (print_acts one ++ print_acts two) t ∙ after_prints one two (after_acts xs t)) ∙ ap (λ out. out ++ (one ++ two)) same
-
 -- ---- the news and the text of what is made
 
-pub told_is : (s : Standing) (a : State) (made : List Piece) (t : Told)
-    → after_acts (told_acts a s made) t ≡ after_acts (print_acts (event_text_in a made)) (after_acts (news_acts s a (fresh_entries_in a (entries_in made))) t)
-told_is s a made t = after-append (news_acts s a (fresh_entries_in a (entries_in made))) (print_acts (event_text_in a made)) t
+pub told_is : (s : Standing) (a : State) (made : List Piece) (text : List ℕ) (t : Told)
+    → after_acts (telling_acts a s made text) t ≡ after_acts (print_acts text) (after_acts (news_acts s a (fresh_entries_in a (entries_in made))) t)
+told_is s a made text t = after-append (news_acts s a (fresh_entries_in a (entries_in made))) (print_acts text) t
 
-pub told_out : (s : Standing) (a : State) (made : List Piece) (t : Told) → (after_acts (told_acts a s made) t).here.out ≡ t.here.out ++ event_text_in a made
-told_out s a made t =
+pub told_out : (s : Standing) (a : State) (made : List Piece) (text : List ℕ) (t : Told) → (after_acts (telling_acts a s made text) t).here.out ≡ t.here.out ++ text
+told_out s a made text t =
     let news : List Entry = fresh_entries_in a (entries_in made) in
-    ap (λ (u : Told). u.here.out) (told_is s a made t ∙ after_printed (event_text_in a made) (after_acts (news_acts s a news) t)) ∙ ap (λ out. out ++ event_text_in a made) (news_out s a news t)
+    ap (λ (u : Told). u.here.out) (told_is s a made text t ∙ after_printed text (after_acts (news_acts s a news) t)) ∙ ap (λ out. out ++ text) (news_out s a news t)
 
 -- ---- a switch that is due can be made, if the account is one
 

@@ -36,6 +36,7 @@ use Rattle.ras_records.specs.Polls.{look_calls, readable_ids}
 use Rattle.ras_texts.specs.Text.{done_line}
 use Rattle.ras_run.specs.declared.run.Run.{Run}
 use Rattle.ras_run.specs.LineActs.{AreActsIn, AreBegunIn, AreFollowingIn, AreUnlessRefused, AskingEnds, CanAsk, DoesAsking, DoesPoll, DoesReopening, TakesEvent, asking_by, event_prints, made_acts, polled_acts}
+use Rattle.ras_run.specs.Deeds.{deed_of}
 use Rattle.ras_run.specs.Places.{Start, has_no_room_for, standing_with_news}
 use Rattle.ras_run.specs.Status.{counting_refusal, put_refusal, site_refusal, refused_exit, saving_refusal}
 use Rattle.ras_run.specs.Step.{IsDrivable, Site, driving_lists, site_at, site_of}
@@ -52,7 +53,7 @@ module _ (site : Site) (number : ℕ) (event : Result Event LineRefusal) (t : To
   asked = asking_by (driving_lists site) event t
 
   abbrev Follows : List Act → Type 0
-  Follows = AreFollowingIn site number event (after_acts asked t)
+  Follows = AreFollowingIn site number (deed_of event) (after_acts asked t)
 
   refused_acts : (why : Exit) → site_refusal site number event ≡ Some why → AreActsIn site number event t (asked ++ [])
   refused_acts why is = record { rest = []; is = refl; follow = subst (λ (r : Option Exit). AreUnlessRefused r Follows []) (sym is) refl }
@@ -196,21 +197,21 @@ module _ {X : Type 0} (see : X → Seen) (old run : Run) (number : ℕ) (t : Tol
 
   pub settled_in : run.ledger.account.state ≡ site.account → run.ledger.journal.standing ≡ site.standing → IfErr result IsPrintExit → Does see (event_prints [] number) (part_end result) x y → Takes run.settings (Ok Settled)
   settled_in account standing ends does =
-      then_does site number (Ok Settled) t see x y refl (Unit {0}) (λ any. accepted_quiet site number (Ok Settled) refl refl) tt (event_prints [] number) refl run.settings result run
+      then_does site number (Ok Settled) t see x y refl (Unit {0}) (λ any. accepted_quiet site number (Ok Settled) refl refl) tt (event_prints [] number) ([], refl, refl) run.settings result run
       (takes_quiet site number (Ok Settled) refl run account standing result (print_unless result ends)) (print_ends result ends) does
 
   pub counted_in : (made : List Piece) → IsFit made → CountsMade made result old.ledger run.ledger → Does see (made_acts site.account number site.standing made) (part_end result) x y → Takes run.settings (Ok (Counted made))
   counted_in made fit counts does =
       let refusal = counting_refusal site.account site.standing (entries_in made) in
       let room = λ (full : Bool) (is : has_no_room_for site.account site.standing (entries_in made) ≡ full). ap (λ b. if b then Some Full else None) is in
-      then_does site number (Ok (Counted made)) t see x y refl ((refusal ≡ None) × IsFit made) (λ free. record { taken = free.0; fit = free.1 }) tt (made_acts site.account number site.standing made) refl run.settings result run
+      then_does site number (Ok (Counted made)) t see x y refl ((refusal ≡ None) × IsFit made) (λ free. record { taken = free.0; fit = free.1 }) tt (made_acts site.account number site.standing made) ([], refl, refl) run.settings result run
       (takes_made old run t number (Ok (Counted made)) old.settings result (counts_unless made old.ledger run.ledger fit refusal room result counts)) (ends_unless made old.ledger run.ledger fit refusal room result counts) does
 
   pub put_in : (id : ℕ) (bytes : List ℕ) → run.ledger.account.state ≡ site.account → run.ledger.journal.standing ≡ site.standing → EndsUnless (put_refusal number (refusal_of id bytes t.here.store)) result
       → DoesAsking see (Unit {0}) (refusal_of id bytes t.here.store ≡ None) (device (put id bytes) ∷ []) (print_acts (done_line number)) result x y → Takes run.settings (Ok (Put id bytes))
   put_in id bytes account standing ends does =
       asking_does site number (Ok (Put id bytes)) t see x y (Unit {0}) (refusal_of id bytes t.here.store ≡ None) (λ any. any) (λ free. accepted_quiet site number (Ok (Put id bytes)) refl (ap (put_refusal number) free))
-      (print_acts (done_line number)) refl run.settings result run (takes_quiet site number (Ok (Put id bytes)) refl run account standing result ends) does
+      (print_acts (done_line number)) ([], refl, refl) run.settings result run (takes_quiet site number (Ok (Put id bytes)) refl run account standing result ends) does
 
   pub reopened_in : Reopens result old.ledger run.ledger → DoesReopening see old.ledger.account.state number t.here result x y → Takes run.settings (Ok Reopened)
   reopened_in reopens does = record { takes = takes result reopens; does = (does.0, begun result reopens, does.2) }
@@ -254,7 +255,7 @@ module _ {X : Type 0} (see : X → Seen) (old run : Run) (number : ℕ) (t : Tol
       saved_in account standing can ends does =
           driven_in line settings (Saved id bytes) is tt
           (asking_does behind number (Ok (Saved id bytes)) t see x y (IsDevice (device_of t)) (saving ≡ None) (λ device. (can, device)) (accepted_quiet behind number (Ok (Saved id bytes)) refl)
-          (print_acts (done_line number)) refl run.settings result run (takes_quiet behind number (Ok (Saved id bytes)) refl run account standing result ends)
+          (print_acts (done_line number)) ([], refl, refl) run.settings result run (takes_quiet behind number (Ok (Saved id bytes)) refl run account standing result ends)
           (subst (λ (l : Lists). DoesAsking see (IsDevice (device_of t)) (saving ≡ None) (acts_of (write_calls l bytes (device_of t))) (print_acts (done_line number)) result x y) (sym lists_are) does))
 
     module _ (seconds : ℕ) (is : event_of old.settings line ≡ Ok (Polled seconds)) where
@@ -271,10 +272,10 @@ module _ {X : Type 0} (see : X → Seen) (old run : Run) (number : ℕ) (t : Tol
       polled_in polls =
           driven_in line settings (Polled seconds) is tt
           (asking_does behind number (Ok (Polled seconds)) t see x y (IsDevice (device_of t)) Free (λ device. device) (λ free. record { taken = free.0; fit = free.1 })
-          (rest (driving_lists behind)) refl run.settings result run (takes_made old run t number (Ok (Polled seconds)) run.settings result polls.0)
+          (rest (driving_lists behind)) ([], refl, refl) run.settings result run (takes_made old run t number (Ok (Polled seconds)) run.settings result polls.0)
           (subst (λ (l : Lists). DoesAsking see (IsDevice (device_of t)) Free (acts_of (look_calls l t)) (rest l) result x y) (sym lists_are) polls.1))
 
 pub nothing_in : {X : Type 0} (see : X → Seen) (old run : Run) (number : ℕ) (t : Told) (x : X) → run.ledger.account.state ≡ old.ledger.account.state → run.ledger.journal.standing ≡ old.ledger.journal.standing
     → TakesEvent see (site_of old t) number run.settings (Ok Nothing) t (Ok tt) run x x
 nothing_in see old run number t x account standing =
-    then_does (site_of old t) number (Ok Nothing) t see x x refl (Unit {0}) (λ any. accepted_quiet (site_of old t) number (Ok Nothing) refl refl) tt [] refl run.settings (Ok tt) run (takes_quiet (site_of old t) number (Ok Nothing) refl run account standing (Ok tt) refl) tt (does_nothing see x)
+    then_does (site_of old t) number (Ok Nothing) t see x x refl (Unit {0}) (λ any. accepted_quiet (site_of old t) number (Ok Nothing) refl refl) tt [] ([], refl, refl) run.settings (Ok tt) run (takes_quiet (site_of old t) number (Ok Nothing) refl run account standing (Ok tt) refl) tt (does_nothing see x)

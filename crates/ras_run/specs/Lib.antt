@@ -3,6 +3,7 @@ pub mod KeepingCalls
 pub mod Files
 pub mod Places
 pub mod Step
+pub mod Deeds
 pub mod Status
 pub mod Output
 pub mod Moments

@@ -2,10 +2,11 @@
 use Rattle.std.specs.Prelude.{◌≡◌, ◌⊎◌, ℕ, List, [], ◌∷◌, ◌++◌, Option, None, Some, Result, Ok, Err, map, unwrap_or}
 use Rattle.board_core.specs.declared.board.DiskCall.{DiskCall}
 use Rattle.board_core.specs.Cause.{device_call}
-use Rattle.board_core.specs.Doing.{Act, Breaks, GoesWell, Seen, after_acts, calls, device, put}
+use Rattle.board_core.specs.Doing.{Act, Breaks, DeviceCall, GoesWell, Seen, after_acts, calls, put}
 use Rattle.board_core.specs.Stop.{Left}
 use Rattle.board_core.specs.Told.{Told, device_of}
 use Rattle.erst_store.specs.DeviceLaws.{IsDevice}
+use Rattle.erst_store.specs.Store.{Stored}
 use Rattle.erst_interp.specs.Run.{acts_of}
 use Rattle.erst_driver.specs.Operations.{clear_calls, write_calls}
 use Rattle.journal_format.specs.Links.{link_bytes}
@@ -19,11 +20,10 @@ use Rattle.ras_recover.specs.OpeningCalls.{IsRecoveryOf}
 use Rattle.ras_run.specs.declared.ledger.Ledger.{Ledger}
 use Rattle.ras_run.specs.Keeping.{keeping_acts}
 use Rattle.ras_events.specs.declared.event.Event.{Event}
-use Rattle.ras_events.specs.declared.event.Event.TheVariants.{Settled, Counted, Put, Saved, Polled, Reopened}
 use Rattle.ras_events.specs.declared.event.LineRefusal.{LineRefusal}
 use Rattle.ras_events.specs.declared.made.Piece.{Piece}
 use Rattle.ras_events.specs.Events.{Lists}
-use Rattle.ras_events.specs.Making.{entries_in, polled}
+use Rattle.ras_events.specs.Making.{entries_in}
 use Rattle.ras_events.specs.Preparing.{event_text_in}
 use Rattle.ras_events.specs.Reports.{NumberedLine, Place, event_at, settings_told}
 use Rattle.ras_events.specs.Sizes.{CanBeSaved, IsFit}
@@ -36,6 +36,7 @@ use Rattle.ras_texts.specs.Orders.{standing_lines}
 use Rattle.ras_texts.specs.Text.{done_line}
 use Rattle.ras_events.specs.declared.settings.Settings.{Settings}
 use Rattle.ras_run.specs.declared.run.Run.{Run}
+use Rattle.ras_run.specs.Deeds.{Asking, Deed, deed_done, deed_of, deed_pieces, deed_text, polls, puts, reopens, saves}
 use Rattle.ras_run.specs.Places.{IsBoardAfter, Start, account_at, standing_at}
 use Rattle.ras_run.specs.Status.{polling_refusal, site_refusal}
 use Rattle.ras_run.specs.Step.{Site, driving_lists, site_at}
@@ -50,18 +51,20 @@ news_acts standing account (entry ∷ entries) = keeping_acts standing account (
 abbrev pub event_prints : List ℕ → ℕ → List Act
 event_prints text number = print_acts text ++ print_acts (done_line number)
 
--- What is made of a line, after an account: its news are kept, and then it is printed.
-abbrev pub made_acts : State → ℕ → Standing → List Piece → List Act
-made_acts account number standing made =
-    news_acts standing account (fresh_entries_in account (entries_in made))
-    ++ event_prints (event_text_in account made) number
+-- The news of pieces are kept, after an account, and a text is printed.
+abbrev pub telling_acts : State → Standing → List Piece → List ℕ → List Act
+telling_acts account standing made text =
+    news_acts standing account (fresh_entries_in account (entries_in made)) ++ print_acts text
 
--- What a poll makes, after an account: its news are kept, and its text is printed.
+-- What is made of a line, or by a poll: its news are kept, and its text is printed.
 abbrev pub told_acts : State → Standing → List Piece → List Act
-told_acts account standing made =
-    news_acts standing account (fresh_entries_in account (entries_in made)) ++ print_acts (event_text_in account made)
+told_acts account standing made = telling_acts account standing made (event_text_in account made)
 
--- Then the records under these identifiers are cleared, and then its done line is printed.
+-- Of a line, the done line is printed then.
+abbrev pub made_acts : State → ℕ → Standing → List Piece → List Act
+made_acts account number standing made = told_acts account standing made ++ print_acts (done_line number)
+
+-- Of a poll, the records under these identifiers are cleared, and then its done line is printed.
 abbrev pub polled_acts : Lists → State → ℕ → Standing → List Piece → List ℕ → Told → List Act
 polled_acts lists account number standing made ids t =
     told_acts account standing made
@@ -78,27 +81,41 @@ AreReopening account number here acts =
 abbrev pub lists_after : List NumberedLine → Lists
 lists_after before = unwrap_or (settings_told before).driver []
 
--- What an event asks of the record store before all else, by the lists that drive it: a put puts its
--- record, a panic saves the one of its report, and a poll lists the store's records and reads each.
-abbrev pub asking_by : Lists → Result Event LineRefusal → Told → List Act
-asking_by lists (Ok (Put id bytes)) t = device (put id bytes) ∷ []
-asking_by lists (Ok (Saved id bytes)) t = acts_of (write_calls lists bytes (device_of t))
-asking_by lists (Ok (Polled seconds)) t = acts_of (look_calls lists t)
-asking_by lists event t = []
+-- What a deed asks of the record store before all else, by the lists that drive it: a put puts its record, a saving
+-- writes it, and a poll lists the store's records and reads each.
+abbrev pub asking_calls : Lists → Asking → Told → List DeviceCall
+asking_calls lists (puts r) t = put r.id r.bytes ∷ []
+asking_calls lists (saves r) t = write_calls lists r.bytes (device_of t)
+asking_calls lists (polls seconds) t = look_calls lists t
+asking_calls lists asks t = []
 
--- What it does then, if it isn't refused, over what is told once it has asked. A line that asks for
--- nothing does nothing.
-abbrev pub AreFollowingIn : Site → ℕ → Result Event LineRefusal → Told → List Act → Type 0
-AreFollowingIn site number (Ok Settled) t acts = acts ≡ event_prints [] number
-AreFollowingIn site number (Ok (Counted made)) t acts = acts ≡ made_acts site.account number site.standing made
-AreFollowingIn site number (Ok (Put id bytes)) t acts = acts ≡ print_acts (done_line number)
-AreFollowingIn site number (Ok (Saved id bytes)) t acts = acts ≡ print_acts (done_line number)
-AreFollowingIn site number (Ok (Polled seconds)) t acts =
-    acts
-    ≡ polled_acts (driving_lists site) site.account number site.standing
-    (polled site.settings.topology seconds site.store) (readable_ids site.store) t
-AreFollowingIn site number (Ok Reopened) t acts = AreReopening site.account number t.here acts
-AreFollowingIn site number event t acts = acts ≡ []
+-- how it clears the records of a store that can be read, if it polls
+abbrev pub clearing_calls : Lists → Asking → List Stored → Told → List DeviceCall
+clearing_calls lists (polls seconds) store t = each_calls (clear_calls lists) (readable_ids store) t
+clearing_calls lists asks store t = []
+
+-- What it does at a site once it has asked, if it isn't refused: the news of what it counts are kept, its text is
+-- printed, records are cleared, and its done line is printed.
+abbrev pub deed_acts : Site → ℕ → Deed → Told → List Act
+deed_acts site number deed t =
+    let telling = telling_acts site.account site.standing (deed_pieces site deed) (deed_text site deed) in
+    let clearing = clearing_calls (driving_lists site) deed.asks site.store (after_acts telling t) in
+    telling ++ (acts_of clearing ++ print_acts (deed_done number deed))
+
+-- What it reads before that: all that counts of the files, if it opens the journal again.
+abbrev pub IsReadAgain : Asking → Left → List DiskCall → Type 0
+IsReadAgain reopens here reading = IsRecoveryOf here reading
+IsReadAgain asks here reading = reading ≡ []
+
+-- So these are its acts, once it has asked, if it isn't refused.
+abbrev pub AreFollowingIn : Site → ℕ → Deed → Told → List Act → Type 0
+AreFollowingIn site number deed t acts =
+    (reading : List DiskCall) × IsReadAgain deed.asks t.here reading
+    × (acts ≡ map calls reading ++ deed_acts site number deed (after_acts (map calls reading) t))
+
+-- what an event asks of the record store
+abbrev pub asking_by : Lists → Result Event LineRefusal → Told → List Act
+asking_by lists event t = acts_of (asking_calls lists (deed_of event).asks t)
 
 -- A line that is refused does no more than ask.
 abbrev pub AreUnlessRefused : Option Exit → (List Act → Type 0) → List Act → Type 0
@@ -111,14 +128,17 @@ pub record AreActsIn (site : Site) (number : ℕ) (event : Result Event LineRefu
   pub is : acts ≡ asking_by (driving_lists site) event t ++ rest
   pub follow :
       AreUnlessRefused (site_refusal site number event)
-      (AreFollowingIn site number event (after_acts (asking_by (driving_lists site) event t) t)) rest
+      (AreFollowingIn site number (deed_of event) (after_acts (asking_by (driving_lists site) event t) t)) rest
 
 -- What its calls of the device showed: that what is told of it is a device, and that a record that it
 -- saves is one.
+abbrev pub CanAskFor : Asking → Told → Type 0
+CanAskFor (saves r) t = CanBeSaved r.id r.bytes × IsDevice (device_of t)
+CanAskFor (polls seconds) t = IsDevice (device_of t)
+CanAskFor asks t = Unit {0}
+
 abbrev pub CanAsk : Result Event LineRefusal → Told → Type 0
-CanAsk (Ok (Saved id bytes)) t = CanBeSaved id bytes × IsDevice (device_of t)
-CanAsk (Ok (Polled seconds)) t = IsDevice (device_of t)
-CanAsk event t = Unit {0}
+CanAsk event t = CanAskFor (deed_of event).asks t
 
 -- The acts that it began, by how it ended: all of its own; but if the device failed before it was known
 -- whether it is refused, no more than those by which it asks.
@@ -144,7 +164,7 @@ abbrev pub asking_acts : List NumberedLine → Result Event LineRefusal → Told
 asking_acts before event t = asking_by (lists_after before) event t
 
 abbrev pub AreFollowing : Start → Place → Result Event LineRefusal → Told → List Act → Type 0
-AreFollowing start place event t acts = AreFollowingIn (site_at start place.0) place.1.0 event t acts
+AreFollowing start place event t acts = AreFollowingIn (site_at start place.0) place.1.0 (deed_of event) t acts
 
 abbrev pub AreLineActs : Start → Place → Told → List Act → Type 0
 AreLineActs start place t acts = AreActsIn (site_at start place.0) place.1.0 (event_at place) t acts

@@ -1,33 +1,32 @@
 -- The disk calls of a line, once all of them are made.
-use Rattle.std.specs.Prelude.{◌≡◌, List, [], ◌∷◌, Result, Ok}
+use Rattle.std.specs.Prelude.{◌≡◌, List, [], ◌∷◌}
 use Rattle.board_core.specs.declared.board.DiskCall.{DiskCall}
 use Rattle.board_core.specs.Stop.{Left}
 use Rattle.journal_format.specs.Links.{link_bytes}
 use Rattle.ras_account.specs.Numbers.{fresh_entries_in}
 use Rattle.ras_facts.specs.declared.entry.Entry.{Entry}
 use Rattle.ras_recover.specs.OpeningCalls.{IsRecoveryOf}
+use Rattle.ras_run.specs.Deeds.{Asking, Deed, deed_of, deed_pieces, reopens}
 use Rattle.ras_run.specs.KeepingCalls.{IsKeeping}
-use Rattle.ras_events.specs.declared.event.Event.{Event}
-use Rattle.ras_events.specs.declared.event.Event.TheVariants.{Counted, Polled, Reopened}
-use Rattle.ras_events.specs.declared.event.LineRefusal.{LineRefusal}
 use Rattle.ras_events.specs.Making.{entries_in}
 use Rattle.ras_events.specs.Reports.{Place, event_at}
-use Rattle.ras_run.specs.Places.{Start, account_at, polled_at}
+use Rattle.ras_run.specs.Places.{Start}
+use Rattle.ras_run.specs.Step.{Site, site_at}
 
 -- news are kept as one link, and no news need no call
 abbrev pub AreNewsCalls : List Entry → List DiskCall → Type 0
 AreNewsCalls [] calls = calls ≡ []
 AreNewsCalls (entry ∷ entries) calls = IsKeeping (link_bytes (entry ∷ entries)) calls
 
--- Of an event and of a poll the news are kept. A journal that is opened again is recovered, and all that counts of
--- the files here is read. Any other line makes no disk call.
-abbrev pub AreEventCalls : Start → Place → Left → Result Event LineRefusal → List DiskCall → Type 0
-AreEventCalls start place here (Ok (Counted made)) calls =
-    AreNewsCalls (fresh_entries_in (account_at start place.0) (entries_in made)) calls
-AreEventCalls start place here (Ok (Polled seconds)) calls =
-    AreNewsCalls (fresh_entries_in (account_at start place.0) (entries_in (polled_at start place.0 seconds))) calls
-AreEventCalls start place here (Ok Reopened) calls = IsRecoveryOf here calls
-AreEventCalls start place here event calls = calls ≡ []
+-- A journal that is opened again is recovered, and all that counts of the files here is read. Otherwise the news are
+-- kept.
+abbrev pub AreCallsBy : Asking → Left → List Entry → List DiskCall → Type 0
+AreCallsBy reopens here news calls = IsRecoveryOf here calls
+AreCallsBy asks here news calls = AreNewsCalls news calls
+
+abbrev pub AreDeedCalls : Site → Left → Deed → List DiskCall → Type 0
+AreDeedCalls site here deed calls =
+    AreCallsBy deed.asks here (fresh_entries_in site.account (entries_in (deed_pieces site deed))) calls
 
 abbrev pub AreCallsAt : Start → Place → Left → List DiskCall → Type 0
-AreCallsAt start place here calls = AreEventCalls start place here (event_at place) calls
+AreCallsAt start place here calls = AreDeedCalls (site_at start place.0) here (deed_of (event_at place)) calls

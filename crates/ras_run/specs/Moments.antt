@@ -1,18 +1,18 @@
 -- How a line goes, and what stops leave of it: one relation for every kind of line.
-use Rattle.std.specs.Prelude.{◌≡◌, ℕ, ◌⊎◌, Bool, true, false, List, [], ◌∷◌, ◌++◌, Result, Ok, if◌then◌else◌}
+use Rattle.std.specs.Prelude.{◌≡◌, ℕ, ◌⊎◌, Bool, List, [], ◌∷◌, ◌++◌, Result, if◌then◌else◌}
 use Rattle.board_core.specs.Stop.{Becomes, Begins, Left}
 use Rattle.erst_store.specs.Store.{Stored}
 use Rattle.ras_account.specs.Account.{State}
 use Rattle.ras_journal.specs.Recovered.{Recovers}
 use Rattle.ras_events.specs.declared.event.Event.{Event}
-use Rattle.ras_events.specs.declared.event.Event.TheVariants.{Put, Saved, Polled}
 use Rattle.ras_events.specs.declared.event.LineRefusal.{LineRefusal}
 use Rattle.ras_events.specs.Reports.{Place, event_at}
-use Rattle.ras_events.specs.Stores.{store_with, unreadable, without_first}
+use Rattle.ras_events.specs.Stores.{unreadable, without_first}
 use Rattle.ras_exit.specs.declared.exit.Exit.{Exit}
 use Rattle.ras_exit.specs.declared.exit.Exit.TheVariants.{ErstBusy}
-use Rattle.ras_run.specs.Output.{done_at, text_at}
-use Rattle.ras_run.specs.Places.{Start, account_at, store_at}
+use Rattle.ras_run.specs.Deeds.{Deed, clears_by, deed_done, deed_of, deed_text, store_asked}
+use Rattle.ras_run.specs.Places.{Start, account_at}
+use Rattle.ras_run.specs.Step.{Site, site_at}
 
 -- The account before a line, and with what it reports; the store before it, and once its record is
 -- put; whether it clears the records that can be read then; its text, and its done line.
@@ -62,15 +62,26 @@ abbrev pub CourseMoment : Type 0 → Course → List ℕ → Left → Type 0
 CourseMoment Accepted c out left =
     IsBegun c out left ⊎ (Accepted × (IsKept c out left ⊎ (IsClearing c out left ⊎ IsEnding c out left)))
 
--- the store once the record of an event is put; and whether an event clears records
+-- ---- of a deed, and of a line at its place
+
+-- how a deed goes at a site that leads to this account
+abbrev pub course_to : Site → ℕ → Deed → State → Course
+course_to site number deed after = record {
+  before = site.account;
+  after = after;
+  store = site.store;
+  stored = store_asked deed.asks site.store;
+  clears = clears_by deed.asks;
+  text = deed_text site deed;
+  done = deed_done number deed;
+}
+
+-- the store once an event has asked; and whether an event clears records
 abbrev pub stored_by : Result Event LineRefusal → List Stored → List Stored
-stored_by (Ok (Put id bytes)) store = store_with id bytes store
-stored_by (Ok (Saved id bytes)) store = store_with id bytes store
-stored_by event store = store
+stored_by event store = store_asked (deed_of event).asks store
 
 abbrev pub clears_store : Result Event LineRefusal → Bool
-clears_store (Ok (Polled seconds)) = true
-clears_store event = false
+clears_store event = clears_by (deed_of event).asks
 
 -- The store that a line leaves if it is refused: a device that was busy for too long has the record that
 -- it was to save even so.
@@ -78,14 +89,7 @@ abbrev pub refused_store : Exit → Result Event LineRefusal → List Stored →
 refused_store ErstBusy event store = stored_by event store
 refused_store exit event store = store
 
--- how a line goes at its place
+-- A line leads to the account of all lines up to it.
 abbrev pub course_at : Start → Place → Course
-course_at start place = record {
-  before = account_at start place.0;
-  after = account_at start (place.0 ++ place.1 ∷ []);
-  store = store_at start place.0;
-  stored = stored_by (event_at place) (store_at start place.0);
-  clears = clears_store (event_at place);
-  text = text_at start place;
-  done = done_at place;
-}
+course_at start place =
+    course_to (site_at start place.0) place.1.0 (deed_of (event_at place)) (account_at start (place.0 ++ place.1 ∷ []))

@@ -10,10 +10,10 @@ use Rattle.ras_account.specs.Account.{State}
 use Rattle.ras_facts.specs.declared.entry.Entry.{Entry}
 use Rattle.ras_journal.specs.declared.standing.Standing.{Standing}
 use Rattle.ras_events.specs.declared.event.Event.{Event}
-use Rattle.ras_events.specs.declared.event.Event.TheVariants.{Counted, Put, Saved, Polled}
 use Rattle.ras_events.specs.declared.event.LineRefusal.{LineRefusal}
 use Rattle.ras_events.specs.declared.event.LineRefusal.TheVariants.{Bad, NoTable}
-use Rattle.ras_events.specs.Making.{entries_in, polled}
+use Rattle.ras_events.specs.declared.made.Piece.{Piece}
+use Rattle.ras_events.specs.Making.{entries_in}
 use Rattle.ras_events.specs.Reports.{Place, event_at}
 use Rattle.ras_records.specs.Polls.{is_busy_for_reads}
 use Rattle.ras_exit.specs.declared.reason.Reason.TheVariants as reason
@@ -21,6 +21,7 @@ use Rattle.ras_exit.specs.declared.exit.Exit.{Exit}
 use Rattle.ras_exit.specs.declared.exit.Exit.TheVariants.{BadLine, RegisterFault, Full, ErstRefused, ErstBusy, ErstStatus, NoMemory}
 use Rattle.ras_run.specs.Places.{Start, has_no_room_for}
 use Rattle.ras_run.specs.Step.{Site, site_at}
+use Rattle.ras_run.specs.Deeds.{Asking, Deed, deed_counts, deed_of, polls, puts, saves}
 
 -- how a run ends at a line that is refused by what it asks for
 abbrev pub refused_exit : ℕ → LineRefusal → Exit
@@ -54,18 +55,26 @@ abbrev pub polling_refusal : ℕ → List Stored → State → Standing → List
 polling_refusal slow store account standing entries =
     if is_busy_for_reads slow store then Some ErstBusy else counting_refusal account standing entries
 
--- Why an event is refused at a site, if it is: its line can't be read, or what it asks for can't be
--- done; there is no room for what it reports; the record store refuses the record that it puts or
--- saves, or its device is too slow.
+-- how it ends at a deed for whose pieces there is no room
+abbrev pub room_refusal : Site → Option (List Piece) → Option Exit
+room_refusal site None = None
+room_refusal site (Some made) = counting_refusal site.account site.standing (entries_in made)
+
+-- Why a deed is refused at a site, if it is: the record store refuses the record that it puts or saves, or its device
+-- is too slow; or there is no room for what it counts.
+abbrev pub asking_refusal : Site → ℕ → Asking → Option Exit → Option Exit
+asking_refusal site number (puts r) room = put_refusal number (refusal_of r.id r.bytes site.store)
+asking_refusal site number (saves r) room = saving_refusal site.slow r.id site.store
+asking_refusal site number (polls seconds) room = if is_busy_for_reads site.slow site.store then Some ErstBusy else room
+asking_refusal site number asks room = room
+
+abbrev pub deed_refusal : Site → ℕ → Deed → Option Exit
+deed_refusal site number deed = asking_refusal site number deed.asks (room_refusal site (deed_counts site deed))
+
+-- Why an event is refused there: its line can't be read, or what it asks for can't be done; or its deed is refused.
 abbrev pub site_refusal : Site → ℕ → Result Event LineRefusal → Option Exit
 site_refusal site number (Err why) = Some (refused_exit number why)
-site_refusal site number (Ok (Counted made)) = counting_refusal site.account site.standing (entries_in made)
-site_refusal site number (Ok (Put id bytes)) = put_refusal number (refusal_of id bytes site.store)
-site_refusal site number (Ok (Saved id bytes)) = saving_refusal site.slow id site.store
-site_refusal site number (Ok (Polled seconds)) =
-    polling_refusal site.slow site.store site.account site.standing
-    (entries_in (polled site.settings.topology seconds site.store))
-site_refusal site number (Ok event) = None
+site_refusal site number (Ok event) = deed_refusal site number (deed_of (Ok event))
 
 -- why a line is refused at its place
 abbrev pub event_refusal : Start → Place → Result Event LineRefusal → Option Exit
