@@ -159,8 +159,9 @@ class Service:
             self.stop(signal.SIGTERM)
 
     def text(self, name="out"):
-        """What the command printed, or its errors."""
-        return (self.room / name).read_text()
+        """What the command printed, or its errors, or another file, if it is there already."""
+        file = self.room / name
+        return file.read_text() if file.exists() else ""
 
     def awaits(self, text, name="out", seconds=PATIENCE):
         """Whether this is printed in time."""
