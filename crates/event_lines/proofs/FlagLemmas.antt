@@ -134,7 +134,7 @@ module _ (table : Flags) (others : ℕ) (none : (n : ℕ) → lookup (bytes_eq (
 
 -- ---- words
 
-words_split : (byte : ℕ) (words : List (List ℕ)) → 0 < length words → AllByRecursion (Lacks byte) words → cut_at byte (join_with_byte byte words) ≡ words
+pub words_split : (byte : ℕ) (words : List (List ℕ)) → 0 < length words → AllByRecursion (Lacks byte) words → cut_at byte (join_with_byte byte words) ≡ words
 words_split byte [] some all = absurd (omega (arith, some))
 words_split byte (word ∷ []) some all = split_lacking byte word all.0
 words_split byte (word ∷ next ∷ words) some all =
@@ -142,7 +142,7 @@ words_split byte (word ∷ next ∷ words) some all =
     ∙ ap (λ (parts : List (List ℕ)). parts ++ cut_at byte (join_with_byte byte (next ∷ words))) (split_lacking byte word all.0)
     ∙ ap (λ (parts : List (List ℕ)). word ∷ parts) (words_split byte (next ∷ words) (omega arith) all.1)
 
-joined_lack : (byte other : ℕ) (words : List (List ℕ)) → ¬ (byte ≡ other) → AllByRecursion (Lacks other) words → Lacks other (join_with_byte byte words)
+pub joined_lack : (byte other : ℕ) (words : List (List ℕ)) → ¬ (byte ≡ other) → AllByRecursion (Lacks other) words → Lacks other (join_with_byte byte words)
 joined_lack byte other [] differs all = tt
 joined_lack byte other (word ∷ []) differs all = all.0
 joined_lack byte other (word ∷ next ∷ words) differs all =

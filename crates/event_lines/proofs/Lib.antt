@@ -1,5 +1,8 @@
 mod FilterLemmas
-pub mod FlagLemmas
+mod GuidLemmas
+mod TracedLemmas
+mod FlagLemmas
 mod AerLemmas
+mod SectionEventLemmas
 mod LineLemmas
 pub mod SectionLemmas

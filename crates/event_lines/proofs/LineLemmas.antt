@@ -20,9 +20,12 @@ use Rattle.bank_lines.proofs.NumeralLemmas.{lack_both}
 use Rattle.bank_lines.proofs.TraceHeadLemmas.{clock_lacks, counts, last_behind, last_is, none_in_timed, stamp_read}
 use Rattle.event_lines.specs.Aer.{aer_event_of}
 use Rattle.event_lines.specs.Kernel.{IsEvent, PrintedAer, aer_line, aer_text, device_text, event_head, event_of, flags_text, header_text, ras_before, severity_text}
-use Rattle.event_lines.specs.Traced.{clock_place, event_behind, found_event, line_event_of, named_text, stamp_at}
-use Rattle.event_lines.specs.declared.traced.LineEvent.TheVariants.{Absent, Found}
+use Rattle.event_lines.specs.SectionEvent.{section_bytes_of, section_head_of}
+use Rattle.event_lines.specs.SectionKernel.{IsSection, PrintedSection, head_of_section, printed_section, raw_text, section_line}
+use Rattle.event_lines.specs.Traced.{clock_place, event_behind, found_event, found_section, line_event_of, named_text, stamp_at}
+use Rattle.event_lines.specs.declared.traced.LineEvent.TheVariants.{Absent, Found, Section}
 use Rattle.event_lines.proofs.AerLemmas.{device_lacks_space, text_read}
+use Rattle.event_lines.proofs.SectionEventLemmas.{bytes_are, ends_behind, ends_whole, head_read}
 
 -- ---- spaces
 
@@ -43,17 +46,18 @@ no_space (b ∷ word) rest lacks some =
 
 -- ---- a line
 
-module _ (tracer : Tracer) (front : List ℕ) (seconds micros spaces more : ℕ) (p : PrintedAer)
-    (is : IsFront front seconds micros) (within : IsEvent (event_of p)) where
+abbrev without_system : List ℕ → List ℕ
+without_system text = unwrap_or (value_after (codes "ras:") text) text
+
+-- any text that begins neither with a space nor with the system
+module _ (tracer : Tracer) (front : List ℕ) (seconds micros spaces : ℕ) (is : IsFront front seconds micros)
+    (text : List ℕ) (begins : (t : Tracer) → without_system (without_spaces (ras_before t ++ text)) ≡ text) where
   abbrev shows : List ℕ
   shows = clock seconds micros
 
   -- up to the colon, and what follows the space behind it
   abbrev timed : List ℕ
   timed = front ++ 32 ∷ shows
-
-  abbrev text : List ℕ
-  text = codes "aer_event: " ++ (replicate more 32 ++ aer_text p)
 
   abbrev named : List ℕ
   named = ras_before tracer ++ text
@@ -62,7 +66,7 @@ module _ (tracer : Tracer) (front : List ℕ) (seconds micros spaces more : ℕ)
   behind = replicate spaces 32 ++ named
 
   abbrev line : List ℕ
-  line = aer_line (event_head tracer front seconds micros spaces) more p
+  line = event_head tracer front seconds micros spaces ++ text
 
   line_is : line ≡ timed ++ (codes ": " ++ behind)
   line_is =
@@ -124,19 +128,29 @@ module _ (tracer : Tracer) (front : List ℕ) (seconds micros spaces more : ℕ)
   rest_is : drop (length timed + 1) line ≡ 32 ∷ behind
   rest_is = ap (drop (length timed + 1)) split ∙ drop_at (timed ++ 58 ∷ []) (32 ∷ behind) (length timed + 1) (sym one_more)
 
-  abbrev without_system : List ℕ → List ℕ
-  without_system text = unwrap_or (value_after (codes "ras:") text) text
-
-  system_passed : (t : Tracer) → without_system (without_spaces (ras_before t ++ text)) ≡ text
-  system_passed trace_pipe = refl
-  system_passed trace_cmd = refl
-  system_passed perf = refl
-
   named_is : named_text (length timed) line ≡ text
   named_is =
       ap (λ (rest : List ℕ). without_system (without_spaces rest)) rest_is
       ∙ ap without_system (passes behind ∙ all_passed spaces named)
-      ∙ system_passed tracer
+      ∙ begins tracer
+
+  pub event_at : line_event_of line ≡ event_behind (Some (1000000 * seconds + micros)) text
+  event_at =
+      ap (λ (o : Option ℕ). option_map_or (λ place. event_behind (stamp_at place line) (named_text place line)) o Absent) place_is
+      ∙ ap (λ (o : Option ℕ). event_behind o (named_text (length timed) line)) stamp_is
+      ∙ ap (event_behind (Some (1000000 * seconds + micros))) named_is
+
+-- ---- PCI Express errors
+
+module _ (tracer : Tracer) (front : List ℕ) (seconds micros spaces more : ℕ) (p : PrintedAer)
+    (is : IsFront front seconds micros) (within : IsEvent (event_of p)) where
+  abbrev aer_named : List ℕ
+  aer_named = codes "aer_event: " ++ (replicate more 32 ++ aer_text p)
+
+  aer_begins : (t : Tracer) → without_system (without_spaces (ras_before t ++ aer_named)) ≡ aer_named
+  aer_begins trace_pipe = refl
+  aer_begins trace_cmd = refl
+  aer_begins perf = refl
 
   unspaced : without_spaces (aer_text p) ≡ aer_text p
   unspaced =
@@ -147,10 +161,36 @@ module _ (tracer : Tracer) (front : List ℕ) (seconds micros spaces more : ℕ)
       no_space device named_text_of (device_lacks_space p.device within.device)
       (omega (arith, length-append segment (58 ∷ buses)))
 
-  pub line_read : line_event_of line ≡ Found (record { stamp = 1000000 * seconds + micros; event = event_of p })
+  pub line_read : line_event_of (aer_line (event_head tracer front seconds micros spaces) more p) ≡ Found (record { stamp = 1000000 * seconds + micros; event = event_of p })
   line_read =
-      ap (λ (o : Option ℕ). option_map_or (λ place. event_behind (stamp_at place line) (named_text place line)) o Absent) place_is
-      ∙ ap (λ (o : Option ℕ). event_behind o (named_text (length timed) line)) stamp_is
-      ∙ ap (event_behind (Some (1000000 * seconds + micros))) named_is
+      event_at tracer front seconds micros spaces is aer_named aer_begins
       ∙ ap (λ (text : List ℕ). found_event (Some (1000000 * seconds + micros)) (aer_event_of text)) (all_passed more (aer_text p) ∙ unspaced)
       ∙ ap (found_event (Some (1000000 * seconds + micros))) (text_read p within)
+
+-- ---- sections
+
+module _ (tracer : Tracer) (front : List ℕ) (seconds micros spaces more : ℕ) (p : PrintedSection)
+    (is : IsFront front seconds micros) (within : IsSection p) where
+  abbrev section_named : List ℕ
+  section_named = codes "non_standard_event: " ++ (replicate more 32 ++ printed_section p)
+
+  section_begins : (t : Tracer) → without_system (without_spaces (ras_before t ++ section_named)) ≡ section_named
+  section_begins trace_pipe = refl
+  section_begins trace_cmd = refl
+  section_begins perf = refl
+
+  pub section_read : line_event_of (section_line (event_head tracer front seconds micros spaces) more p)
+      ≡ Section (record { stamp = 1000000 * seconds + micros; head = head_of_section p })
+  section_read =
+      event_at tracer front seconds micros spaces is section_named section_begins
+      ∙ ap (λ (text : List ℕ). found_section (Some (1000000 * seconds + micros)) (section_head_of text)) (all_passed more (printed_section p))
+      ∙ ap (found_section (Some (1000000 * seconds + micros))) (head_read p within)
+
+  pub section_bytes_read : section_bytes_of (head_of_section p) (section_line (event_head tracer front seconds micros spaces) more p) ≡ Some p.bytes
+  section_bytes_read =
+      let head : List ℕ = event_head tracer front seconds micros spaces in
+      let raw : List ℕ = raw_text p.bytes in
+      bytes_are p within (section_line head more p)
+      (ends_behind head raw section_named
+      (ends_behind (codes "non_standard_event: ") raw (replicate more 32 ++ printed_section p)
+      (ends_behind (replicate more 32) raw (printed_section p) (ends_whole p within))))

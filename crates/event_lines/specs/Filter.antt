@@ -1,5 +1,6 @@
 -- The lines of script that `lines ghes` makes of the lines of a kernel log and of a trace.
 use Rattle.std.specs.Prelude.{ℕ, ◌+◌, List, [], ◌∷◌, ◌++◌, Result, Ok}
+use Rattle.std.specs.Option.{option_map_or}
 use Rattle.line_filters.specs.Filter.{Filter}
 use Rattle.ras_script.specs.declared.line.LineRefused.{LineRefused}
 use Rattle.block_lines.specs.Blocks.{section_block_bytes}
@@ -9,12 +10,14 @@ use Rattle.block_lines.specs.Reports.{Reporting, no_reports, reporting_after, wi
 use Rattle.block_lines.specs.Texts.{blocks_text_at, rest_text, source_block_text, unread_report_line}
 use Rattle.event_lines.specs.Aer.{cper_severity}
 use Rattle.event_lines.specs.PcieBytes.{pcie_section_bytes, pcie_type}
+use Rattle.event_lines.specs.SectionEvent.{section_bytes_of}
 use Rattle.event_lines.specs.Traced.{line_event_of}
 use Rattle.event_lines.specs.declared.aer.AerEvent.{AerEvent}
 use Rattle.event_lines.specs.declared.filter.TheConstants.{TRACE_SOURCE}
 use Rattle.event_lines.specs.declared.traced.FoundEvent.{FoundEvent}
+use Rattle.event_lines.specs.declared.traced.FoundSection.{FoundSection}
 use Rattle.event_lines.specs.declared.traced.LineEvent.{LineEvent}
-use Rattle.event_lines.specs.declared.traced.LineEvent.TheVariants.{Absent, Unread, Found}
+use Rattle.event_lines.specs.declared.traced.LineEvent.TheVariants.{Absent, Unread, Found, Section}
 
 -- ---- an event
 
@@ -26,6 +29,11 @@ event_block event = section_block_bytes pcie_type (cper_severity event.severity)
 abbrev pub event_text : Reporting → FoundEvent → List ℕ
 event_text r found = source_block_text r TRACE_SOURCE found.stamp (event_block found.event)
 
+-- the line of a section with these bytes, after a table if one is due
+abbrev pub section_event_text : Reporting → FoundSection → List ℕ → List ℕ
+section_event_text r found bytes =
+    source_block_text r TRACE_SOURCE found.stamp (section_block_bytes found.head.kind found.head.severity bytes)
+
 -- after a line with an event: the reports of the log stay as they are
 abbrev pub after_event : BlockProgress → BlockProgress
 after_event p = record { reports = with_source p.reports TRACE_SOURCE; taken = p.taken + 1 }
@@ -36,12 +44,17 @@ abbrev pub text_by : BlockProgress → List ℕ → LineEvent → List ℕ
 text_by p line Absent = blocks_text_at p.reports (p.taken + 1) (report_log_line line)
 text_by p line Unread = unread_report_line (p.taken + 1) ++ 10 ∷ []
 text_by p line (Found found) = event_text p.reports found
+text_by p line (Section found) =
+    option_map_or (section_event_text p.reports found) (section_bytes_of found.head line)
+    (unread_report_line (p.taken + 1) ++ 10 ∷ [])
 
 abbrev pub after_by : BlockProgress → List ℕ → LineEvent → BlockProgress
 after_by p line Absent =
     record { reports = reporting_after p.reports (report_log_line line); taken = p.taken + 1 }
 after_by p line Unread = record p { taken = p.taken + 1 }
 after_by p line (Found found) = after_event p
+after_by p line (Section found) =
+    option_map_or (λ bytes. after_event p) (section_bytes_of found.head line) (record p { taken = p.taken + 1 })
 
 -- the text of a line, and the state of the filter after it
 abbrev pub report_text_at : BlockProgress → List ℕ → List ℕ

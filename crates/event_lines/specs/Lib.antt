@@ -1,7 +1,9 @@
 pub mod Flags
 pub mod Aer
 pub mod PcieBytes
+pub mod SectionEvent
 pub mod Traced
 pub mod Filter
 pub mod Kernel
+pub mod SectionKernel
 pub mod ReadBack

@@ -8,9 +8,11 @@ use Rattle.bank_lines.specs.Parts.{cut_at, value_after}
 use Rattle.bank_lines.specs.Stamp.{stamp_of}
 use Rattle.bank_lines.specs.Trace.{is_count, last_word}
 use Rattle.event_lines.specs.Aer.{aer_event_of}
+use Rattle.event_lines.specs.SectionEvent.{section_head_of}
 use Rattle.event_lines.specs.declared.aer.AerEvent.{AerEvent}
+use Rattle.event_lines.specs.declared.section_event.SectionHead.{SectionHead}
 use Rattle.event_lines.specs.declared.traced.LineEvent.{LineEvent}
-use Rattle.event_lines.specs.declared.traced.LineEvent.TheVariants.{Absent, Unread, Found}
+use Rattle.event_lines.specs.declared.traced.LineEvent.TheVariants.{Absent, Unread, Found, Section}
 
 -- the place of the first colon before a space, if the word before the colon is what a tracer's clock shows
 abbrev pub clock_place : List ℕ → Option ℕ
@@ -32,10 +34,17 @@ abbrev pub found_event : Option ℕ → Option AerEvent → LineEvent
 found_event (Some stamp) (Some event) = Found (record { stamp = stamp; event = event })
 found_event stamp event = Unread
 
+-- a section's event with its time stamp, if both were read
+abbrev pub found_section : Option ℕ → Option SectionHead → LineEvent
+found_section (Some stamp) (Some head) = Section (record { stamp = stamp; head = head })
+found_section stamp head = Unread
+
 -- which event a text behind a clock has; trace-cmd prints spaces between the name and the event's text
 abbrev pub event_behind : Option ℕ → List ℕ → LineEvent
 event_behind stamp text =
-    option_map_or (λ told. found_event stamp (aer_event_of (without_spaces told))) (value_after (codes "aer_event: ") text) Absent
+    option_map_or (λ told. found_event stamp (aer_event_of (without_spaces told))) (value_after (codes "aer_event: ") text) (
+    option_map_or (λ told. found_section stamp (section_head_of (without_spaces told)))
+    (value_after (codes "non_standard_event: ") text) Absent)
 
 -- which event a line has
 abbrev pub line_event_of : List ℕ → LineEvent

@@ -3,11 +3,13 @@
 ghost use Rattle.std.specs.Prelude.{◌≡◌, ◌≤◌, ◌++◌, OnErr, OnOk};
 ghost use Rattle.bank_lines.specs.declared.log_line.TheConstants.{LAST_SECOND};
 ghost use Rattle.event_lines.specs.Filter.{after_event, after_line, event_text, report_filter};
-ghost use Rattle.event_lines.specs.Filter.{report_text_at, reports_make};
+ghost use Rattle.event_lines.specs.Filter.{after_by, report_text_at, reports_make, text_by};
+ghost use Rattle.event_lines.specs.declared.traced.LineEvent.TheVariants.{Section};
 ghost use Rattle.ras_script.specs.declared.reader.TheConstants.{LONGEST_SCRIPT};
 
 use crate::pcie_bytes::{PCIE_TYPE, push_pcie_section};
-use crate::traced::{FoundEvent, LineEvent, line_event};
+use crate::section_event::section_bytes;
+use crate::traced::{FoundEvent, FoundSection, LineEvent, line_event};
 use block_lines::{BlockFilter, push_section_block};
 use line_filters::LineFilter;
 use ras_base::NoMemory;
@@ -63,6 +65,7 @@ impl ReportFilter {
             LineEvent::Absent => self.log.take_line(alloc, line, text),
             LineEvent::Unread => self.log.take_unread(text),
             LineEvent::Found(found) => self.take_event(alloc, found, text),
+            LineEvent::Section(found) => self.take_section(alloc, found, line, text),
         }
     }
 
@@ -85,6 +88,32 @@ impl ReportFilter {
         let mut block = Vec::new(alloc);
         let severity = found.event.severity.number();
         push_section_block(&mut block, &PCIE_TYPE, severity, &section)?;
+        self.log
+            .take_block(alloc, TRACE_SOURCE, found.stamp, &block, text)
+    }
+}
+
+impl ReportFilter {
+    // Takes a line with this section's event, and appends the line of the section's block, or a
+    // comment if the section's bytes can't be read.
+    fn take_section(
+        &mut self,
+        alloc: Global,
+        found: FoundSection,
+        line: &[u8],
+        text: &mut Vec<u8>,
+    ) -> Result<(), NoMemory>
+        requires { self.old.taken ≤ LONGEST_SCRIPT }
+        ensures text { OnOk result (text.new.items
+            ≡ text.old.items ++ text_by self.old line.now (Section found)) }
+        ensures after { OnOk result (self.new ≡ after_by self.old line.now (Section found)) }
+        ensures kept { OnErr result (self.new.taken ≡ self.old.taken) }
+    {
+        let Some(section) = section_bytes(alloc, found.head, line)? else {
+            return self.log.take_unread(text);
+        };
+        let mut block = Vec::new(alloc);
+        push_section_block(&mut block, &found.head.kind, found.head.severity, &section)?;
         self.log
             .take_block(alloc, TRACE_SOURCE, found.stamp, &block, text)
     }

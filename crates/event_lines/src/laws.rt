@@ -17,10 +17,12 @@ ghost use Rattle.event_lines.specs.Filter.{event_block, report_filter};
 ghost use Rattle.event_lines.specs.Kernel.{IsEvent, PrintedAer, aer_line, aer_text, event_head, event_of};
 ghost use Rattle.event_lines.specs.PcieBytes.{pcie_section_bytes};
 ghost use Rattle.event_lines.specs.ReadBack.{event_asked, event_entry, event_name, section_told};
+ghost use Rattle.event_lines.specs.SectionEvent.{section_bytes_of};
+ghost use Rattle.event_lines.specs.SectionKernel.{IsSection, PrintedSection, head_of_section, section_line};
 ghost use Rattle.event_lines.specs.Traced.{line_event_of};
 ghost use Rattle.event_lines.specs.declared.aer.AerEvent.{AerEvent};
 ghost use Rattle.event_lines.specs.declared.traced.FoundEvent.{FoundEvent};
-ghost use Rattle.event_lines.specs.declared.traced.LineEvent.TheVariants.{Absent, Found};
+ghost use Rattle.event_lines.specs.declared.traced.LineEvent.TheVariants.{Absent, Found, Section};
 
 /// The event of a PCI Express error, as the kernel prints it, is read as that event, whichever bits
 /// of the status are set: by its text, and behind what each tracer prints before it, with the time
@@ -33,6 +35,16 @@ pub fn printed_events_are_read()
         → IsFront front seconds micros → IsEvent (event_of p)
         → line_event_of (aer_line (event_head tracer front seconds micros spaces) more p)
         ≡ Found (record { stamp = 1000000 * seconds + micros; event = event_of p }) }
+
+    // The event of a section: its head, and its bytes, whatever the text of its unit is.
+    ensures section { (tracer : Tracer) (front : List ℕ) (seconds micros spaces more : ℕ)
+        (p : PrintedSection) → IsFront front seconds micros → IsSection p
+        → line_event_of (section_line (event_head tracer front seconds micros spaces) more p)
+        ≡ Section (record { stamp = 1000000 * seconds + micros; head = head_of_section p }) }
+    ensures bytes { (tracer : Tracer) (front : List ℕ) (seconds micros spaces more : ℕ)
+        (p : PrintedSection) → IsFront front seconds micros → IsSection p
+        → section_bytes_of (head_of_section p)
+        (section_line (event_head tracer front seconds micros spaces) more p) ≡ Some p.bytes }
 {}
 
 /// What is made of an event is read back: its section as its function and its status, its block as

@@ -10,6 +10,7 @@ mod filter;
 mod flags;
 mod laws;
 mod pcie_bytes;
+mod section_event;
 mod traced;
 
 pub use aer::{AerDevice, AerEvent, AerSeverity, TlpHeader};

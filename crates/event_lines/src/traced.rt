@@ -1,10 +1,12 @@
 //! Finds the event of a line, where tracers print it.
 
 ghost use Rattle.std.specs.Prelude.{◌≡◌, ◌+◌, ◌≤◌, length, IfSome};
-ghost use Rattle.event_lines.specs.Traced.{clock_place, event_behind, found_event, line_event_of};
+ghost use Rattle.event_lines.specs.Traced.{clock_place, event_behind, found_event, found_section};
+ghost use Rattle.event_lines.specs.Traced.{line_event_of};
 ghost use Rattle.event_lines.specs.Traced.{named_text, stamp_at};
 
 use crate::aer::{AerEvent, aer_event};
+use crate::section_event::{SectionHead, section_head};
 use bank_lines::{is_count, last_word, mark_place, stamp_of, value_after, without_spaces};
 
 /// An event, and the time stamp of its line in microseconds since the boot.
@@ -14,6 +16,13 @@ pub(crate) struct FoundEvent {
     pub(crate) event: AerEvent,
 }
 
+/// An event that has a section whole, besides the section's bytes, and the time stamp of its line.
+#[derive(Clone, Copy, Debug, PartialEq, Eq)]
+pub(crate) struct FoundSection {
+    pub(crate) stamp: u64,
+    pub(crate) head: SectionHead,
+}
+
 /// Which event a line has.
 #[derive(Clone, Copy, Debug, PartialEq, Eq)]
 pub(crate) enum LineEvent {
@@ -21,8 +30,10 @@ pub(crate) enum LineEvent {
     Absent,
     // An event that can't be read, or has no time stamp.
     Unread,
-    // An event that was read.
+    // A PCI Express error.
     Found(FoundEvent),
+    // A section, whose bytes weren't read yet.
+    Section(FoundSection),
 }
 
 // Returns which event a line has. Allocates nothing.
@@ -73,8 +84,11 @@ fn named_text(place: usize, line: &[u8]) -> &[u8]
 fn event_behind(stamp: Option<u64>, text: &[u8]) -> LineEvent
     ensures { result ≡ event_behind stamp text.now }
 {
-    match value_after(b"aer_event: ", text) {
-        Some(told) => found_event(stamp, aer_event(without_spaces(told))),
+    if let Some(told) = value_after(b"aer_event: ", text) {
+        return found_event(stamp, aer_event(without_spaces(told)));
+    }
+    match value_after(b"non_standard_event: ", text) {
+        Some(told) => found_section(stamp, section_head(without_spaces(told))),
         None => LineEvent::Absent,
     }
 }
@@ -85,6 +99,16 @@ fn found_event(stamp: Option<u64>, event: Option<AerEvent>) -> LineEvent
 {
     match (stamp, event) {
         (Some(stamp), Some(event)) => LineEvent::Found(FoundEvent { stamp, event }),
+        _ => LineEvent::Unread,
+    }
+}
+
+// Returns a section's event with its time stamp, if both were read.
+fn found_section(stamp: Option<u64>, head: Option<SectionHead>) -> LineEvent
+    ensures { result ≡ found_section stamp head }
+{
+    match (stamp, head) {
+        (Some(stamp), Some(head)) => LineEvent::Section(FoundSection { stamp, head }),
         _ => LineEvent::Unread,
     }
 }

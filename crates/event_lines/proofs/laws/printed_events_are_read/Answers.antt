@@ -1,5 +1,5 @@
 use Rattle.event_lines.proofs.AerLemmas.{text_read}
-use Rattle.event_lines.proofs.LineLemmas.{line_read}
+use Rattle.event_lines.proofs.LineLemmas.{line_read, section_bytes_read, section_read}
 use Rattle.event_lines.proofs.laws.printed_events_are_read.Goals as goal
 
 pub returns-clause-text : goal.returns-clause-text
@@ -7,3 +7,9 @@ returns-clause-text c = λ p within. text_read p within
 
 pub returns-clause-line : goal.returns-clause-line
 returns-clause-line c = λ tracer front seconds micros spaces more p is within. line_read tracer front seconds micros spaces more p is within
+
+pub returns-clause-section : goal.returns-clause-section
+returns-clause-section c = λ tracer front seconds micros spaces more p is within. section_read tracer front seconds micros spaces more p is within
+
+pub returns-clause-bytes : goal.returns-clause-bytes
+returns-clause-bytes c = λ tracer front seconds micros spaces more p is within. section_bytes_read tracer front seconds micros spaces more p is within
