@@ -6,14 +6,14 @@ use Rattle.block_lines.specs.Filter.{BlockProgress, block_answers, rest_after}
 use Rattle.block_lines.specs.LogLines.{report_log_line}
 use Rattle.block_lines.specs.Reports.{Reporting, reporting_after}
 use Rattle.block_lines.specs.Texts.{blocks_text_at}
-use Rattle.event_lines.specs.Filter.{after_by, after_line, report_answers, report_rest, report_text_at, text_by}
+use Rattle.event_lines.specs.Filter.{after_by, after_line, report_answers, report_rest, report_text_at, event_text_by}
 use Rattle.event_lines.specs.Traced.{line_event_of}
 use Rattle.event_lines.specs.declared.traced.LineEvent.{LineEvent}
 use Rattle.event_lines.specs.declared.traced.LineEvent.TheVariants.{Absent}
 
 pub absent_text : {A E : Type 0} (result : Result A E) (p : BlockProgress) (line old new : List ℕ) → line_event_of line ≡ Absent
     → OnOk result (new ≡ old ++ blocks_text_at p.reports (p.taken + 1) (report_log_line line)) → OnOk result (new ≡ old ++ report_text_at p line)
-absent_text (Ok done) p line old new is told = told ∙ ap (λ (event : LineEvent). old ++ text_by p line event) (sym is)
+absent_text (Ok done) p line old new is told = told ∙ ap (λ (event : LineEvent). old ++ event_text_by p line event) (sym is)
 absent_text (Err why) p line old new is told = tt
 
 pub absent_after : {A E : Type 0} (result : Result A E) (p new : BlockProgress) (line : List ℕ) → line_event_of line ≡ Absent
@@ -28,7 +28,7 @@ pub same_answers : (taken : ℕ) (r : Reporting) (lines : List (List ℕ)) → A
     → report_answers (progress taken r) lines ≡ block_answers taken r lines
 same_answers taken r [] all = refl
 same_answers taken r (line ∷ lines) all =
-    ap (λ (event : LineEvent). Ok (text_by (progress taken r) line event) ∷ report_answers (after_by (progress taken r) line event) lines) all.0
+    ap (λ (event : LineEvent). Ok (event_text_by (progress taken r) line event) ∷ report_answers (after_by (progress taken r) line event) lines) all.0
     ∙ ap (λ (more : List (Result (List ℕ) LineRefused)). Ok (blocks_text_at r (taken + 1) (report_log_line line)) ∷ more)
     (same_answers (taken + 1) (reporting_after r (report_log_line line)) lines all.1)
 

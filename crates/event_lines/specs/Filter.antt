@@ -40,11 +40,11 @@ after_event p = record { reports = with_source p.reports TRACE_SOURCE; taken = p
 
 -- ---- a line
 
-abbrev pub text_by : BlockProgress → List ℕ → LineEvent → List ℕ
-text_by p line Absent = blocks_text_at p.reports (p.taken + 1) (report_log_line line)
-text_by p line Unread = unread_report_line (p.taken + 1) ++ 10 ∷ []
-text_by p line (Found found) = event_text p.reports found
-text_by p line (Section found) =
+abbrev pub event_text_by : BlockProgress → List ℕ → LineEvent → List ℕ
+event_text_by p line Absent = blocks_text_at p.reports (p.taken + 1) (report_log_line line)
+event_text_by p line Unread = unread_report_line (p.taken + 1) ++ 10 ∷ []
+event_text_by p line (Found found) = event_text p.reports found
+event_text_by p line (Section found) =
     option_map_or (section_event_text p.reports found) (section_bytes_of found.head line)
     (unread_report_line (p.taken + 1) ++ 10 ∷ [])
 
@@ -58,7 +58,7 @@ after_by p line (Section found) =
 
 -- the text of a line, and the state of the filter after it
 abbrev pub report_text_at : BlockProgress → List ℕ → List ℕ
-report_text_at p line = text_by p line (line_event_of line)
+report_text_at p line = event_text_by p line (line_event_of line)
 
 abbrev pub after_line : BlockProgress → List ℕ → BlockProgress
 after_line p line = after_by p line (line_event_of line)

@@ -3,7 +3,7 @@
 ghost use Rattle.std.specs.Prelude.{◌≡◌, ◌≤◌, ◌++◌, OnErr, OnOk};
 ghost use Rattle.bank_lines.specs.declared.log_line.TheConstants.{LAST_SECOND};
 ghost use Rattle.event_lines.specs.Filter.{after_event, after_line, event_text, report_filter};
-ghost use Rattle.event_lines.specs.Filter.{after_by, report_text_at, reports_make, text_by};
+ghost use Rattle.event_lines.specs.Filter.{after_by, report_text_at, reports_make, event_text_by};
 ghost use Rattle.event_lines.specs.declared.traced.LineEvent.TheVariants.{Section};
 ghost use Rattle.ras_script.specs.declared.reader.TheConstants.{LONGEST_SCRIPT};
 
@@ -105,7 +105,7 @@ impl ReportFilter {
     ) -> Result<(), NoMemory>
         requires { self.old.taken ≤ LONGEST_SCRIPT }
         ensures text { OnOk result (text.new.items
-            ≡ text.old.items ++ text_by self.old line.now (Section found)) }
+            ≡ text.old.items ++ event_text_by self.old line.now (Section found)) }
         ensures after { OnOk result (self.new ≡ after_by self.old line.now (Section found)) }
         ensures kept { OnErr result (self.new.taken ≡ self.old.taken) }
     {
