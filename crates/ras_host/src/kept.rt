@@ -17,7 +17,7 @@ ghost use Rattle.ras_host.specs.Steps.KeptDevice.{Acts, Does, IfRefused, IsChang
 use crate::saved::{RECORD_HEADING, Saved};
 use board_core::{BoardPut, Failed, Reg};
 use erst_store::{Dev, PutRefused, StoreFile, file_laws};
-use host_system::{System, replace_store, FileName};
+use host_system::{FileName, System, replace_store};
 use std::alloc::Global;
 use std::mem::replace;
 
