@@ -177,8 +177,8 @@ module _ (seconds micros : ℕ) (most : seconds ≤ 18446744073708) (low : micro
 -- ---- words
 
 pub last_behind : (first : List ℕ) (words : List (List ℕ)) (word : List ℕ) → last_word first (words ++ word ∷ []) ≡ word
-last_behind first [] word = refl
-last_behind first (w ∷ words) word = last_behind w words word
+last_behind first [] behind = refl
+last_behind first (w ∷ words) behind = last_behind w words behind
 
 stamp_over : (stamp : Option ℕ) (words more : List (List ℕ)) → last_stamp stamp (words ++ more) ≡ last_stamp (last_stamp stamp words) more
 stamp_over stamp [] more = refl
