@@ -1,6 +1,9 @@
 -- The lines of script that `lines ghes` makes of the lines of a kernel log and of a trace.
-use Rattle.std.specs.Prelude.{ℕ, ◌+◌, List, [], ◌∷◌, ◌++◌, Result, Ok}
+use Rattle.std.specs.Prelude.{ℕ, ◌+◌, List, [], ◌∷◌, ◌++◌, Option, Some, Result, Ok}
 use Rattle.std.specs.Option.{option_map_or}
+use Rattle.std.specs.Result.{is_ok}
+use Rattle.apei_sources.specs.Blocks.{block_of}
+use Rattle.ras_klog.specs.Reading.{provided, read_then}
 use Rattle.line_filters.specs.Filter.{Filter}
 use Rattle.ras_script.specs.declared.line.LineRefused.{LineRefused}
 use Rattle.block_lines.specs.Blocks.{section_block_bytes}
@@ -29,10 +32,16 @@ event_block event = section_block_bytes pcie_type (cper_severity event.severity)
 abbrev pub event_text : Reporting → FoundEvent → List ℕ
 event_text r found = source_block_text r TRACE_SOURCE found.stamp (event_block found.event)
 
--- the line of a section with these bytes, after a table if one is due
+-- the block of a section's event, if the section's bytes can be read, and a run can read the block
+abbrev pub section_block_of : FoundSection → List ℕ → Option (List ℕ)
+section_block_of found line =
+    read_then (section_bytes_of found.head line) (λ bytes.
+    let block = section_block_bytes found.head.kind found.head.severity bytes in
+    provided (is_ok (block_of block)) (Some block))
+
+-- the line of this block, after a table if one is due
 abbrev pub section_event_text : Reporting → FoundSection → List ℕ → List ℕ
-section_event_text r found bytes =
-    source_block_text r TRACE_SOURCE found.stamp (section_block_bytes found.head.kind found.head.severity bytes)
+section_event_text r found block = source_block_text r TRACE_SOURCE found.stamp block
 
 -- after a line with an event: the reports of the log stay as they are
 abbrev pub after_event : BlockProgress → BlockProgress
@@ -45,7 +54,7 @@ event_text_by p line Absent = blocks_text_at p.reports (p.taken + 1) (report_log
 event_text_by p line Unread = unread_report_line (p.taken + 1) ++ 10 ∷ []
 event_text_by p line (Found found) = event_text p.reports found
 event_text_by p line (Section found) =
-    option_map_or (section_event_text p.reports found) (section_bytes_of found.head line)
+    option_map_or (section_event_text p.reports found) (section_block_of found line)
     (unread_report_line (p.taken + 1) ++ 10 ∷ [])
 
 abbrev pub after_by : BlockProgress → List ℕ → LineEvent → BlockProgress
@@ -54,7 +63,7 @@ after_by p line Absent =
 after_by p line Unread = record p { taken = p.taken + 1 }
 after_by p line (Found found) = after_event p
 after_by p line (Section found) =
-    option_map_or (λ bytes. after_event p) (section_bytes_of found.head line) (record p { taken = p.taken + 1 })
+    option_map_or (λ block. after_event p) (section_block_of found line) (record p { taken = p.taken + 1 })
 
 -- the text of a line, and the state of the filter after it
 abbrev pub report_text_at : BlockProgress → List ℕ → List ℕ

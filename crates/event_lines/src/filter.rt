@@ -1,15 +1,17 @@
 //! The command `lines ghes` as a filter of lines.
 
-ghost use Rattle.std.specs.Prelude.{◌≡◌, ◌≤◌, ◌++◌, OnErr, OnOk};
+ghost use Rattle.std.specs.Prelude.{◌≡◌, ◌≤◌, ◌++◌, IfOk, OnErr, OnOk};
+ghost use Rattle.std.specs.Option.{option_map};
 ghost use Rattle.bank_lines.specs.declared.log_line.TheConstants.{LAST_SECOND};
 ghost use Rattle.event_lines.specs.Filter.{after_event, after_line, event_text, report_filter};
-ghost use Rattle.event_lines.specs.Filter.{after_by, report_text_at, reports_make, event_text_by};
+ghost use Rattle.event_lines.specs.Filter.{after_by, event_text_by, report_text_at, reports_make, section_block_of};
 ghost use Rattle.event_lines.specs.declared.traced.LineEvent.TheVariants.{Section};
 ghost use Rattle.ras_script.specs.declared.reader.TheConstants.{LONGEST_SCRIPT};
 
 use crate::pcie_bytes::{PCIE_TYPE, push_pcie_section};
 use crate::section_event::section_bytes;
 use crate::traced::{FoundEvent, FoundSection, LineEvent, line_event};
+use apei_sources::read_block;
 use block_lines::{BlockFilter, push_section_block};
 use line_filters::LineFilter;
 use ras_base::NoMemory;
@@ -95,7 +97,7 @@ impl ReportFilter {
 
 impl ReportFilter {
     // Takes a line with this section's event, and appends the line of the section's block, or a
-    // comment if the section's bytes can't be read.
+    // comment if the section can't be read.
     fn take_section(
         &mut self,
         alloc: Global,
@@ -109,14 +111,32 @@ impl ReportFilter {
         ensures after { OnOk result (self.new ≡ after_by self.old line.now (Section found)) }
         ensures kept { OnErr result (self.new.taken ≡ self.old.taken) }
     {
-        let Some(section) = section_bytes(alloc, found.head, line)? else {
-            return self.log.take_unread(text);
-        };
-        let mut block = Vec::new(alloc);
-        push_section_block(&mut block, &found.head.kind, found.head.severity, &section)?;
-        self.log
-            .take_block(alloc, TRACE_SOURCE, found.stamp, &block, text)
+        match section_block(alloc, found, line)? {
+            Some(block) => self
+                .log
+                .take_block(alloc, TRACE_SOURCE, found.stamp, &block, text),
+            None => self.log.take_unread(text),
+        }
     }
+}
+
+// Returns the block of a section's event, if the section's bytes can be read, and a run can read
+// the block: of a section that its own type refuses a run ends.
+fn section_block(
+    alloc: Global,
+    found: FoundSection,
+    line: &[u8],
+) -> Result<Option<Vec<u8>>, NoMemory>
+    ensures { IfOk result (λ made. option_map (λ block. block.items) made
+        ≡ section_block_of found line.now) }
+{
+    let Some(section) = section_bytes(alloc, found.head, line)? else {
+        return Ok(None);
+    };
+    let mut block = Vec::new(alloc);
+    push_section_block(&mut block, &found.head.kind, found.head.severity, &section)?;
+    let is_read = read_block(&block).is_ok();
+    Ok(if is_read { Some(block) } else { None })
 }
 
 impl LineFilter for ReportFilter {
