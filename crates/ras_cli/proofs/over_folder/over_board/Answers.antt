@@ -29,7 +29,7 @@ returns g c =
           ends exit _ task _ _ past now c.new-board.result c.rasd-exit.new.board begun same c.rasd-exit.ensures.ran c.rasd-exit.ensures.stops account script p asked (c.new-source.ensures.left ∙ is_left) is_past recovers);
       refused = refused exit _ task past now c.new-board.result c.rasd-exit.new.board begun same c.rasd-exit.ensures.refused;
       reported = reports exit task _ _ past now c.new-board.result c.rasd-exit.new.board begun same c.rasd-exit.ensures.commands
-          (λ listing asked. rw (← c.requires.found) (rw c.into_system-system.ensures.past c.into_system-system.ensures.reading (c.requires.reads listing asked)));
+          (λ listing asked. rw (← c.requires.found) (rw c.into_system-system.ensures.past (c.into_system-system.ensures.reading (c.requires.reads listing asked))));
       commands = commands exit task _ _ past now c.new-board.result c.rasd-exit.new.board begun same c.rasd-exit.ensures.commands (g.I.Input.left c.args.input) (g.I.Input.left c.into_input-input.result) c.new-source.ensures.left c.into_input-input.ensures.left;
       spares = rw (← c.requires.found) (rw c.into_system-system.ensures.past c.into_system-system.ensures.spares);
       causes = over_caused task exit _ _ _ _ _ _ _ _ c.rasd-exit.ensures.causes c.new-board.ensures.faults c.requires.alone c.into_system-system.ensures.caused _ _ _ c.new-source.ensures.faults c.into_input-input.ensures.faults c.into_system-system.ensures.count;
