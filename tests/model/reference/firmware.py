@@ -1,7 +1,10 @@
-"""What `lines ghes` prints of a kernel log: lines `hest` and `ghes` of what the firmware reported."""
+"""What `lines ghes` prints of a kernel log and trace: lines `hest` and `ghes` of what the firmware reported, and of events."""
 import re
 
+from reference.base import Unreadable
+from reference.events import event_in
 from reference.kernel import MOST, SECOND, UNREAD, is_own, printed, stamp_in
+from reference.reports import Refused, read_block
 
 START = b"Hardware error from APEI Generic Hardware Error Source: "
 SEVERITIES = b"recoverable", b"fatal", b"corrected"
@@ -10,6 +13,7 @@ NAMES = b"node:", b"card:", b"module:"
 MARKED = rb"\{([0-9]+)\}\[Hardware Error\]: "
 MEMORY = bytes.fromhex("1411bca5646fde4eb8633e83ed7c83b1")
 MOST_ERRORS, MOST_SOURCES, PAUSE = 12, 28, SECOND // 10
+TRACE_SOURCE = 65_535
 LEFT_OUT, PARTIAL = "# left out {}\n", "# partial source={} number={}\n"
 
 
@@ -42,20 +46,25 @@ def little(value, size):
     return (value or 0).to_bytes(size, "little")
 
 
-def entry_of(error):
+def entry(kind, severity, section):
     """An entry of a block."""
+    return kind + little(severity, 4) + b"\0\3\0\0" + little(len(section), 4) + bytes(44) + section
+
+
+def entry_of(error):
+    """The entry of a memory error."""
     bits = zip((1, 2, 3, 4, 5, 14), (error["address"], error["mask"], *error["place"], error["kind"]), strict=True)
     valid = sum(1 << bit for bit, value in bits if value is not None)
     places = b"".join(little(it, 2) for it in error["place"])
     section = little(valid, 8) + bytes(8) + little(error["address"], 8) + little(error["mask"], 8) + places
     section += bytes(34) + little(error["kind"], 1) + bytes(7)
-    return MEMORY + little(error["severity"], 4) + b"\0\3\0\0" + little(len(section), 4) + bytes(44) + section
+    return entry(MEMORY, error["severity"], section)
 
 
-def block_of(severity, errors):
-    """The status block of a report."""
-    data = b"".join(map(entry_of, errors))
-    status = 16 * len(errors) + (2 if severity == 2 else 1)
+def block_of(severity, entries):
+    """The status block of these entries."""
+    data = b"".join(entries)
+    status = 16 * len(entries) + (2 if severity == 2 else 1)
     return little(status, 4) + bytes(8) + little(len(data), 4) + little(severity, 4) + data
 
 
@@ -79,13 +88,26 @@ class Reports:
             return text
         work["errors"] += [work["error"]] if work["error"] else []
         source, begun = work["source"], work["begun"]
-        if work["errors"] and source not in self.sources:
-            self.sources = [*(self.sources if len(self.sources) < MOST_SOURCES else []), source]
-            text += f"hest {table_of(self.sources).hex()}\n"
         if work["errors"]:
-            seconds = self.began + begun // SECOND
-            text += f"ghes {self.boot} {seconds} {source} {begun} {block_of(work['severity'], work['errors']).hex()}\n"
+            text = self.lines(source, begun, block_of(work["severity"], [*map(entry_of, work["errors"])]))
         return text + (PARTIAL.format(source, begun) if work["state"] in ("absent", "begun") else "")
+
+    def lines(self, source, begun, block):
+        """The line of a block, behind a table if the last one lacks its source."""
+        text = ""
+        if source not in self.sources:
+            self.sources = [*(self.sources if len(self.sources) < MOST_SOURCES else []), source]
+            text = f"hest {table_of(self.sources).hex()}\n"
+        return f"{text}ghes {self.boot} {self.began + begun // SECOND} {source} {begun} {block.hex()}\n"
+
+    def event(self, stamp, severity, kind, section):
+        """What is told of an event: its block, if a run can read it."""
+        block = block_of(severity, [entry(kind, severity, section)])
+        try:
+            read_block(block)
+        except Refused:
+            raise Unreadable from None
+        return self.lines(TRACE_SOURCE, stamp, block)
 
     def section(self, kind, line):
         """What is told of a line that says what a section is about."""
@@ -143,6 +165,11 @@ class Reports:
         """What is printed of a line, and of the log's end, which has no number: a report in work may lack lines."""
         if line is None:
             return PARTIAL.format(self.work["source"], self.work["begun"]) if self.work else ""
+        try:
+            if event := event_in(bytes_of_line):
+                return self.event(*event)
+        except Unreadable:
+            return UNREAD.format(line)
         stamp, told = stamp_in(bytes_of_line.partition(b"{")[0]), ""
         head, _, rest = bytes_of_line.removesuffix(b"\r").partition(b"{")
         word, _, rest = rest.partition(b"}")
