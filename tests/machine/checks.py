@@ -231,7 +231,7 @@ def kills(it):
 
 
 def before(it):
-    """what a boot told while the service was down is counted in the next one"""
+    """what a boot told while the service was down, and before its trace, is counted"""
     it.text("systemctl stop rasd")
     it.polls()
     it.correct(3, address=0x25678040)
@@ -242,6 +242,18 @@ def before(it):
     it.guest.reboot()
     yield "after a reboot the unit runs", it.comes_up()
     yield it.agrees("an error of the boot before, told while the service was down, is counted")
+    # No error came in this boot, so the trace may be lost: it begins anew, later than this one.
+    it.text("systemctl stop rasd rasd-trace && rmdir /sys/kernel/tracing/instances/rasd")
+    it.text("rm /var/lib/rasd-trace/trace.$(cat /proc/sys/kernel/random/boot_id)")
+    it.polls()
+    it.correct(4, address=0x25778040)
+    took = it.guest.awaits("journalctl -k -b -o cat | grep 'Bank 4:'", "Bank 4", SOON)
+    yield "the kernel told of an error before the trace", took is not None
+    it.text("systemctl start rasd")
+    yield it.agrees("an error from before the trace is counted")
+    it.polls()
+    it.correct(4, address=0x25779040)
+    yield it.agrees("and one of the trace, each once")
 
 
 def cut(it):
