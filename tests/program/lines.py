@@ -167,7 +167,7 @@ HEADS = (
 ODD_HEADS = (
     "", "[ 1.5] mce: ", "usb 1-1: Product: mce: ", "[   12.500001] node7 kernel: usb 1-1: Product: mce: ", "kernel: x: mce: ",
     "[18446744073709.551616] mce: ", "[18446744073709.551615] mce: ", "mce:", "node7 mce: ", "[   12.500001][    T7] mce: ",
-    "[   12.500001] /x kernel: mce: ", "[12/x] mce: ", "0,1234,x,-;mce: ", "0,1,9999999999999999999,c,caller=T1;mce: ",
+    "[   12.500001] /x kernel: mce: ", "[12/x] mce: ", "0,1234,x,-;mce: ", "0,1,9999999999999999999,c,caller=T611;mce: ",
     "Sun 2026-11-29 13:36:01 UTC node7 kernel: mce: ", "Nov 29 x node7 kernel: mce: ", "<x>[ 1.5] mce: ", "kern  :emerg : [ 1.5] mce: ",
 )  # fmt: skip
 
