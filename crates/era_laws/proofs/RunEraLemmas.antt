@@ -5,6 +5,7 @@ use Rattle.board_core.specs.Clock.{Clock, LeftNow}
 use Rattle.board_core.specs.Stop.{Left}
 use Rattle.board_core.specs.Doing.{Seen}
 use Rattle.board_core.specs.Told.{Told}
+use Rattle.ras_recover.specs.Recovering.{MaySync, SyncsFirst}
 use Rattle.ras_account.specs.Account.{State}
 use Rattle.ras_exit.specs.declared.exit.Exit.{Exit}
 use Rattle.ras_journal.specs.Recovered.{Recovers}
@@ -32,9 +33,27 @@ module _ {X : Type 0} (see : X → Seen) (old new : X) (account : State) (t : To
   is-era : (left : Left) → Headline (run_of start script) t.here left → Leaves left
   is-era left leaves = record { opens = opens; store = refl; leaves = leaves }
 
-  -- from the moment at which the opening is answered
-  pub era-settled : (left : Left) (settles : Settles see start script t old new) → (see new).clock.may_leave_since (see settles.opened).clock.now left → Leaves left
+  -- from the moment at which both syncs of the opening are answered
+  pub era-settled : (left : Left) (settles : Settles see start script t old new) → (see new).clock.may_leave_since (see settles.syncs.synced).clock.now left → Leaves left
   era-settled left settles may = is-era left (settles.from left may)
+
+  era-opening : (left : Left) → AtOpening start t.here.out left → Leaves left
+  era-opening left opening = is-era left (headline-nothing start script t.here left opening.text opening.recovers opening.store)
+
+  -- also if the journal is never open
+  pub era-synced : (left : Left) (mid : X) (syncs : SyncsFirst see (AtOpening start t.here.out) t old mid) → (see mid).clock.may_leave_since (see syncs.synced).clock.now left → Leaves left
+  era-synced left mid syncs may = elim (syncs.since.each (see syncs.synced).clock.now left (omega arith) may) [
+    | inl was ↦ subst Leaves (sym (syncs.rests.only left was)) (is-era t.here (headline-nothing start script t.here t.here refl opens refl))
+    | inr opening ↦ era-opening left opening
+  ]
+
+  -- and until then what a stop at the start leaves
+  era-during : (left : Left) (mid : X) → MaySync see (AtOpening start t.here.out) t old mid → (see mid).clock.may_leave_since (see old).clock.now left → LeftNow (see old).clock left ⊎ Leaves left
+  era-during left mid (inl syncs) may = elim (syncs.since.each (see old).clock.now left syncs.until.later may) [
+    | inl was ↦ inl (elim (syncs.until.each (see old).clock.now left (omega arith) was) [ inl now ↦ now | inr now ↦ now ])
+    | inr opening ↦ inr (era-opening left opening)
+  ]
+  era-during left mid (inr failed) may = inl (elim (failed.stops.each (see old).clock.now left (omega arith) may) [ inl now ↦ now | inr now ↦ now ])
 
   module _ (exit : Exit) (Same : Type 0) (stops : RunStops see exit Same start script t old new) where
     -- a stop at any moment of the run
@@ -51,16 +70,12 @@ module _ {X : Type 0} (see : X → Seen) (old new : X) (account : State) (t : To
     pub era-went-on : (left : Left) → (see new).clock.may_leave_since (see old).clock.now left → LeftNow (see old).clock left ⊎ Leaves left
     era-went-on left may = by stops.settled
       where
-        began : AtOpening start t.here.out left → Leaves left
-        began opening = is-era left (headline-nothing start script t.here left opening.text opening.recovers opening.store)
-
-        here : LeftNow (see old).clock left ⊎ AtOpening start t.here.out left → LeftNow (see old).clock left ⊎ Leaves left
-        here (inl now) = inl now
-        here (inr opening) = inr (began opening)
-
-        by : Settles see start script t old new ⊎ NeverOpens exit Same start t.here (see old).clock (see new).clock → LeftNow (see old).clock left ⊎ Leaves left
-        by (inl settles) = elim (settles.behind.each (see old).clock.now left settles.before.later may) [
-          | inl was ↦ elim (settles.before.each (see old).clock.now left (omega arith) was) [ inl now ↦ inl now | inr opening ↦ here opening ]
-          | inr leaves ↦ inr (is-era left leaves)
-        ]
-        by (inr never) = here (never.always left may)
+        by : Settles see start script t old new ⊎ NeverOpens see exit Same start t old new → LeftNow (see old).clock left ⊎ Leaves left
+        by (inl settles) =
+            let first : (see old).clock.now ≤ (see settles.syncs.synced).clock.now = settles.syncs.until.later in
+            let later : (see settles.syncs.synced).clock.now ≤ (see settles.opened).clock.now = settles.syncs.since.later in
+            elim (settles.behind.each (see old).clock.now left (omega arith) may) [
+              | inl was ↦ era-during left settles.opened (inl settles.syncs) was
+              | inr leaves ↦ inr (is-era left leaves)
+            ]
+        by (inr never) = era-during left new never.syncs may

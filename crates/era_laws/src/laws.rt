@@ -20,9 +20,10 @@ ghost use Rattle.ras_account.specs.History.{History, with_entries};
 ghost use Rattle.ras_account.specs.Modules.{Module, has_tripped};
 ghost use Rattle.ras_account.specs.Orders.{orders, orders_since_mark};
 ghost use Rattle.ras_journal.specs.Recovered.{Recovers};
+ghost use Rattle.ras_recover.specs.Recovering.{SyncsFirst};
 ghost use Rattle.ras_exit.specs.declared.exit.Exit.{Exit};
 ghost use Rattle.ras_run.specs.Places.{Start};
-ghost use Rattle.ras_daemon.specs.Headline.{Settles, StopsRecover, reported};
+ghost use Rattle.ras_daemon.specs.Headline.{AtOpening, Settles, StopsRecover, reported};
 ghost use Rattle.ras_daemon.specs.Machine.{account_upto, change_next, puts, store_changed};
 ghost use Rattle.ras_daemon.specs.Machine.{store_upto};
 ghost use Rattle.ras_daemon.specs.Promises.{RunStops};
@@ -212,13 +213,18 @@ pub fn run_eras<S: Source, B: Board>()
         → (B.seen new).told ≡ Some now → IsEra (era_of account t script now.here) }
 
     // After a process is killed the machine goes on, and writes may not be durable yet. A crash
-    // during the next run leaves the end of an era of that run from the point at which its journal
-    // is open. A crash before that does so too, or leaves what a crash at the very start of this
-    // run might have left.
+    // during the next run leaves the end of an era of that run from the point at which both syncs
+    // of its journal's opening have returned `Ok`, also if the journal is never open. A crash
+    // before that leaves what a crash at the very start of this run might have left.
     ensures settled { (old new : B) (account : State) (t : Told) (script : List ℕ) (left : Left)
         → Recovers account t.here
         → (settles : Settles B.seen (start_of account t) script t old new)
-        → (B.seen new).clock.may_leave_since (B.seen settles.opened).clock.now left
+        → (B.seen new).clock.may_leave_since (B.seen settles.syncs.synced).clock.now left
+        → IsEra (era_of account t script left) }
+    ensures never_open { (old new : B) (account : State) (t : Told) (script : List ℕ) (left : Left)
+        → Recovers account t.here
+        → (syncs : SyncsFirst B.seen (AtOpening (start_of account t) t.here.out) t old new)
+        → (B.seen new).clock.may_leave_since (B.seen syncs.synced).clock.now left
         → IsEra (era_of account t script left) }
     ensures went_on { (exit : Exit) (first last : S) (old new : B)
         (account : State) (t : Told) (script : List ℕ) (left : Left)

@@ -1,7 +1,7 @@
 -- What a run over a folder promises makes an era of it.
 use Rattle.std.proofs.Common.{◌≡◌, ℕ, List, [], ◌∷◌, refl, sym, ◌∙◌, ap, inl, inr, None, Some, arith}
-use Rattle.std.specs.Prelude.{◌⊎◌, Option}
-use Rattle.board_core.specs.Clock.{LeftNow}
+use Rattle.std.specs.Prelude.{◌≤◌, ◌⊎◌, Option}
+use Rattle.board_core.specs.Clock.{Adds, LeftNow}
 use Rattle.board_core.specs.Steps.DiskLemmas.{settled_only}
 use Rattle.board_core.specs.Stop.{Left}
 use Rattle.era_laws.proofs.RunEraLemmas.{stops-recover}
@@ -12,9 +12,9 @@ use Rattle.host_system.specs.Steps.LawLemmas.{earlier_left, told_left}
 use Rattle.host_system.specs.View.{clock_over, seen_as, seen_now, store_in}
 use Rattle.ras_account.specs.Account.{State}
 use Rattle.ras_cli.specs.FolderEras.{AreRuns, BeganOver, FolderRun, eras_over, files_after, started_over}
-use Rattle.ras_cli.specs.OverFolder.{NeverOpened, Outlives, OutlivesOpened, begun_over}
+use Rattle.ras_cli.specs.OverFolder.{NeverOpened, Outlives, OutlivesOpened, OutlivesSynced, begun_over}
 use Rattle.ras_daemon.proofs.HeadlineLemmas.{headline-nothing}
-use Rattle.ras_daemon.specs.Headline.{AtOpening, Headline, StopsRecover}
+use Rattle.ras_daemon.specs.Headline.{Headline, StopsRecover}
 use Rattle.ras_daemon.specs.RunOf.{run_of}
 use Rattle.ras_daemon.specs.RunStatus.{start_of}
 use Rattle.ras_exit.specs.declared.exit.Exit.{Exit}
@@ -66,17 +66,27 @@ module _ (account : State) (script : List ℕ) (past now : FolderPast) (opens : 
       stopped recover outlives (seen_now now)
       (earlier_left (Some now) (clock_over (Some past)).now (clock_over (Some now)).now (seen_now now) outlives.later (told_left (Some now) (seen_now now) refl))
 
-  began : (left : Left) → LeftNow (clock_over (Some past)) left ⊎ AtOpening start (seen_now past).out left → LeftNow (clock_over (Some past)) left ⊎ Leaves left
-  began left (inl at_start) = inl at_start
-  began left (inr opening) = inr (is_era left (headline-nothing start script (seen_now past) left opening.text opening.recovers opening.store))
+  pub settled : (opened : OutlivesOpened start script past now) → (left : Left) → (clock_over (Some now)).may_leave_since (clock_over (Some opened.syncs.synced)).now left → Leaves left
+  settled opened left may = is_era left (opened.from left may)
+
+  during : (mid : FolderPast) → OutlivesSynced start past mid ⊎ Adds (LeftNow (clock_over (Some past))) (clock_over (Some past)) (clock_over (Some mid))
+      → (left : Left) → (clock_over (Some mid)).may_leave_since (clock_over (Some past)).now left → LeftNow (clock_over (Some past)) left ⊎ Leaves left
+  during mid (inl syncs) left may = elim (syncs.since.each (clock_over (Some past)).now left syncs.until.later may) [
+    | inl was ↦ inl (elim (syncs.until.each (clock_over (Some past)).now left (omega arith) was) [ inl at_start ↦ at_start | inr at_start ↦ at_start ])
+    | inr opening ↦ inr (is_era left (headline-nothing start script (seen_now past) left opening.text opening.recovers opening.store))
+  ]
+  during mid (inr failed) left may = inl (elim (failed.each (clock_over (Some past)).now left (omega arith) may) [ inl at_start ↦ at_start | inr at_start ↦ at_start ])
 
   pub went_on : (exit : Exit) → OutlivesOpened start script past now ⊎ NeverOpened exit start past now
       → (left : Left) → (clock_over (Some now)).may_leave_since (clock_over (Some past)).now left → LeftNow (clock_over (Some past)) left ⊎ Leaves left
-  went_on exit (inr never) left may = began left (never.always left may)
-  went_on exit (inl settles) left may = elim (settles.behind.each (clock_over (Some past)).now left settles.before.later may) [
-    | inl was ↦ elim (settles.before.each (clock_over (Some past)).now left (omega arith) was) [ inl at_start ↦ inl at_start | inr opening ↦ began left opening ]
-    | inr leaves ↦ inr (is_era left leaves)
-  ]
+  went_on exit (inr never) left may = during now never.syncs left may
+  went_on exit (inl settles) left may =
+      let first : (clock_over (Some past)).now ≤ (clock_over (Some settles.syncs.synced)).now = settles.syncs.until.later in
+      let later : (clock_over (Some settles.syncs.synced)).now ≤ (clock_over (Some settles.opened)).now = settles.syncs.since.later in
+      elim (settles.behind.each (clock_over (Some past)).now left (omega arith) may) [
+        | inl was ↦ during settles.opened (inl settles.syncs) left was
+        | inr leaves ↦ inr (is_era left leaves)
+      ]
 
 -- ---- runs one after another
 

@@ -14,7 +14,7 @@ use Rattle.host_system.specs.View.{clock_over, seen_now, told_over}
 use Rattle.line_filters.specs.Filter.{Filter}
 use Rattle.line_filters.specs.Filters.{Filters, OfBoth}
 use Rattle.ras_account.specs.Account.{State}
-use Rattle.ras_cli.specs.OverFolder.{Ends, NeverOpened, Outlives, OutlivesOpened, OverDamaged, OverFolder, OverOther, OverReport, PrintsAlone, Refuses, Reported, begun_over}
+use Rattle.ras_cli.specs.OverFolder.{Ends, NeverOpened, Outlives, OutlivesOpened, OutlivesSynced, OverDamaged, OverFolder, OverOther, OverReport, PrintsAlone, Refuses, Reported, begun_over}
 use Rattle.ras_daemon.specs.Commands.{ByTask}
 use Rattle.ras_daemon.specs.Headline.{AtOpening, Headline, IsWhole, NeverOpens, OverRun, Settles, StopsRecover}
 use Rattle.ras_daemon.specs.Machine.{account_upto, change_next, store_upto}
@@ -36,6 +36,7 @@ use Rattle.ras_host.specs.Steps.KeptDevice.{volatile_in}
 use Rattle.ras_host.specs.declared.kept.Kept.{Kept}
 use Rattle.ras_host.specs.declared.kept.Kept.TheVariants.{Unread, Unreadable}
 use Rattle.ras_journal.specs.Recovered.{Recovers}
+use Rattle.ras_recover.specs.Recovering.{SyncsFirst}
 use Rattle.ras_daemon.specs.Reporting.{ReportMoment, Reports, report_output}
 use Rattle.listing_texts.specs.declared.listing.Listing.{Listing}
 use Rattle.ras_run.specs.Files.{files_refusal}
@@ -201,35 +202,53 @@ module _ (exit : Exit) (Same : Type 0) (task : Option Task) (left rest : Option 
     pub headline : IsSomeAnd now (Outlives (start_of account (begun_over p)) script p)
     headline = at_now (Outlives (start_of account (begun_over p)) script p) outlives
 
+    -- until a sync returned, what a crash at the start leaves
+    unsynced : (mid : BoardState) (q : FolderPast) → mid.past ≡ Some q → Adds (LeftNow (clock_of old)) (clock_of old) (clock_of mid) → Adds (LeftNow (clock_over (Some p))) (clock_over (Some p)) (clock_over (Some q))
+    unsynced mid q is_mid adds =
+        subst (λ (o : Option FolderPast). Adds (LeftNow (clock_over (Some p))) (clock_over (Some p)) (clock_over o)) is_mid
+        (subst (λ (o : Option FolderPast). Adds (LeftNow (clock_over o)) (clock_over o) (clock_of mid)) is_old adds)
+
+    synced : (mid : BoardState) (q : FolderPast) → mid.past ≡ Some q → SyncsFirst seen_of (AtOpening (start_of account (begun_over p)) (seen_now p).out) (begun_over p) old mid → OutlivesSynced (start_of account (begun_over p)) p q
+    synced mid q is_mid s =
+        let e = ended s.synced _ s.rests.is in
+        record {
+          synced = e.now;
+          until = unsynced s.synced e.now e.over s.until;
+          rests = λ left now. s.rests.only left (subst (λ (o : Option FolderPast). LeftNow (clock_over o) left) (sym e.over) now);
+          since =
+              subst (λ (o : Option FolderPast). Adds (AtOpening (start_of account (begun_over p)) (seen_now p).out) (clock_over o) (clock_over (Some q))) e.over
+              (subst (λ (o : Option FolderPast). Adds (AtOpening (start_of account (begun_over p)) (seen_now p).out) (clock_of s.synced) (clock_over o)) is_mid s.since);
+        }
+
     opened : Settles seen_of (start_of account (begun_over p)) script (begun_over p) old new → OutlivesOpened (start_of account (begun_over p)) script p the_end.now
+    unfolding synced
     opened s = by (ended s.opened (after_acts s.just.acts (begun_over p)) s.just.rests.is)
       where
         by : Ended s.opened (after_acts s.just.acts (begun_over p)) → OutlivesOpened (start_of account (begun_over p)) script p the_end.now
         by e = record {
           opened = e.now;
-          before =
-              subst (λ (o : Option FolderPast). Adds (λ left. LeftNow (clock_over (Some p)) left ⊎ AtOpening (start_of account (begun_over p)) (seen_now p).out left) (clock_over (Some p)) (clock_over o)) e.over
-              (subst (λ (o : Option FolderPast). Adds (λ left. LeftNow (clock_over o) left ⊎ AtOpening (start_of account (begun_over p)) (seen_now p).out left) (clock_over o) (clock_of s.opened)) is_old s.before);
+          syncs = synced s.opened e.now e.over s.syncs;
           behind =
               subst (λ (o : Option FolderPast). Adds (Headline (run_of (start_of account (begun_over p)) script) (seen_now p)) (clock_over o) (clock_over (Some the_end.now))) e.over
               (subst (λ (o : Option FolderPast). Adds (Headline (run_of (start_of account (begun_over p)) script) (seen_now p)) (clock_of s.opened) (clock_over o)) the_end.over s.behind);
           from =
-              subst (λ (o : Option FolderPast). Always (clock_over (Some the_end.now)) (clock_over o).now (Headline (run_of (start_of account (begun_over p)) script) (seen_now p))) e.over
-              (subst (λ (o : Option FolderPast). Always (clock_over o) (clock_of s.opened).now (Headline (run_of (start_of account (begun_over p)) script) (seen_now p))) the_end.over s.from);
+              subst (λ (o : Option FolderPast). Always (clock_over (Some the_end.now)) (clock_over o).now (Headline (run_of (start_of account (begun_over p)) script) (seen_now p))) (ended s.syncs.synced _ s.syncs.rests.is).over
+              (subst (λ (o : Option FolderPast). Always (clock_over o) (clock_of s.syncs.synced).now (Headline (run_of (start_of account (begun_over p)) script) (seen_now p))) the_end.over s.from);
         }
 
-    never : NeverOpens exit Same (start_of account (begun_over p)) (seen_now p) (clock_of old) (clock_of new) → NeverOpened exit (start_of account (begun_over p)) p the_end.now
+    never : NeverOpens seen_of exit Same (start_of account (begun_over p)) (begun_over p) old new → NeverOpened exit (start_of account (begun_over p)) p the_end.now
     never n = record {
       cut = n.cut;
-      always =
-          subst (λ (o : Option FolderPast). Always (clock_over o) (clock_over (Some p)).now (λ left. LeftNow (clock_over (Some p)) left ⊎ AtOpening (start_of account (begun_over p)) (seen_now p).out left)) the_end.over
-          (subst (λ (o : Option FolderPast). Always (clock_of new) (clock_over o).now (λ left. LeftNow (clock_over o) left ⊎ AtOpening (start_of account (begun_over p)) (seen_now p).out left)) is_old n.always);
+      syncs = elim n.syncs [
+        | inl s ↦ inl (synced new the_end.now the_end.over s)
+        | inr failed ↦ inr (unsynced new the_end.now the_end.over failed.stops)
+      ];
     }
 
     pub settles : IsSomeAnd now (λ q. OutlivesOpened (start_of account (begun_over p)) script p q ⊎ NeverOpened exit (start_of account (begun_over p)) p q)
     settles = at_now (λ q. OutlivesOpened (start_of account (begun_over p)) script p q ⊎ NeverOpened exit (start_of account (begun_over p)) p q) (by stopped.settled)
       where
-        by : Settles seen_of (start_of account (begun_over p)) script (begun_over p) old new ⊎ NeverOpens exit Same (start_of account (begun_over p)) (seen_now p) (clock_of old) (clock_of new)
+        by : Settles seen_of (start_of account (begun_over p)) script (begun_over p) old new ⊎ NeverOpens seen_of exit Same (start_of account (begun_over p)) (begun_over p) old new
             → OutlivesOpened (start_of account (begun_over p)) script p the_end.now ⊎ NeverOpened exit (start_of account (begun_over p)) p the_end.now
         by (inl s) = inl (opened s)
         by (inr n) = inr (never n)

@@ -48,19 +48,30 @@ pub record Outlives (start : Start) (script : List ℕ) (past now : FolderPast) 
   -- Provided that a crash at the run's start leaves files that give the run's account and its record store.
   pub once : StopsRecover start (clock_over (Some past)) → Always (clock_over (Some now)) (clock_over (Some past)).now (Headline (run_of start script) (seen_now past))
 
--- Without that premise the headline holds from the point at which the journal was open. A crash before that
--- leaves what a crash at the start may have left, or the account at the start with store and text as they
--- were.
-pub record OutlivesOpened (start : Start) (script : List ℕ) (past now : FolderPast) : Type 0 where
-  pub opened : FolderPast
-  pub before : Adds (λ left. LeftNow (clock_over (Some past)) left ⊎ AtOpening start (seen_now past).out left) (clock_over (Some past)) (clock_over (Some opened))
-  pub behind : Adds (Headline (run_of start script) (seen_now past)) (clock_over (Some opened)) (clock_over (Some now))
-  pub from : Always (clock_over (Some now)) (clock_over (Some opened)).now (Headline (run_of start script) (seen_now past))
+-- Both journal files were synced. Until both syncs had returned Ok a crash leaves what a crash at the start may
+-- have left. Then it leaves exactly what the folder contained at the start, and afterwards the account at the
+-- start, with store and text as they were.
+pub record OutlivesSynced (start : Start) (past new : FolderPast) : Type 0 where
+  -- the folder when both syncs had returned Ok
+  pub synced : FolderPast
+  pub until : Adds (LeftNow (clock_over (Some past))) (clock_over (Some past)) (clock_over (Some synced))
+  pub rests : Always (clock_over (Some synced)) (clock_over (Some synced)).now (λ left. left ≡ seen_now past)
+  pub since : Adds (AtOpening start (seen_now past).out) (clock_over (Some synced)) (clock_over (Some new))
 
--- The journal was never open.
+-- Without that premise the headline holds from the point at which both syncs of the journal's opening had
+-- returned Ok.
+pub record OutlivesOpened (start : Start) (script : List ℕ) (past now : FolderPast) : Type 0 where
+  -- the folder when the journal was open
+  pub opened : FolderPast
+  pub syncs : OutlivesSynced start past opened
+  pub behind : Adds (Headline (run_of start script) (seen_now past)) (clock_over (Some opened)) (clock_over (Some now))
+  pub from : Always (clock_over (Some now)) (clock_over (Some syncs.synced)).now (Headline (run_of start script) (seen_now past))
+
+-- The journal was never open: both files were synced so, or a crash leaves what a crash at the start may have
+-- left.
 pub record NeverOpened (exit : Exit) (start : Start) (past now : FolderPast) : Type 0 where
   pub cut : (exit ≡ DiskFault) ⊎ (exit ≡ NoMemory)
-  pub always : Always (clock_over (Some now)) (clock_over (Some past)).now (λ left. LeftNow (clock_over (Some past)) left ⊎ AtOpening start (seen_now past).out left)
+  pub syncs : OutlivesSynced start past now ⊎ Adds (LeftNow (clock_over (Some past))) (clock_over (Some past)) (clock_over (Some now))
 
 -- How a run ends, what it prints, and what the folder contains then.
 pub record Ends (exit : Exit) (start : Start) (script : List ℕ) (past now : FolderPast) : Type 0 where

@@ -45,8 +45,15 @@ pub fn folder_eras()
         → IsEra (era_of account (begun_over past) script (seen_now now)) }
 
     // After a process is killed the machine goes on, and writes may not be durable yet. A crash
-    // during the next run then leaves the end of an era of that run, or what a crash at its very
-    // start might have left, by `rasd_over/settled`.
+    // during the next run then leaves the end of an era of that run, by `rasd_over/settled`, from
+    // the point at which both syncs of the journal's opening have returned `Ok`. A crash before
+    // that leaves what a crash at its very start might have left.
+    ensures settled { (account : State) (script : List ℕ) (past now : FolderPast) (left : Left)
+        → let start = start_of account (begun_over past) in
+        Recovers account (seen_now past)
+        → (opened : OutlivesOpened start script past now)
+        → (clock_over (Some now)).may_leave_since (clock_over (Some opened.syncs.synced)).now left
+        → IsEra (era_of account (begun_over past) script left) }
     ensures went_on { (exit : Exit) (account : State) (script : List ℕ) (past now : FolderPast)
         (left : Left)
         → let start = start_of account (begun_over past) in

@@ -45,7 +45,7 @@ pub fn rasd_over<S: System + Drop, I: Input + Drop>(
         (Outlives start script past))
         (task_of words.now) (I.left input) (S.told system) }
     // Even if the files aren't durable at the start, for example after a process was killed, the
-    // same holds from the point at which the journal is open.
+    // same holds from the point at which both syncs of the journal's opening have returned `Ok`.
     ensures settled { OverFolder (λ start script past. IsSomeAnd (S.told result.system)
         (λ now. OutlivesOpened start script past now ⊎ NeverOpened result.exit start past now))
         (task_of words.now) (I.left input) (S.told system) }

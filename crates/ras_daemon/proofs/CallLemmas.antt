@@ -12,8 +12,9 @@ use Rattle.ras_base.specs.Places.{places}
 use Rattle.ras_account.specs.Account.{State}
 use Rattle.ras_account.specs.Accounts.{IsAccount}
 use Rattle.ras_journal.specs.Recovered.{Recovers}
-use Rattle.ras_recover.specs.Opening.{Opening}
+use Rattle.ras_recover.specs.Opening.{OpeningSynced}
 use Rattle.ras_recover.specs.OpeningActs.{AreOpeningActs}
+use Rattle.ras_recover.specs.Recovering.{SyncsFirst}
 use Rattle.ras_script.specs.declared.line.Line.{Line}
 use Rattle.ras_texts.specs.Orders.{standing_lines}
 use Rattle.ras_events.specs.Reports.{NumberedLine}
@@ -33,14 +34,14 @@ use Rattle.ras_daemon.specs.RunOutput.{closing_line, run_output}
 use Rattle.ras_daemon.specs.RunStatus.{run_exit, start_of}
 use Rattle.board_core.specs.Doing.{Act, Seen, after_acts}
 use Rattle.ras_daemon.specs.Steps.Doing.{Comes, DoesNotOpen, DoesRun, Opens}
-use Rattle.ras_daemon.proofs.RunLemmas.{disk_failed, opening_at, run_ends, run_stops}
+use Rattle.ras_daemon.proofs.RunLemmas.{disk_failed, run_ends, run_stops, synced_at}
 use Rattle.ras_daemon.proofs.AheadLemmas.{ahead_told}
 use Rattle.ras_daemon.proofs.DidLemmas.{opened_acts, opened_first, run_did}
 use Rattle.ras_daemon.proofs.FewLinksLemmas.{opened-few, run-few}
 use Rattle.ras_daemon.specs.Steps.ScriptHeadline.{store_on_end}
 use Rattle.ras_daemon.specs.Steps.Running.{AreAll, AreFirst, EndsEarly, EndsIn, EndsAhead, EndsSo, OpenMoment, RunEnds, RunMoment, lines_from, outputs}
 use Rattle.ras_daemon.specs.Script.{line_after}
-use Rattle.ras_daemon.proofs.HeadlineLemmas.{closing-quiet, headline, headline-nothing, headline-since, moment-prints}
+use Rattle.ras_daemon.proofs.HeadlineLemmas.{closing-quiet, headline, headline-since, moment-prints}
 use Rattle.ras_daemon.proofs.ScriptLemmas.{takes_stops}
 use Rattle.ras_daemon.proofs.CountLemmas.{account-first, count-first, events_among}
 use Rattle.ras_daemon.proofs.FirstLinesLemmas.{closing-same}
@@ -173,15 +174,23 @@ module _ {X : Type 0} (see : X → Seen) (account : State) (script : List ℕ) (
   abbrev start : Start
   start = start_of account t
 
-  -- from the moment on at which its journal is open
+  synced-start : (mid : X) → SyncsFirst see (OpeningSynced t.here) t old mid → SyncsFirst see (AtOpening start t.here.out) t old mid
+  synced-start mid s = record {
+    synced = s.synced;
+    rests = s.rests;
+    until = s.until;
+    since = adds_weaker (OpeningSynced t.here) (AtOpening start t.here.out) (see s.synced).clock (see mid).clock s.since (λ left opening. synced_at account t left recovers opening);
+  }
+
+  -- from the moment on at which both files were synced
   run-settles : Opens see start script exit t old new → Settles see start script t old new
+  unfolding synced-start
   run-settles d = record {
     opened = d.mid;
+    syncs = synced-start d.mid d.syncs;
     just = record { acts = first.0; are = first.1; rests = subst (λ (u : Told). Rests u (see d.mid).told (see d.mid).clock) first.2 d.rests };
-    before = adds_weaker (Opening (see old).clock t.here) (λ left. LeftNow (see old).clock left ⊎ AtOpening start t.here.out left) (see old).clock (see d.mid).clock d.stops (λ left opening.
-        opening_at account t (see old).clock left recovers opening);
     behind = adds_weaker (OpenMoment start script d.there.here.out) (Headline (run_of start script) t.here) (see d.mid).clock (see new).clock adds later;
-    from = λ left may. elim (adds.each (see d.mid).clock.now left (omega arith) may) [ inl was ↦ rests left was | inr moment ↦ later left moment ];
+    from = λ left may. elim (adds.each (see d.syncs.synced).clock.now left d.syncs.since.later may) [ inl was ↦ opening left was | inr moment ↦ later left moment ];
     few = λ few. opened-few see start script exit t old new few d;
   }
     where
@@ -194,24 +203,25 @@ module _ {X : Type 0} (see : X → Seen) (account : State) (script : List ℕ) (
       later : (left : Left) → OpenMoment start script d.there.here.out left → Headline (run_of start script) t.here left
       later left moment = headline-since start script t.here left (inr (d.holds.account, subst (λ out. OpenMoment start script out left) d.text moment))
 
-      rests : (left : Left) → LeftNow (see d.mid).clock left → Headline (run_of start script) t.here left
-      rests left was =
-          subst (Headline (run_of start script) t.here) (sym (d.rests.only left was))
-          (headline-nothing start script t.here d.there.here d.text (record { is = d.holds.at.recovers }) d.holds.board.store)
+      synced : (left : Left) → OpeningSynced t.here left → Headline (run_of start script) t.here left
+      synced left at = headline-since start script t.here left (inl (synced_at account t left recovers at))
 
-  never-opens : (Same : Type 0) → Same → DoesNotOpen see exit t old new → NeverOpens exit Same start t.here (see old).clock (see new).clock
+      opening : (left : Left) → (see d.mid).clock.may_leave_since (see d.syncs.synced).clock.now left → Headline (run_of start script) t.here left
+      opening left was = elim (d.syncs.since.each (see d.syncs.synced).clock.now left (omega arith) was) [ inl now ↦ synced left (inl (d.syncs.rests.only left now)) | inr at ↦ synced left at ]
+
+  never-opens : (Same : Type 0) → Same → DoesNotOpen see exit t old new → NeverOpens see exit Same start t old new
   never-opens Same same d = record {
     cut = cut-exit exit d.cut;
     unread = same;
-    always = λ left may. elim (d.stops.each (see old).clock.now left (omega arith) may) [ inl was ↦ inl was | inr opening ↦ opening_at account t (see old).clock left recovers opening ];
+    syncs = elim d.syncs [ inl synced ↦ inl (synced-start new synced) | inr failed ↦ inr failed ];
   }
 
   pub run-settled : (Same : Type 0) (left : Option (List ℕ)) → Comes see Same start script exit t left old new
-      → Settles see start script t old new ⊎ NeverOpens exit Same start t.here (see old).clock (see new).clock
+      → Settles see start script t old new ⊎ NeverOpens see exit Same start t old new
   run-settled Same left comes = by comes.does comes.reads
     where
       by : DoesRun see start script exit t old new → Same ⊎ (Opens see start script exit t old new × EndsAhead (exit ≡ SourceFault) start script (lines_from start t.here.out) left (see new).told)
-          → Settles see start script t old new ⊎ NeverOpens exit Same start t.here (see old).clock (see new).clock
+          → Settles see start script t old new ⊎ NeverOpens see exit Same start t old new
       by (inl d) (inl same) = inr (never-opens Same same d)
       by (inl d) (inr read) = inl (run-settles read.0)
       by (inr d) reads = inl (run-settles d)

@@ -10,7 +10,9 @@ use Rattle.board_core.specs.Told.{Told}
 use Rattle.board_core.proofs.DoingLemmas.{after-append, moment_parts}
 use Rattle.ras_base.specs.Places.{places, places_behind}
 use Rattle.ras_journal.specs.Recovered.{HasFewLinks}
-use Rattle.ras_recover.specs.Opening.{Opening}
+use Rattle.ras_recover.specs.DiskCalls.{with_calls}
+use Rattle.ras_recover.specs.Opening.{Opening, OpeningSynced}
+use Rattle.ras_recover.specs.Recovering.{both_syncs}
 use Rattle.ras_recover.proofs.OpeningFewLemmas.{opened_few}
 use Rattle.ras_events.specs.Reports.{NumberedLine, event_at}
 use Rattle.ras_exit.specs.Endings.{CallEnding, answered, ending_of, faulted}
@@ -141,6 +143,10 @@ opening_few : (clock : Clock) (here left : Left) → Opening clock here left →
 opening_few clock here left (inl now) = inl now
 opening_few clock here left (inr formats) = inr formats.few
 
+synced_few : (here left : Left) → HasFewLinks here → OpeningSynced here left → HasFewLinks left
+synced_few here left few (inl same) = subst HasFewLinks (sym same) few
+synced_few here left few (inr formats) = formats.few
+
 opened_since : (a b : Clock) (here : Left) → Adds (Opening a here) a b → Always b a.now (FewSince a)
 opened_since a b here adds left may = elim (adds.each a.now left (omega arith) may) [ inl was ↦ inl was | inr opening ↦ opening_few a here left opening ]
 
@@ -148,11 +154,15 @@ module _ {X : Type 0} (see : X → Seen) (start : Start) (script : List ℕ) (ex
   taken_few : (d : Opens see start script exit t old new) → Adds HasFewLinks (see d.mid).clock (see new).clock
   taken_few d = takes_few_links see start script d.there exit d.mid new d.rests d.holds (opened_few t d.there few d.makes) d.takes
 
-  -- from the moment on at which the journal was opened
-  pub opened-few : (d : Opens see start script exit t old new) → Always (see new).clock (see d.mid).clock.now HasFewLinks
+  -- from the moment on at which both files were synced
+  pub opened-few : (d : Opens see start script exit t old new) → Always (see new).clock (see d.syncs.synced).clock.now HasFewLinks
   opened-few d =
-      always_goes_on HasFewLinks (see d.mid).clock.now (see d.mid).clock (see new).clock
-      (always_at_rest HasFewLinks d.there (see d.mid).told (see d.mid).clock d.rests (opened_few t d.there few d.makes)) (omega arith) (taken_few d)
+      let synced = (see d.syncs.synced).clock in
+      always_goes_on HasFewLinks synced.now (see d.mid).clock (see new).clock
+      (always_goes_on HasFewLinks synced.now synced (see d.mid).clock
+      (always_at_rest HasFewLinks (with_calls both_syncs t) (see d.syncs.synced).told synced d.syncs.rests few) (omega arith)
+      (adds_weaker (OpeningSynced t.here) HasFewLinks synced (see d.mid).clock d.syncs.since (λ left opening. synced_few t.here left few opening)))
+      d.syncs.since.later (taken_few d)
 
   pub run-few : DoesRun see start script exit t old new → Always (see new).clock (see old).clock.now (FewSince (see old).clock)
   run-few (inl d) = opened_since (see old).clock (see new).clock t.here d.stops

@@ -21,10 +21,11 @@ use Rattle.ras_journal.specs.Recovered.{Recovers, Refusal, damaged, recovered, t
 use Rattle.ras_journal.specs.Appending.{Before}
 use Rattle.ras_run.specs.declared.ledger.Ledger.{Ledger}
 use Rattle.ras_recover.specs.DiskCalls.{IsBeginning, IsReading, Makes}
-use Rattle.ras_recover.specs.Opening.{Opening, standing_opened}
+use Rattle.ras_recover.specs.Opening.{FormatsFirst, Opening, OpeningSynced, standing_opened}
 use Rattle.ras_recover.specs.OpeningActs.{LeavesUnopened}
 use Rattle.ras_recover.specs.OpeningCalls.{AfterOpening, AfterRecovery, IsRecovery, MakesOpening}
-use Rattle.ras_recover.specs.Recovering.{RestsHere, file_number}
+use Rattle.ras_recover.specs.Recovering.{MaySync, RestsHere, SyncsFirst, both_syncs, file_number}
+use Rattle.ras_recover.proofs.CallsLemmas.{nothing_called}
 use Rattle.ras_recover.proofs.OpeningCallsLemmas.{refused_keeps, refused_recovers, told_opened}
 use Rattle.ras_exit.specs.declared.exit.Exit.{Exit}
 use Rattle.ras_exit.specs.declared.exit.Exit.TheVariants.{Damaged, DiskFault, NoMemory, SourceFault, TooLong}
@@ -94,12 +95,21 @@ told_both P told new t u one two relates = subst (λ n. Relates P (Some t) n) tw
 
 -- ---- what stops leave
 
+-- while file 0 is formatted
+formatting_at : (account : State) (t : Told) (left : Left) → Recovers account t.here → FormatsFirst t.here left → AtOpening (start_of account t) t.here.out left
+formatting_at account t left recovers formats =
+    let same : account ≡ account_of empty = ok_same account (account_of empty) (sym recovers.is ∙ formats.none.recovers) in
+    record { recovers = rw same formats.recovers; store = ap (λ (l : Left). l.store) formats.rest; text = ap (λ (l : Left). l.out) formats.rest }
+
+-- while the journal is opened, once both files are synced
+pub synced_at : (account : State) (t : Told) (left : Left) → Recovers account t.here → OpeningSynced t.here left → AtOpening (start_of account t) t.here.out left
+synced_at account t left recovers (inl same) = record { recovers = subst (Recovers account) (sym same) recovers; store = ap (λ (l : Left). l.store) same; text = ap (λ (l : Left). l.out) same }
+synced_at account t left recovers (inr formats) = formatting_at account t left recovers formats
+
 -- while the journal is opened
 pub opening_at : (account : State) (t : Told) (a : Clock) (left : Left) → Recovers account t.here → Opening a t.here left → LeftNow a left ⊎ AtOpening (start_of account t) t.here.out left
 opening_at account t a left recovers (inl now) = inl now
-opening_at account t a left recovers (inr formats) =
-    let same : account ≡ account_of empty = ok_same account (account_of empty) (sym recovers.is ∙ formats.none.recovers) in
-    inr (record { recovers = rw same formats.recovers; store = ap (λ (l : Left). l.store) formats.rest; text = ap (λ (l : Left). l.out) formats.rest })
+opening_at account t a left recovers (inr formats) = inr (formatting_at account t left recovers formats)
 
 pub opening_moments : (account : State) (script : List ℕ) (t : Told) (a b : Clock) → Recovers account t.here → Adds (Opening a t.here) a b
     → Adds (RunMoment a (start_of account t) script t.here) a b
@@ -369,13 +379,13 @@ starved_refused Same (Some t) clock same = refuses_whole NoMemory Same clock clo
 pub none_called : {X : Type 0} (see : X → Seen) (start : Start) (script : List ℕ) (t : Told) (x : X) → (see x).told ≡ Some t → DoesRun see start script NoMemory t x x
 none_called see start script t x is =
     let opened : AfterOpening t t = told_opened (Some t) (Some t) (recovery_none t) in
-    inl (record { cut = tt; told = rw is opened; unopened = rw is (inl (recovery_none t)); stops = adds_none (Opening (see x).clock t.here) (see x).clock })
+    inl (record { cut = tt; told = rw is opened; unopened = rw is (inl (recovery_none t)); stops = adds_none (Opening (see x).clock t.here) (see x).clock; syncs = inr (record { calls = rw is (nothing_called (λ made. IsPrefixOf made both_syncs) (both_syncs, refl) t); stops = adds_none (LeftNow (see x).clock) (see x).clock }) })
 
 -- the journal wasn't opened
 pub not_opened : {X : Type 0} (see : X → Seen) (account : State) (script : List ℕ) (exit result : Exit) (line : List ℕ) (t : Told) (a b new : X) → (see a).told ≡ Some t → Recovers account t.here
     → IfSome (see a).told (λ u. OpensLedger (Err exit) (recovered u.here.file0 u.here.file1)) → Relates AfterOpening (see a).told (see b).told
-    → Relates (LeavesUnopened (exit ≡ DiskFault)) (see a).told (see b).told → Adds (Opening (see a).clock t.here) (see a).clock (see b).clock → Ends see exit result line b new → DoesRun see (start_of account t) script result t a new
-not_opened see account script exit result line t a b new is recovers opens after unopened stops ends = by ends
+    → Relates (LeavesUnopened (exit ≡ DiskFault)) (see a).told (see b).told → Adds (Opening (see a).clock t.here) (see a).clock (see b).clock → MaySync see (OpeningSynced t.here) t a b → Ends see exit result line b new → DoesRun see (start_of account t) script result t a new
+not_opened see account script exit result line t a b new is recovers opens after unopened stops syncs ends = by ends
   where
     cut : IsCutOpening exit
     cut = cut_opening exit account (recovered t.here.file0 t.here.file1) recovers.is (if_told (λ u. OpensLedger (Err exit) (recovered u.here.file0 u.here.file1)) (see a).told t is opens)
@@ -385,7 +395,7 @@ not_opened see account script exit result line t a b new is recovers opens after
 
     by : Ends see exit result line b new → DoesRun see (start_of account t) script result t a new
     by (inl said) = absurd (not_both exit (cut_is exit cut) said.0)
-    by (inr ended) = rw (ended.1, ended.2) (inl (record { cut = cut; told = some AfterOpening after; unopened = some (LeavesUnopened (exit ≡ DiskFault)) unopened; stops = stops }))
+    by (inr ended) = rw (ended.1, ended.2) (inl (record { cut = cut; told = some AfterOpening after; unopened = some (LeavesUnopened (exit ≡ DiskFault)) unopened; stops = stops; syncs = syncs }))
 
 -- it was opened
 pub ledger_holds : (start : Start) (ledger : Ledger) (u : Told) (told : Option Told) (clock : Clock) → IsStart start ledger u → IsAccount ledger.account.state → Before ledger.journal.standing ledger.account.state u told clock → HoldsAfter start [] u
@@ -397,9 +407,9 @@ ledger_holds start ledger u told clock begins account before = record {
 
 pub was_opened : {X : Type 0} (see : X → Seen) (start : Start) (script : List ℕ) (exit : Exit) (ledger : Ledger) (t : Told) (a b new : X) → (is : (see a).told ≡ Some t)
     → (after : Relates AfterOpening (see a).told (see b).told) → IsStart start ledger (told_on AfterOpening (see a).told (see b).told t is after).0 → IsAccount ledger.account.state
-    → Relates MakesOpening (see a).told (see b).told → Adds (Opening (see a).clock t.here) (see a).clock (see b).clock → IsReady ledger (see b).told (see b).clock
+    → Relates MakesOpening (see a).told (see b).told → Adds (Opening (see a).clock t.here) (see a).clock (see b).clock → SyncsFirst see (OpeningSynced t.here) t a b → IsReady ledger (see b).told (see b).clock
     → TakesScript see start script (told_on AfterOpening (see a).told (see b).told t is after).0 exit b new → OpensRun see start script exit t a new
-was_opened see start script exit ledger t a b new is after begins account makes stops ready takes =
+was_opened see start script exit ledger t a b new is after begins account makes stops syncs ready takes =
     let found = told_on AfterOpening (see a).told (see b).told t is after in
     let before = before_at ledger.journal.standing ledger.account.state (see b).told (see b).clock found.0 ready.stands found.1 in
     record {
@@ -408,6 +418,7 @@ was_opened see start script exit ledger t a b new is after begins account makes 
       makes = told_both MakesOpening (see a).told (see b).told t found.0 is found.1 makes;
       text = found.2.text;
       stops = stops;
+      syncs = syncs;
       rests = before.rests;
       holds = ledger_holds start ledger found.0 (see b).told (see b).clock begins account before;
       takes = takes;

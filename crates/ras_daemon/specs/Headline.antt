@@ -13,6 +13,7 @@ use Rattle.ras_account.specs.Continued.{account_after_all}
 use Rattle.ras_facts.specs.declared.entry.Entry.{Entry}
 use Rattle.ras_journal.specs.Recovered.{HasFewLinks, Recovers}
 use Rattle.ras_recover.specs.OpeningActs.{AreOpeningActs}
+use Rattle.ras_recover.specs.Recovering.{MaySync, SyncsFirst}
 use Rattle.ras_events.specs.Reports.{NumberedLine, Place, entries_at}
 use Rattle.ras_events.specs.Stores.{laid}
 use Rattle.ras_events.specs.DoneLines.{done_count}
@@ -80,19 +81,20 @@ pub record IsWhole (run : Run) (exit : Exit) (before now : Told) : Type 0 where
   pub recovers : Recovers (account_upto run done) now.here
   pub store : now.here.store ≡ store_at_end exit (change_next run done) (store_upto run done)
 
--- what a crash leaves while the journal is opened: the files give the account at the start, and store and
--- text are as they were
+-- what a crash leaves while the journal is opened and both files are synced: the files give the account at
+-- the start, and store and text are as they were
 pub record AtOpening (start : Start) (out : List ℕ) (left : Left) : Type 0 where
   pub recovers : Recovers start.account left
   pub store : left.store ≡ start.store
   pub text : left.out ≡ out
 
--- The journal was never open: a disk call failed, or memory ran out. The source is left alone, and a crash
--- leaves what a crash at the start may have left, or what a crash leaves while the journal is opened.
-pub record NeverOpens (exit : Exit) (Same : Type 0) (start : Start) (here : Left) (old new : Clock) : Type 0 where
+-- The journal was never open, over what the model said at the start: a disk call failed, or memory ran out.
+-- The source is left alone. A crash leaves what a crash at the start may have left, or, once both syncs of the
+-- opening had returned Ok, the account at the start.
+pub record NeverOpens {X : Type 0} (see : X → Seen) (exit : Exit) (Same : Type 0) (start : Start) (t : Told) (old new : X) : Type 0 where
   pub cut : (exit ≡ DiskFault) ⊎ (exit ≡ NoMemory)
   pub unread : Same
-  pub always : Always new old.now (λ left. LeftNow old left ⊎ AtOpening start here.out left)
+  pub syncs : MaySync see (AtOpening start t.here.out) t old new
 
 -- The journal's opening has just ended, over what the model said before it: both files are synced. Exactly
 -- the acts of an opening are done, and a crash leaves exactly what the model says.
@@ -101,18 +103,18 @@ pub record IsJustOpen (before : Told) (told : Option Told) (clock : Clock) : Typ
   pub are : AreOpeningActs before.here acts
   pub rests : Rests (after_acts acts before) told clock
 
--- A run opened its journal, over what the model said at its start. A crash before the opening ended leaves
--- what a crash at the start may have left, or what a crash leaves while the journal is opened. From then on
--- the headline holds, whatever a crash at the start may leave. From then on, too, no file has more than 256
--- links, if none had at the start.
+-- A run opened its journal, over what the model said at its start. Until both syncs of the opening had returned
+-- Ok, a crash leaves what a crash at the start may have left. From then on the headline holds, whatever a crash
+-- at the start may leave; until the journal was open it is the account at the start. From then on, too, no file
+-- has more than 256 links, if none had at the start.
 pub record Settles {X : Type 0} (see : X → Seen) (start : Start) (script : List ℕ) (t : Told) (old new : X) : Type 0 where
-  -- the board when the journal was open
+  -- the board when the journal was open, and `syncs.synced` when both syncs had returned Ok
   pub opened : X
+  pub syncs : SyncsFirst see (AtOpening start t.here.out) t old opened
   pub just : IsJustOpen t (see opened).told (see opened).clock
-  pub before : Adds (λ left. LeftNow (see old).clock left ⊎ AtOpening start t.here.out left) (see old).clock (see opened).clock
   pub behind : Adds (Headline (run_of start script) t.here) (see opened).clock (see new).clock
-  pub from : Always (see new).clock (see opened).clock.now (Headline (run_of start script) t.here)
-  pub few : HasFewLinks t.here → Always (see new).clock (see opened).clock.now HasFewLinks
+  pub from : Always (see new).clock (see syncs.synced).clock.now (Headline (run_of start script) t.here)
+  pub few : HasFewLinks t.here → Always (see new).clock (see syncs.synced).clock.now HasFewLinks
 
 -- a crash left the account at the start of a run, and its record store
 pub record GivesStart (start : Start) (left : Left) : Type 0 where

@@ -75,12 +75,9 @@ pub record RunStops {X : Type 0} (see : X → Seen) (exit : Exit) (Same : Type 0
   -- was printed. Of the record store it leaves what these events left, or a state while the next event
   -- changes it.
   pub once : StopsRecover start (see old).clock → Always (see new).clock (see old).clock.now (Headline (run_of start script) t.here)
-  -- Without that premise, this holds from the point at which the journal was open. If it never was, the
-  -- source is left alone, and a crash leaves what a crash at the start may have left, or the account at the
-  -- start.
-  pub settled :
-      Settles see start script t old new
-      ⊎ NeverOpens exit Same start t.here (see old).clock (see new).clock
+  -- Without that premise, this holds from the point at which both syncs of the journal's opening had returned
+  -- Ok. If the journal was never open, the source is left alone.
+  pub settled : Settles see start script t old new ⊎ NeverOpens see exit Same start t old new
   -- If no file at the start has more than 256 links, neither has any file that a crash leaves, except for
   -- what a crash at the start may have left.
   pub few : HasFewLinks t.here → Always (see new).clock (see old).clock.now (λ left. LeftNow (see old).clock left ⊎ HasFewLinks left)

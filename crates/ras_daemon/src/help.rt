@@ -1,7 +1,11 @@
 //! The program's own help and version.
 
-ghost use Rattle.std.specs.Prelude.{◌≡◌};
-ghost use Rattle.ras_daemon.specs.Help.{help_text, version_line};
+ghost use Rattle.std.specs.Prelude.{◌≡◌, []};
+ghost use Rattle.ras_daemon.specs.Help.{HasOneLine, exit_words, form_of, help_text};
+ghost use Rattle.ras_daemon.specs.Help.{status_column, version_line};
+ghost use Rattle.ras_daemon.specs.declared.word.Task.{Task};
+ghost use Rattle.ras_exit.specs.ExitStatus.{exit_number};
+ghost use Rattle.ras_exit.specs.declared.exit.Exit.{Exit};
 
 /// The text of `--help`: the commands, where the account is, and the statuses, one line each.
 pub const HELP: &[u8] = b"\
@@ -60,3 +64,13 @@ pub fn version_line() -> &'static [u8]
 {
     b"rasd 0.1.0\n"
 }
+
+/// What holds of the text of `--help`.
+pub fn help_laws()
+    // Each command has one line, which begins with how the command is written.
+    ensures commands { (task : Task) → HasOneLine (form_of task) [] }
+
+    // Each status has one line, with the words for the exit that has this status.
+    ensures statuses { (exit : Exit) → HasOneLine (status_column (exit_number exit))
+        (exit_words exit) }
+{}

@@ -15,6 +15,7 @@ mod running;
 mod word;
 
 pub use daemon::{promise_laws, rasd};
+pub use help::help_laws;
 pub use laws::{feeding_laws, outside_laws, run_laws};
 pub use listing_texts::Listing;
 pub use load::loading_laws;

@@ -1,5 +1,6 @@
 pub mod FormattingLemmas
 pub mod SwitchingLemmas
+pub mod SyncsLemmas
 pub mod FewLemmas
 pub mod ReadingLemmas
 pub mod PairLemmas

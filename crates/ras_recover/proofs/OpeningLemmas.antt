@@ -243,6 +243,9 @@ module _ {X : Type 0} (see : X → Seen) (account : State) (one two : Bool) (old
       (adds_weaker (FormatsFirst r.there.here) (Opening (see old).clock t.here) (see a).clock (see b).clock (adds ended can does)
       (λ left f. inr (subst (λ (l : Left). FormatsFirst l left) r.same f)))
 
+  pub opening_formats : (ended : Ended) → (IsMade ended → IsCheckpoint Two account (checkpoint_bytes Two account)) → Does see (first_acts one account) ended a b → Adds (FormatsFirst t.here) (see a).clock (see b).clock
+  opening_formats ended can does = subst (λ (l : Left). Adds (FormatsFirst l) (see a).clock (see b).clock) r.same (adds ended can does)
+
   pub opening_opens : IsCheckpoint Two account (checkpoint_bytes Two account) → GoesWell (first_acts one account) (see a) (see b) → IsOpened (standing_begun account two) account (see b).told (see b).clock
   opening_opens is does = first_opened account one two r.there (see b).told (see b).clock there_none is there_shut.0 there_shut.1 (does.rests r.there r.rests)
 

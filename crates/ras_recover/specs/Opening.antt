@@ -39,6 +39,10 @@ OnRefusal why P = ⊤
 abbrev pub Opening : Clock → Left → Left → Type 0
 Opening clock here left = LeftNow clock left ⊎ FormatsFirst here left
 
+-- Once both files are synced, it leaves everything as it was, or file 0 is being formatted.
+abbrev pub OpeningSynced : Left → Left → Type 0
+OpeningSynced here left = (left ≡ here) ⊎ FormatsFirst here left
+
 -- the files give this account at this position, and a crash leaves exactly what the model says
 pub record IsOpened (standing : Standing) (account : State) (told : Option Told) (clock : Clock) : Type 0 where
   pub there : Told

@@ -1,14 +1,18 @@
 -- What recovery returns, and what it leaves of the files.
-use Rattle.std.specs.Prelude.{◌≡◌, ℕ, Option, Result, Ok, Err}
+use Rattle.std.specs.Prelude.{◌≡◌, ℕ, ◌⊎◌, List, [], ◌∷◌, IsSomeAnd, Option, Result, Ok, Err}
 use Rattle.std.specs.Option.{option_map}
 use Rattle.board_core.specs.declared.board.FileNo.{FileNo}
 use Rattle.board_core.specs.declared.board.FileNo.TheVariants.{Zero, One}
+use Rattle.board_core.specs.declared.board.DiskCall.{DiskCall}
+use Rattle.board_core.specs.declared.board.DiskCall.TheVariants.{Sync}
 use Rattle.board_core.specs.Clock.{Clock, LeftNow, Adds, Rests}
 use Rattle.board_core.specs.Cause.{disk_call}
-use Rattle.board_core.specs.Doing.{Ended, broke, ended_by, gave_up}
+use Rattle.board_core.specs.Doing.{Ended, Seen, broke, ended_by, gave_up}
 use Rattle.board_core.specs.Stop.{Left}
 use Rattle.board_core.specs.Told.{Told}
 use Rattle.ras_journal.specs.Recovered.{Refusal, too_long, damaged}
+use Rattle.ras_base.specs.Prefix.{IsPrefixOf}
+use Rattle.ras_recover.specs.DiskCalls.{Calls, with_calls}
 use Rattle.ras_recover.specs.declared.refused.OpenRefused.{OpenRefused}
 use Rattle.ras_recover.specs.declared.refused.OpenRefused.TheVariants.{Disk, TooLong, Damaged, NoMemory}
 
@@ -49,6 +53,32 @@ pub record RestsHere (here : Left) (told : Option Told) (clock : Clock) : Type 0
   pub there : Told
   pub same : there.here ≡ here
   pub rests : Rests there told clock
+
+abbrev pub both_syncs : List DiskCall
+both_syncs = Sync Zero ∷ Sync One ∷ []
+
+-- Both files were synced before any other call, over what the model said. Until both syncs had returned Ok, a
+-- crash leaves what a crash before may have left. Then it leaves exactly what the model says, and afterwards
+-- what has this property.
+pub record SyncsFirst {X : Type 0} (see : X → Seen) (P : Left → Type 0) (before : Told) (old new : X) : Type 0 where
+  -- the board when both syncs had returned Ok
+  pub synced : X
+  pub rests : Rests (with_calls both_syncs before) (see synced).told (see synced).clock
+  pub until : Adds (LeftNow (see old).clock) (see old).clock (see synced).clock
+  pub since : Adds P (see synced).clock (see new).clock
+
+-- At most the two syncs were called, and a crash leaves what a crash before may have left.
+pub record SyncsAtMost {X : Type 0} (see : X → Seen) (before : Told) (old new : X) : Type 0 where
+  pub calls : IsSomeAnd (see new).told (Calls (λ made. IsPrefixOf made both_syncs) before)
+  pub stops : Adds (LeftNow (see old).clock) (see old).clock (see new).clock
+
+abbrev pub MaySync : {X : Type 0} → (X → Seen) → (Left → Type 0) → Told → X → X → Type 0
+MaySync see P before old new = SyncsFirst see P before old new ⊎ SyncsAtMost see before old new
+
+-- After Ok, both files were synced first. Otherwise they were, or at most the syncs were called.
+abbrev pub SyncsBy : {X T E : Type 0} → (X → Seen) → (Left → Type 0) → Told → Result T E → X → X → Type 0
+SyncsBy see P before (Ok x) old new = SyncsFirst see P before old new
+SyncsBy see P before (Err why) old new = MaySync see P before old new
 
 -- what holds if no disk call failed
 abbrev pub UnlessDisk : {T : Type 0} → Result T OpenRefused → Type 0 → Type 0

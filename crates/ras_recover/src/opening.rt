@@ -11,9 +11,9 @@ ghost use Rattle.ras_account.specs.Account.{State};
 ghost use Rattle.ras_account.specs.View.{nothing};
 ghost use Rattle.ras_journal.specs.Recovered.{Refusal, recovered, is_shut};
 ghost use Rattle.ras_recover.specs.Formatting.{behind_gate, formatting_acts};
-ghost use Rattle.ras_recover.specs.Recovering.{RefusesHeld, RestsHere, TellsHeld, open_end, open_failure};
+ghost use Rattle.ras_recover.specs.Recovering.{RefusesHeld, RestsHere, SyncsBy, TellsHeld, open_end, open_failure};
 ghost use Rattle.ras_recover.specs.Steps.Looking.{standing_begun};
-ghost use Rattle.ras_recover.specs.Opening.{Opening, IsOpened, OnRefusal, standing_opened};
+ghost use Rattle.ras_recover.specs.Opening.{Opening, OpeningSynced, IsOpened, OnRefusal, standing_opened};
 ghost use Rattle.ras_recover.specs.OpeningActs.{DoesOpening};
 
 use crate::formatting::{format_file, next_bytes};
@@ -82,6 +82,10 @@ pub fn open_journal<B: Board>(
     ensures stops { (t : Told) → (B.seen board.old).told ≡ Some t
         → Adds (Opening (B.seen board.old).clock t.here) (B.seen board.old).clock
         (B.seen board.new).clock }
+    // Both files are synced first. From then on a crash leaves exactly what the board's model said
+    // of the files, the store and the text, or gives the empty account if no file is valid.
+    ensures syncs { (t : Told) → (B.seen board.old).told ≡ Some t
+        → SyncsBy B.seen (OpeningSynced t.here) t result board.old board.new }
     ensures opened { IfOk result (λ r. (t : Told) → (B.seen board.old).told ≡ Some t
         → IsOpened r.1.standing r.0.state (B.seen board.new).told (B.seen board.new).clock) }
     // If the files are refused, a crash afterwards leaves exactly what the board's model said of

@@ -2,6 +2,7 @@
 ghost use Rattle.std.specs.Prelude.{◌≡◌, ◌<◌, ◌≤◌, length, None, Some, Ok, Err, IfSome, IfOk, OnOk};
 ghost use Rattle.board_core.specs.Cause.{disk_call, FailsAs};
 ghost use Rattle.board_core.specs.Doing.{one_end};
+ghost use Rattle.board_core.specs.Stop.{Same};
 ghost use Rattle.board_core.specs.Told.{Told, Relates, file_of};
 ghost use Rattle.ras_account.specs.View.{nothing};
 ghost use Rattle.ras_journal.specs.declared.limits.TheConstants.{LONGEST_FILE};
@@ -10,7 +11,7 @@ ghost use Rattle.ras_recover.specs.DiskCalls.{Calls};
 ghost use Rattle.ras_recover.specs.Steps.Looking.{AreSyncs, Looks};
 ghost use Rattle.ras_recover.specs.OpeningCalls.{AfterRecovery, IsRecoveryOf, ReadsBoth};
 ghost use Rattle.ras_recover.specs.Steps.Pair.{DoesRecovery};
-ghost use Rattle.ras_recover.specs.Recovering.{TellsHeld, KeepsTold, RestsHere, UnlessDisk, open_end, open_failure};
+ghost use Rattle.ras_recover.specs.Recovering.{TellsHeld, KeepsTold, RestsHere, SyncsBy, UnlessDisk, open_end, open_failure};
 
 use crate::pair::{read_both, recovered_of};
 use crate::{OpenRefused, Recovered};
@@ -108,6 +109,8 @@ pub(crate) fn recover_files<B: Board>(
         (B.seen board.new).told (B.seen board.new).clock }
     ensures rests { UnlessDisk result ((t : Told) → (B.seen board.old).told ≡ Some t
         → RestsHere t.here (B.seen board.new).told (B.seen board.new).clock) }
+    ensures syncs { (t : Told) → (B.seen board.old).told ≡ Some t
+        → SyncsBy B.seen (Same t.here) t result board.old board.new }
     ensures does { DoesRecovery result (B.seen board.old).told (B.seen board.new).told }
     ensures cause { FailsAs disk_call (B.seen board.old).faults (B.seen board.new).faults (open_failure result) }
 {

@@ -4,9 +4,9 @@ ghost use Rattle.std.specs.Prelude.{◌≡◌, IfErr, Some};
 ghost use Rattle.board_core.specs.Clock.{Adds};
 ghost use Rattle.board_core.specs.Doing.{Does};
 ghost use Rattle.board_core.specs.Told.{Told};
-ghost use Rattle.ras_recover.specs.Opening.{Opening};
+ghost use Rattle.ras_recover.specs.Opening.{Opening, OpeningSynced};
 ghost use Rattle.ras_recover.specs.OpeningActs.{DoesOpening};
-ghost use Rattle.ras_recover.specs.Recovering.{RestsHere};
+ghost use Rattle.ras_recover.specs.Recovering.{RestsHere, SyncsBy};
 ghost use Rattle.ras_texts.specs.Orders.{standing_lines};
 ghost use Rattle.ras_exit.specs.Acts.{part_end, print_acts};
 ghost use Rattle.ras_exit.specs.Endings.{OnAnswer};
@@ -34,6 +34,10 @@ pub fn open<B: Board>(alloc: Global, board: &mut B) -> Result<Ledger, Exit>
     ensures stops { (t : Told) → (B.seen board.old).told ≡ Some t
         → Adds (Opening (B.seen board.old).clock t.here) (B.seen board.old).clock
         (B.seen board.new).clock }
+    // Both files are synced first. From then on a stop leaves what the board told of the files, the
+    // store and the text, or gives the empty account if no file stands.
+    ensures syncs { (t : Told) → (B.seen board.old).told ≡ Some t
+        → SyncsBy B.seen (OpeningSynced t.here) t result board.old board.new }
     // If the files are refused, a stop then leaves just what the board told of them, the store and
     // the text.
     ensures refused { IfErr result

@@ -5,9 +5,10 @@ use Rattle.board_core.specs.Clock.{Adds, Rests}
 use Rattle.board_core.specs.Doing.{Act, Breaks, GoesWell, Seen, after_acts}
 use Rattle.board_core.specs.Told.{Told}
 use Rattle.ras_base.specs.Places.{places}
-use Rattle.ras_recover.specs.Opening.{Opening}
+use Rattle.ras_recover.specs.Opening.{Opening, OpeningSynced}
 use Rattle.ras_recover.specs.OpeningActs.{LeavesUnopened}
 use Rattle.ras_recover.specs.OpeningCalls.{AfterOpening, MakesOpening}
+use Rattle.ras_recover.specs.Recovering.{MaySync, SyncsFirst}
 use Rattle.ras_events.specs.Reports.{NumberedLine, event_at}
 use Rattle.ras_exit.specs.Acts.{AreStill, ended_with, print_acts}
 use Rattle.ras_exit.specs.Causes.{BoardCause, Causes, SourceCause}
@@ -158,6 +159,7 @@ pub record DoesNotOpen {X : Type 0} (see : X → Seen) (exit : Exit) (t : Told) 
   pub told : IsSomeAnd (see new).told (AfterOpening t)
   pub unopened : IsSomeAnd (see new).told (LeavesUnopened (exit ≡ DiskFault) t)
   pub stops : Adds (Opening (see old).clock t.here) (see old).clock (see new).clock
+  pub syncs : MaySync see (OpeningSynced t.here) t old new
 
 -- It was opened, and then the script was taken.
 pub record Opens {X : Type 0} (see : X → Seen) (start : Start) (script : List ℕ) (exit : Exit) (t : Told) (old new : X) : Type 0 where
@@ -166,6 +168,7 @@ pub record Opens {X : Type 0} (see : X → Seen) (start : Start) (script : List 
   pub makes : MakesOpening t there
   pub text : there.here.out ≡ t.here.out
   pub stops : Adds (Opening (see old).clock t.here) (see old).clock (see mid).clock
+  pub syncs : SyncsFirst see (OpeningSynced t.here) t old mid
   pub rests : Rests there (see mid).told (see mid).clock
   pub holds : HoldsAfter start [] there
   pub takes : TakesScript see start script there exit mid new

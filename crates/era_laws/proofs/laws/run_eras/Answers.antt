@@ -1,5 +1,5 @@
 use Rattle.std.proofs.Common.{◌≡◌}
-use Rattle.era_laws.proofs.RunEraLemmas.{era-ended, era-settled, era-stopped, era-went-on, stops-recover}
+use Rattle.era_laws.proofs.RunEraLemmas.{era-ended, era-settled, era-stopped, era-synced, era-went-on, stops-recover}
 use Rattle.era_laws.proofs.laws.run_eras.Goals as goal
 
 pub returns-clause-begins : goal.returns-clause-begins
@@ -17,6 +17,10 @@ returns-clause-ended g c = λ exit first last old new account t now script opens
 pub returns-clause-settled : goal.returns-clause-settled
 returns-clause-settled g c = λ old new account t script left opens settles may.
     era-settled g.B.Board.seen old new account t script opens left settles may
+
+pub returns-clause-never_open : goal.returns-clause-never_open
+returns-clause-never_open g c = λ old new account t script left opens syncs may.
+    era-synced g.B.Board.seen old new account t script opens left new syncs may
 
 pub returns-clause-went_on : goal.returns-clause-went_on
 returns-clause-went_on g c = λ exit first last old new account t script left opens stops may.

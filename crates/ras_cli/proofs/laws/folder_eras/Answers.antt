@@ -4,7 +4,7 @@ use Rattle.era_laws.specs.Eras.{reported_in}
 use Rattle.host_system.specs.Steps.LawLemmas.{may_begin}
 use Rattle.host_system.specs.View.{seen_as}
 use Rattle.ras_account.specs.Continued.{account_after_all}
-use Rattle.ras_cli.proofs.FolderLemmas.{ended, eras, left_last, rests, stopped, went_on}
+use Rattle.ras_cli.proofs.FolderLemmas.{ended, eras, left_last, rests, settled, stopped, went_on}
 use Rattle.ras_cli.proofs.laws.folder_eras.Goals as goal
 use Rattle.ras_cli.specs.FolderEras.{eras_over}
 use Rattle.ras_journal.specs.Recovered.{Recovers}
@@ -17,6 +17,9 @@ returns-clause-stopped c = λ account script past now left opens recover outlive
 
 pub returns-clause-ended : goal.returns-clause-ended
 returns-clause-ended c = λ account script past now opens recover outlives. ended account script past now opens recover outlives
+
+pub returns-clause-settled : goal.returns-clause-settled
+returns-clause-settled c = λ account script past now left opens opened may. settled account script past now opens opened left may
 
 pub returns-clause-went_on : goal.returns-clause-went_on
 returns-clause-went_on c = λ exit account script past now left opens settles may. went_on account script past now opens exit settles left may

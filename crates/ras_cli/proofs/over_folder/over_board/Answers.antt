@@ -1,6 +1,5 @@
-use Rattle.std.proofs.Common.{◌∙◌, refl, sym}
-use Rattle.std.specs.Prelude.{◌⊎◌, IfSome, IsSomeAnd}
-use Rattle.host_system.specs.StoreFile.{SparesNoStore}
+use Rattle.std.proofs.Common.{◌∙◌, sym}
+use Rattle.std.specs.Prelude.{◌⊎◌, IsSomeAnd}
 use Rattle.ras_cli.specs.OverFolder.{Ends, NeverOpened, Outlives, OutlivesOpened}
 use Rattle.ras_cli.proofs.CauseLemmas.{over_caused, over_reads}
 use Rattle.ras_cli.proofs.OverLemmas.{Begun, begun_kept, over_folder, headline, settles, ends, refused, reports, commands}

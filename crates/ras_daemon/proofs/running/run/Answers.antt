@@ -38,7 +38,7 @@ returns-in-Ok-open-clause-comes g c =
     let comes = c.take_script.ensures.comes start script u.0 begins left u.1 in
     opened_comes see (c.take_script.new.source ≡ c.args.source.now) start script c.take_script.result t u.0 (g.S.Source.left c.take_script.new.source) c.args.board.now c.open.new.board c.take_script.new.board u.2.text
     (was_opened see start script c.take_script.result ledger t c.args.board.now c.open.new.board c.take_script.new.board is
-    c.in-Ok-open.ensures.does.told begins c.in-Ok-open.ensures.opens.account c.in-Ok-open.ensures.does.whole (c.in-Ok-open.ensures.stops t is) c.in-Ok-open.ensures.opens.ready comes.does) comes))
+    c.in-Ok-open.ensures.does.told begins c.in-Ok-open.ensures.opens.account c.in-Ok-open.ensures.does.whole (c.in-Ok-open.ensures.stops t is) (c.in-Ok-open.ensures.syncs t is) c.in-Ok-open.ensures.opens.ready comes.does) comes))
 
 pub returns-in-Ok-open-clause-refused : goal.returns-in-Ok-open-clause-refused
 returns-in-Ok-open-clause-refused g c =
@@ -57,7 +57,7 @@ returns-clause-comes g c =
     over_run (λ start script told. Comes see (c.args.source.now ≡ c.args.source.now) start script c.end_run-in-Err-open.result told (g.S.Source.left c.args.source.now) c.args.board.now c.end_run-in-Err-open.new.board) _ _
     (λ account script t left is recovers. record {
       does = not_opened see account script c.in-Err-open.exit c.end_run-in-Err-open.result _ t c.args.board.now c.open.new.board c.end_run-in-Err-open.new.board is recovers
-          c.in-Err-open.ensures.opens.held c.in-Err-open.ensures.does.told c.in-Err-open.ensures.does.unopened (c.in-Err-open.ensures.stops t is) c.end_run-in-Err-open.ensures.ends;
+          c.in-Err-open.ensures.opens.held c.in-Err-open.ensures.does.told c.in-Err-open.ensures.does.unopened (c.in-Err-open.ensures.stops t is) (c.in-Err-open.ensures.syncs t is) c.end_run-in-Err-open.ensures.ends;
       reads = inl refl;
     })
 
