@@ -1,2 +1,3 @@
 mod MemLemmas
 mod LeftLemmas
+mod CallLemmas

@@ -1,2 +1,3 @@
+pub mod SystemCall
 pub mod MemSystem
 pub mod Steps

@@ -1,5 +1,4 @@
-//! A system in memory, for tests: its calls fail where a test chooses, and it says what a crash
-//! leaves.
+//! A system in memory: its calls fail where a test chooses, and it says what a crash leaves.
 #![tactic(auto)]
 
 mod left_folder;
