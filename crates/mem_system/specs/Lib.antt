@@ -1,3 +1,4 @@
 pub mod SystemCall
 pub mod MemSystem
+pub mod Transcript
 pub mod Steps
