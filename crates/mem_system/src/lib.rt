@@ -3,6 +3,7 @@
 //! A public function with an empty body is a law: its clauses are the point.
 #![tactic(auto)]
 
+pub mod allowed;
 mod laws;
 mod left_folder;
 mod mem_files;
