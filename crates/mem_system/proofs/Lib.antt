@@ -1,2 +1,4 @@
 mod MemLemmas
 mod LeftLemmas
+mod TranscriptLemmas
+mod CallLemmas

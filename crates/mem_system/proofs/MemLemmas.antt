@@ -1,10 +1,9 @@
 -- What a system in memory notes, and what it then holds.
-use Rattle.std.proofs.Common.{◌≡◌, ℕ, ◌+◌, ◌-◌, ◌≤◌, ◌++◌, ◌∷◌, [], List, length, take, drop, min, refl, ap, sym, ◌∙◌, subst, arith, append-nil, length-drop, inl, inr, if◌then◌else◌}
-use Rattle.std.specs.Prelude.{true, false, Option, Vec, Result, Ok, Err, IfOk, IsErr, OnOk, OnErr}
-use Rattle.std.specs.Option.{option_map}
+use Rattle.std.proofs.Common.{◌≡◌, ℕ, ◌+◌, ◌-◌, ◌≤◌, ◌++◌, ◌∷◌, [], List, length, take, drop, min, refl, ap, sym, ◌∙◌, subst, arith, append-nil, length-drop, if◌then◌else◌}
+use Rattle.std.specs.Prelude.{true, false, Option, Vec, Result, Ok, Err, IfOk}
 use Rattle.std.specs.Result.{is_ok, is_err}
 use Rattle.std.specs.declared.alloc.Global.{Global}
-use Rattle.std.proofs.lemmas.List.{take_min, drop_min}
+use Rattle.std.proofs.lemmas.List.{drop_min}
 use Rattle.board_core.specs.declared.board.FileNo.TheVariants.{Zero, One}
 use Rattle.mem_system.specs.declared.left_folder.LeftFolder.{LeftFolder}
 use Rattle.mem_system.specs.declared.mem_files.MemFiles.{MemFiles}
@@ -12,11 +11,11 @@ use Rattle.mem_system.specs.declared.mem_system.Kept.{Kept}
 use Rattle.mem_system.specs.declared.mem_system.Kept.TheVariants.{Nothing, Folder as AFolder, NoMemory}
 use Rattle.host_system.specs.declared.system.FileName.{FileName}
 use Rattle.host_system.specs.declared.system.FileName.TheVariants.{Journal, Store, New}
-use Rattle.host_system.specs.Folder.{Folder, NameEntry, FolderChange, wrote, printed, folder_after, change_name, entry_named, Stopped, FileUse, FolderFile, bytes_now, renewed, used, MayLeaveFolder, settled_folder}
-use Rattle.host_system.specs.FolderPast.{FolderPast, changed_by, folder_of, bytes_or, file_bytes, MayLeaveFolderSince, MayWrite, MayPrint}
+use Rattle.host_system.specs.Folder.{Folder, NameEntry, FolderChange, folder_after, change_name, entry_named, Stopped, FileUse, FolderFile, bytes_now, renewed, used, MayLeaveFolder, settled_folder}
+use Rattle.host_system.specs.FolderPast.{FolderPast, changed_by, folder_of, bytes_or, file_bytes, MayLeaveFolderSince}
 use Rattle.host_system.specs.Steps.FolderPastLemmas.{folder_of-more, since_kept, now_counts}
 use Rattle.mem_system.specs.Steps.Kept.{IsCopied, IsOfPast, Holds}
-use Rattle.mem_system.specs.MemSystem.{MemState, with_change, as_stopped, name_numbered, change_numbered, change_noted, changes_noted, past_noted}
+use Rattle.mem_system.specs.MemSystem.{Choice, MemState, with_change, as_stopped, name_numbered, change_numbered, change_noted, changes_noted, past_noted}
 use Rattle.mem_system.specs.Steps.MemFiles.{Uses, number_of, entry_seen, mem_entry, held_in, uses_of, with_use, IsChanged, IsRenewed, AreHeld}
 
 named_again : (name : FileName) → name_numbered (number_of name) ≡ name
@@ -37,6 +36,11 @@ noted first n name place count bytes old new is =
     ∙ ap (λ (m : FileName). changed_by (change_numbered n m place count bytes) (past_noted first old)) (named_again name))
 
 -- ---- after a change
+
+pub noted_state : (change : FolderChange) (past next : FolderPast) (fails : List Choice) (made starved faults : ℕ) (now : MemState) → next ≡ changed_by change past
+    → record { past = past; fails = fails; made = made; starved = starved; faults = faults } ≡ now → record { past = next; fails = fails; made = made; starved = starved; faults = faults } ≡ with_change change now
+noted_state change past next fails made starved faults now step is =
+    ap (λ (p : FolderPast). record { past = p; fails = fails; made = made; starved = starved; faults = faults }) step ∙ ap (with_change change) is
 
 -- What was kept stays one of the past's moments.
 before_on : (change : FolderChange) (past : FolderPast) (kept : Kept) → IsOfPast past kept → IsOfPast (changed_by change past) kept
@@ -113,21 +117,6 @@ entry_held New past files out held = ap (λ (f : Folder). bytes_now f.new) held
 pub bytes_held : (name : FileName) (past now : FolderPast) (files : MemFiles) (out : List ℕ) → past ≡ now → AreHeld past files out → bytes_or (bytes_now (entry_seen (mem_entry name files))) ≡ file_bytes name now
 bytes_held name past now files out is held = ap bytes_or (entry_held name past files out held) ∙ ap (file_bytes name) is
 
-pub read_front : (most count len : ℕ) (bytes taken whole : List ℕ) → taken ≡ take count bytes → count ≡ min most len → len ≡ length bytes → bytes ≡ whole → taken ≡ take most whole
-read_front most count len bytes taken whole is counted long same =
-    is ∙ (ap (λ (n : ℕ). take n bytes) (counted ∙ ap (min most) long) ∙ (take_min most bytes ∙ ap (take most) same))
-
--- what is read, once it is counted whether that failed
-pub front_counted : {E F : Type 0} (answer : Result (Option (Vec ℕ Global)) E) (result : Result (Option (Vec ℕ Global)) F) (most : ℕ) (seen whole : Option (List ℕ)) (May : Type 0) → seen ≡ whole
-    → IfOk answer (λ found. option_map (λ v. v.items) found ≡ option_map (take most) seen) → IfOk answer (λ v. result ≡ Ok v) → OnErr answer (IsErr result)
-    → IfOk result (λ found. May → option_map (λ v. v.items) found ≡ option_map (take most) whole)
-front_counted (Ok v) (Ok w) most seen whole May same is ok err =
-    let found : w ≡ v = cc in
-    λ may. ap (λ (o : Option (Vec ℕ Global)). option_map (λ x. x.items) o) found ∙ (is ∙ ap (option_map (take most)) same)
-front_counted (Ok v) (Err f) most seen whole May same is ok err = tt
-front_counted (Err e) (Ok w) most seen whole May same is ok err = cc
-front_counted (Err e) (Err f) most seen whole May same is ok err = tt
-
 pub read_part : (n place start len : ℕ) (bytes given whole : List ℕ) → given ≡ take ((start + n) - start) (drop start bytes) → start ≡ min place len → len ≡ length bytes → bytes ≡ whole → given ≡ take n (drop place whole)
 read_part n place start len bytes given whole is begun long same =
     let count : (start + n) - start ≡ n = omega arith in
@@ -166,26 +155,3 @@ of_err (Err e) x y is = refl
 pub of_ok : {T E X : Type 0} (r : Result T E) (x y : X) → is_err r ≡ false → (if is_ok r then x else y) ≡ x
 of_ok (Ok v) x y is = refl
 of_ok (Err e) x y is = cc
-
--- of a system's past
-pub on_ok_past : {T E : Type 0} (r : Result T E) (change : FolderChange) (old new : MemState) → OnOk r (new ≡ with_change change old) → OnOk r (new.past ≡ changed_by change old.past)
-on_ok_past (Ok v) change old new is = ap (λ (s : MemState). s.past) is
-on_ok_past (Err e) change old new is = tt
-
-pub on_err_past : {T E : Type 0} (r : Result T E) (old new : MemState) → OnErr r (new ≡ old) → OnErr r (new.past ≡ old.past)
-on_err_past (Ok v) old new is = tt
-on_err_past (Err e) old new is = ap (λ (s : MemState). s.past) is
-
-pub on_err_done : {T E : Type 0} (r : Result T E) (change : FolderChange) (old new : MemState) → OnErr r (new ≡ with_change change old) → OnErr r (new.past ≡ changed_by change old.past)
-on_err_done (Ok v) change old new is = tt
-on_err_done (Err e) change old new is = ap (λ (s : MemState). s.past) is
-
--- a write that was done or wasn't
-pub may_write : {T E : Type 0} (r : Result T E) (name : FileName) (place n count : ℕ) (came : List ℕ) (old new : FolderPast) → n ≡ count → OnOk r (new ≡ changed_by (wrote name place n came) old) → OnErr r (new ≡ old) → MayWrite name place count old new
-may_write (Ok v) name place n count came old new size is same = (came, inr (is ∙ ap (λ (m : ℕ). changed_by (wrote name place m came) old) size))
-may_write (Err e) name place n count came old new size is same = (came, inl same)
-
--- a print of a part, or of nothing
-pub may_print : {T E : Type 0} (r : Result T E) (piece part missing : List ℕ) (old new : FolderPast) → part ++ missing ≡ piece → OnOk r (new ≡ changed_by (printed part) old) → OnErr r (new ≡ changed_by (printed []) old) → MayPrint piece old new
-may_print (Ok v) piece part missing old new splits is none = (part, missing, splits, is)
-may_print (Err e) piece part missing old new splits is none = ([], piece, refl, none)

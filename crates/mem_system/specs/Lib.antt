@@ -1,2 +1,4 @@
+pub mod SystemCall
 pub mod MemSystem
+pub mod Transcript
 pub mod Steps

@@ -2,3 +2,4 @@
 pub mod MemFiles
 pub mod LeftFolder
 pub mod Kept
+pub mod Calls

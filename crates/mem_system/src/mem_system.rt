@@ -1,16 +1,19 @@
 //! A system in memory.
-ghost use Rattle.std.specs.Prelude.{◌≡◌, ◌+◌, ◌^◌, ◌<◌, ◌≤◌, [], ◌∷◌, ◌++◌, length, Some, IfSome, IfOk, OnOk, OnErr};
-ghost use Rattle.board_core.specs.Cause.{HasCause};
-ghost use Rattle.host_system.specs.Folder.{MayLeaveFolder, settled_folder, made, removed, renamed, synced, loses, wrote, printed};
-ghost use Rattle.host_system.specs.FolderPast.{MayLeaveFolderSince, HasFile, MayWrite, MayPrint, changed_by, file_bytes, folder_of};
-ghost use Rattle.mem_system.specs.MemSystem.{as_stopped, nothing_there, begun_over, with_change};
+ghost use Rattle.std.specs.Prelude.{◌≡◌, ◌+◌, ◌^◌, ◌<◌, ◌≤◌, [], ◌∷◌, ◌++◌, length, map, take, Some, IfSome, IfOk, OnOk, OnErr};
+ghost use Rattle.std.specs.Option.{option_map, is_some};
+ghost use Rattle.host_system.specs.Folder.{MayLeaveFolder, settled_folder, made, opens, locks, loses, removed, renamed, synced, synced_names, wrote, printed};
+ghost use Rattle.host_system.specs.FolderPast.{MayLeaveFolderSince, HasFile, file_bytes, folder_of};
+ghost use Rattle.mem_system.specs.MemSystem.{as_stopped, nothing_there, begun_over, chosen_at, chosen_next, choosing, counted, items_in, other, starving, with_change, work_of};
+ghost use Rattle.mem_system.specs.Steps.Calls.{choice_seen, fault_seen, is_whole, printed_by, written_by, Ends, Looks};
 ghost use Rattle.mem_system.specs.Steps.Kept.{IsCopied};
 ghost use Rattle.mem_system.specs.Steps.MemFiles.{number_of};
+
+mod calls;
 
 use crate::left_folder::{LeftFolder, StopPick, left_of_folder};
 use crate::mem_files::{MemEntry, MemFile, MemFiles};
 use board_core::{Failed, FileNo};
-use host_system::{FileName, Notes, System, counted};
+use host_system::{FileName, Notes};
 use ras_base::NoMemory;
 use std::alloc::Global;
 use std::marker::Model;
@@ -18,7 +21,8 @@ use std::marker::Model;
 /// A system in memory, which is modelled and fails at chosen calls.
 ///
 /// It stores what the disk may have of each file and of each name, so that it can say what a crash
-/// leaves. A call for which memory runs out fails, and has done nothing.
+/// leaves. A call fails if and only if it was chosen to or if memory for it runs out; in the second
+/// case it has done nothing, and the count `starved` rises.
 #[derive(Drop)]
 pub struct MemSystem {
     alloc: Global,
@@ -27,6 +31,7 @@ pub struct MemSystem {
     out: Vec<u8>,
     fails: Vec<ChosenFailure>,
     made: u64,
+    starved: u64,
     stop: u64,
     kept: Kept,
     notes: Notes,
@@ -44,10 +49,18 @@ enum Kept {
     NoMemory,
 }
 
-#[derive(Clone, Copy)]
+// A call, by its number, that is to fail.
+#[derive(Drop)]
 struct ChosenFailure {
     call: u64,
-    effect: Effect,
+    fault: Fault,
+}
+
+// What a failing call has done: an effect, or a write of these bytes in place of those asked for.
+#[derive(Drop)]
+enum Fault {
+    Does(Effect),
+    Writes(Vec<u8>),
 }
 
 /// What a failing call has done. Whatever is chosen, a failing sync of a file loses the file, and a
@@ -58,20 +71,23 @@ pub enum Effect {
     Nothing,
     /// Everything asked for: a write, a print, or making, removing or renaming a file.
     All,
-    /// A write or a print of this many bytes only.
+    /// A write or a print of the first bytes only, at most this many.
     Part(u64),
-    /// A write of this byte instead of every byte that was to be written.
-    Other(u8),
 }
 
 impl Model for MemSystem {
+    ghost use Rattle.std.specs.Prelude.{map};
     ghost use Rattle.mem_system.specs.MemSystem.{MemState, as_stopped, past_noted};
+    ghost use Rattle.mem_system.specs.Steps.Calls.{choice_seen};
     ghost use Rattle.mem_system.specs.Steps.Kept.{Holds};
 
     ghost Value = { MemState };
 
     ghost view = { λ s. record {
       past = past_noted (as_stopped s.first) s.notes.calls;
+      fails = map choice_seen s.fails.items;
+      made = s.made;
+      starved = s.starved;
       faults = s.faults;
     } };
 
@@ -154,6 +170,7 @@ impl MemSystem {
             out: Vec::new(alloc),
             fails: Vec::new(alloc),
             made: 0,
+            starved: 0,
             stop: 0,
             kept: Kept::Nothing,
             notes: Notes::new(),
@@ -162,16 +179,41 @@ impl MemSystem {
     }
 
     /// Makes the call with this number fail, after it has done `effect`. All calls of the trait are
-    /// numbered from 1.
+    /// numbered from 1. The first choice for a number applies.
     ///
     /// # Errors
     ///
     /// `NoMemory`: only if memory runs out.
     pub fn fail_at(&mut self, call: u64, effect: Effect) -> Result<(), NoMemory>
-        ensures { self.new ≡ self.old }
+        ensures ok { OnOk result (self.new ≡ choosing call (work_of effect) self.old) }
+        ensures err { OnErr result (self.new ≡ self.old) }
     {
-        self.fails.push(ChosenFailure { call, effect })?;
+        let fault = Fault::Does(effect);
+        self.fails.push(ChosenFailure { call, fault })?;
         Ok(())
+    }
+
+    /// Makes the call with this number fail. A write has then written these bytes in place of those
+    /// asked for, at most as many as were asked for. Any other call has done the same as with
+    /// `Effect::Nothing`.
+    ///
+    /// # Errors
+    ///
+    /// `NoMemory`: only if memory runs out.
+    pub fn fail_writing(&mut self, call: u64, bytes: Vec<u8>) -> Result<(), NoMemory>
+        ensures ok { OnOk result (self.new ≡ choosing call (other bytes.items) self.old) }
+        ensures err { OnErr result (self.new ≡ self.old) }
+    {
+        let fault = Fault::Writes(bytes);
+        self.fails.push(ChosenFailure { call, fault })?;
+        Ok(())
+    }
+
+    /// Returns how many calls failed because memory ran out.
+    pub fn starved(&self) -> u64
+        ensures { result ≡ self.now.starved }
+    {
+        self.starved
     }
 
     /// Returns what a crash leaves now, if `pick` is what the disk kept.
@@ -214,16 +256,6 @@ impl MemSystem {
         }
     }
 
-    // Counts a call, and stores the state if a crash was chosen to come before the call.
-    fn count(&mut self)
-        ensures { self.new ≡ self.old }
-    {
-        self.made = self.made.saturating_add(1);
-        if self.made == self.stop {
-            self.keep();
-        }
-    }
-
     // Stores the present state for `left_before`.
     fn keep(&mut self)
         ensures { self.new ≡ self.old }
@@ -231,77 +263,157 @@ impl MemSystem {
         self.kept = kept_folder(self.alloc, &self.files, &self.out);
     }
 
-    // Counts a call, and returns what it has done if it was chosen to fail.
-    fn fault(&mut self) -> Option<Effect>
-        ensures { self.new ≡ self.old }
+    // Returns what was chosen for the next call, if it is to fail.
+    fn chosen(&self) -> Option<&Fault>
+        ensures { option_map (λ f. fault_seen f.now) result ≡ chosen_next self.now }
     {
-        self.count();
-        let made = self.made;
-        match self.fails.iter().find(|fails| fails.call == made) {
-            Some(fails) => Some(fails.effect),
-            None => None,
+        chosen_in(&self.fails, self.made.saturating_add(1))
+    }
+
+    // Whether the next call makes its change, which it makes in full or not at all.
+    fn does_all(&self) -> bool
+        ensures { result ≡ is_whole (chosen_next self.now) }
+    {
+        match self.chosen() {
+            None => true,
+            Some(Fault::Does(Effect::All)) => true,
+            Some(_) => false,
         }
     }
 
-    // Counts a call, and fails if it was chosen to fail.
-    fn begin(&mut self) -> Result<(), Failed>
-        ensures past { self.new.past ≡ self.old.past }
-        ensures cause { HasCause self.old.faults self.new.faults result }
+    // Returns the bytes that arrive if the next call writes these, unless none do.
+    fn arriving(&self, bytes: &[u8]) -> Result<Option<Vec<u8>>, NoMemory>
+        ensures { IfOk result
+            (λ came. items_in came ≡ written_by (chosen_next self.now) bytes.now) }
     {
-        let answer = match self.fault() {
-            Some(_) => Err(Failed),
-            None => Ok(()),
-        };
-        counted(answer, &mut self.faults)
+        let count = bytes.len() as u64;
+        match self.chosen() {
+            None => copied(self.alloc, bytes),
+            Some(Fault::Does(Effect::Nothing)) => Ok(None),
+            Some(Fault::Does(Effect::All)) => copied(self.alloc, bytes),
+            Some(Fault::Does(Effect::Part(most))) => copied(self.alloc, front(bytes, *most)),
+            Some(Fault::Writes(others)) => copied(self.alloc, front(others, count)),
+        }
     }
 
-    fn make_file(&mut self, name: FileName) -> Result<(), Failed>
+    // Returns the bytes that are printed if the next call prints these.
+    fn printing<'a>(&self, bytes: &'a [u8]) -> &'a [u8]
+        ensures { result.now ≡ printed_by (chosen_next self.now) bytes.now }
+    {
+        match self.chosen() {
+            None => bytes,
+            Some(Fault::Does(Effect::All)) => bytes,
+            Some(Fault::Does(Effect::Part(most))) => front(bytes, *most),
+            Some(_) => &[],
+        }
+    }
+
+    // Counts a call, and returns whether it was chosen to fail.
+    fn begin(&mut self) -> bool
+        ensures counted { self.new ≡ counted self.old }
+        ensures chosen { result ≡ is_some (chosen_next self.old) }
+    {
+        let is_chosen = self.chosen().is_some();
+        self.made = self.made.saturating_add(1);
+        if self.made == self.stop {
+            self.keep();
+        }
+        is_chosen
+    }
+
+    // Ends a call: it fails if it was chosen to, or if memory ran out.
+    fn end(&mut self, is_chosen: bool, made: Result<(), NoMemory>) -> Result<(), Failed>
+        ensures ends { Ends is_chosen made self.old self.new result }
+        ensures later { self.old.faults ≤ self.new.faults }
+    {
+        if made.is_err() {
+            return Err(self.starve());
+        }
+        if is_chosen {
+            self.faults = self.faults.saturating_add(1);
+            return Err(Failed);
+        }
+        Ok(())
+    }
+
+    // Counts a call for which memory ran out.
+    fn starve(&mut self) -> Failed
+        ensures starves { self.new ≡ starving self.old }
+        ensures later { self.old.faults ≤ self.new.faults }
+    {
+        self.starved = self.starved.saturating_add(1);
+        self.faults = self.faults.saturating_add(1);
+        Failed
+    }
+
+    // Makes a call that changes nothing.
+    fn look(&mut self) -> Result<(), Failed>
+        ensures looks { Looks self.old self.new result }
+        ensures later { self.old.faults ≤ self.new.faults }
+    {
+        let is_chosen = self.begin();
+        self.end(is_chosen, Ok(()))
+    }
+
+    fn make_file(&mut self, name: FileName) -> Result<(), NoMemory>
         ensures ok { OnOk result (self.new ≡ with_change (made name) self.old) }
         ensures err { OnErr result (self.new ≡ self.old) }
     {
         let file = MemFile::empty(self.alloc);
-        let Ok(()) = self.files.renew(name, Some(file)) else {
-            return Err(Failed);
-        };
+        self.files.renew(name, Some(file))?;
         note(&mut self.notes, 2, name, 0, 0, &[]);
         Ok(())
     }
 
-    fn remove_file(&mut self, name: FileName) -> Result<(), Failed>
+    fn open_file(&mut self, name: FileName)
+        ensures { self.new ≡ with_change (opens name) self.old }
+    {
+        note(&mut self.notes, 3, name, 0, 0, &[]);
+    }
+
+    fn lock_file(&mut self, name: FileName)
+        ensures { self.new ≡ with_change (locks name) self.old }
+    {
+        note(&mut self.notes, 4, name, 0, 0, &[]);
+    }
+
+    fn remove_file(&mut self, name: FileName) -> Result<(), NoMemory>
         ensures ok { OnOk result (self.new ≡ with_change (removed name) self.old) }
         ensures err { OnErr result (self.new ≡ self.old) }
     {
-        let Ok(()) = self.files.renew(name, None) else {
-            return Err(Failed);
-        };
+        self.files.renew(name, None)?;
         note(&mut self.notes, 6, name, 0, 0, &[]);
         Ok(())
     }
 
-    fn rename_file(&mut self) -> Result<(), Failed>
+    fn rename_file(&mut self) -> Result<(), NoMemory>
         ensures ok { OnOk result (self.new ≡ with_change renamed self.old) }
         ensures err { OnErr result (self.new ≡ self.old) }
     {
-        let Ok(()) = self.files.rename(self.alloc) else {
-            return Err(Failed);
-        };
+        self.files.rename(self.alloc)?;
         note(&mut self.notes, 7, FileName::New, 0, 0, &[]);
         Ok(())
     }
 
-    // Makes a file durable, or loses it if the call fails.
-    fn sync_file(&mut self, name: FileName) -> Result<(), Failed>
-        ensures ok { OnOk result (self.new.past ≡ changed_by (synced name) self.old.past) }
-        ensures err { OnErr result (self.new.past ≡ changed_by (loses name) self.old.past) }
-        ensures cause { HasCause self.old.faults self.new.faults result }
+    fn sync_file(&mut self, name: FileName)
+        ensures { self.new ≡ with_change (synced name) self.old }
     {
-        if self.begin().is_err() {
-            note(&mut self.notes, 5, name, 0, 0, &[]);
-            return Err(Failed);
-        }
         self.files.sync(name);
         note(&mut self.notes, 1, name, 0, 0, &[]);
-        Ok(())
+    }
+
+    // Notes that no call may rely on a file's bytes again.
+    fn lose_file(&mut self, name: FileName)
+        ensures { self.new ≡ with_change (loses name) self.old }
+    {
+        note(&mut self.notes, 5, name, 0, 0, &[]);
+    }
+
+    fn settle(&mut self)
+        ensures { self.new ≡ with_change synced_names self.old }
+    {
+        self.files.settle();
+        note(&mut self.notes, 8, FileName::New, 0, 0, &[]);
     }
 
     // Writes bytes, of which `missing` are missing at the end.
@@ -311,7 +423,7 @@ impl MemSystem {
         place: u64,
         bytes: &[u8],
         missing: u64,
-    ) -> Result<(), Failed>
+    ) -> Result<(), NoMemory>
         requires there { HasFile name self.old.past }
         requires within { place ≤ length (file_bytes name self.old.past) }
         requires fits { length bytes.now + missing < 2 ^ 64 }
@@ -319,166 +431,48 @@ impl MemSystem {
             (wrote name place (length bytes.now + missing) bytes.now) self.old) }
         ensures err { OnErr result (self.new ≡ self.old) }
     {
-        let Ok(()) = self.files.write(self.alloc, name, place, bytes, missing) else {
-            return Err(Failed);
-        };
+        self.files.write(self.alloc, name, place, bytes, missing)?;
         let count = bytes.len() as u64 + missing;
         note(&mut self.notes, 0, name, place, count, bytes);
         Ok(())
     }
 
-    // Makes a write that fails.
-    fn write_badly(
-        &mut self,
-        effect: Effect,
-        name: FileName,
-        place: u64,
-        bytes: &[u8],
-    ) -> Result<(), Failed>
-        requires there { HasFile name self.old.past }
-        requires within { place ≤ length (file_bytes name self.old.past) }
-        ensures may { MayWrite name place (length bytes.now) self.old.past self.new.past }
-        ensures faults { self.new.faults ≡ self.old.faults }
-    {
-        match effect {
-            Effect::Nothing => Ok(()),
-            Effect::All => self.write(name, place, bytes, 0),
-            Effect::Part(most) => {
-                let count = bytes.len() as u64;
-                let came = most.min(count);
-                self.write(name, place, &bytes[..came as usize], count - came)
-            }
-            Effect::Other(byte) => {
-                let Ok(other) = vec![in self.alloc; byte; bytes.len()] else {
-                    return Err(Failed);
-                };
-                self.write(name, place, &other, 0)
-            }
-        }
-    }
-
     // Appends to the output. If memory runs out, nothing is appended.
-    fn append(&mut self, bytes: &[u8]) -> Result<(), Failed>
+    fn append(&mut self, bytes: &[u8]) -> Result<(), NoMemory>
         ensures ok { OnOk result (self.new ≡ with_change (printed bytes.now) self.old) }
         ensures err { OnErr result (self.new ≡ with_change (printed []) self.old) }
     {
         if self.out.extend_from_slice(bytes).is_err() {
             note(&mut self.notes, 9, FileName::New, 0, 0, &[]);
-            return Err(Failed);
+            return Err(NoMemory);
         }
         note(&mut self.notes, 9, FileName::New, 0, 0, bytes);
         Ok(())
     }
-
-    // Makes a print that fails.
-    fn print_badly(&mut self, effect: Effect, bytes: &[u8]) -> Result<(), Failed>
-        ensures may { MayPrint bytes.now self.old.past self.new.past }
-        ensures faults { self.new.faults ≡ self.old.faults }
-    {
-        match effect {
-            Effect::Nothing | Effect::Other(_) => self.append(&[]),
-            Effect::All => self.append(bytes),
-            Effect::Part(most) => {
-                let part = most.min(bytes.len() as u64) as usize;
-                self.append(&bytes[..part])
-            }
-        }
-    }
 }
 
-impl System for MemSystem {
-    ghost told = { λ s. Some s.past };
-
-    ghost faults = { λ s. s.faults };
-
-    fn find(&mut self, name: FileName) -> Result<Option<u64>, Failed> {
-        self.begin()?;
-        Ok(self.files.get(name).length())
+// Returns the first failure that was chosen for a call with this number.
+fn chosen_in(fails: &[ChosenFailure], call: u64) -> Option<&Fault>
+    ensures { option_map (λ f. fault_seen f.now) result
+        ≡ chosen_at call (map choice_seen fails.now) }
+{
+    for choice in fails {
+        if choice.call == call {
+            return Some(&choice.fault);
+        }
     }
+    None
+}
 
-    fn open(&mut self, name: FileName) -> Result<(), Failed> {
-        self.begin()?;
-        note(&mut self.notes, 3, name, 0, 0, &[]);
-        Ok(())
-    }
+// Returns the first bytes, at most `most`.
+fn front(bytes: &[u8], most: u64) -> &[u8]
+    ensures { result.now ≡ take most bytes.now }
+{
+    &bytes[..most.min(bytes.len() as u64) as usize]
+}
 
-    fn make(&mut self, name: FileName) -> Result<(), Failed> {
-        let answer = match self.fault() {
-            None => self.make_file(name),
-            Some(Effect::All) => self.make_file(name).and(Err(Failed)),
-            Some(_) => Err(Failed),
-        };
-        counted(answer, &mut self.faults)
-    }
-
-    fn lock(&mut self, name: FileName) -> Result<(), Failed> {
-        self.begin()?;
-        note(&mut self.notes, 4, name, 0, 0, &[]);
-        Ok(())
-    }
-
-    fn read(&mut self, name: FileName, most: u64) -> Result<Option<Vec<u8>>, Failed> {
-        self.begin()?;
-        let answer = self.files.get(name).front(self.alloc, most);
-        counted(answer, &mut self.faults)
-    }
-
-    fn read_at(&mut self, name: FileName, place: u64, buf: &mut [u8]) -> Result<(), Failed> {
-        self.begin()?;
-        let bytes = self.files.get(name).bytes();
-        let start = place.min(bytes.len() as u64) as usize;
-        buf.copy_from_slice(&bytes[start..start + buf.len()]);
-        Ok(())
-    }
-
-    fn write_at(&mut self, name: FileName, place: u64, bytes: &[u8]) -> Result<(), Failed> {
-        let answer = match self.fault() {
-            None => self.write(name, place, bytes, 0),
-            Some(effect) => self
-                .write_badly(effect, name, place, bytes)
-                .and(Err(Failed)),
-        };
-        counted(answer, &mut self.faults)
-    }
-
-    fn sync(&mut self, name: FileName) -> Result<(), Failed> {
-        self.sync_file(name)
-    }
-
-    fn sync_read(&mut self, file: FileNo) -> Result<(), Failed> {
-        self.sync_file(FileName::Journal(file))
-    }
-
-    fn remove(&mut self, name: FileName) -> Result<(), Failed> {
-        let answer = match self.fault() {
-            None => self.remove_file(name),
-            Some(Effect::All) => self.remove_file(name).and(Err(Failed)),
-            Some(_) => Err(Failed),
-        };
-        counted(answer, &mut self.faults)
-    }
-
-    fn rename(&mut self) -> Result<(), Failed> {
-        let answer = match self.fault() {
-            None => self.rename_file(),
-            Some(Effect::All) => self.rename_file().and(Err(Failed)),
-            Some(_) => Err(Failed),
-        };
-        counted(answer, &mut self.faults)
-    }
-
-    fn sync_names(&mut self) -> Result<(), Failed> {
-        self.begin()?;
-        self.files.settle();
-        note(&mut self.notes, 8, FileName::New, 0, 0, &[]);
-        Ok(())
-    }
-
-    fn print(&mut self, bytes: &[u8]) -> Result<(), Failed> {
-        let answer = match self.fault() {
-            None => self.append(bytes),
-            Some(effect) => self.print_badly(effect, bytes).and(Err(Failed)),
-        };
-        counted(answer, &mut self.faults)
-    }
+fn copied(alloc: Global, bytes: &[u8]) -> Result<Option<Vec<u8>>, NoMemory>
+    ensures { IfOk result (λ made. items_in made ≡ Some bytes.now) }
+{
+    Ok(Some(Vec::from_slice(alloc, bytes)?))
 }

@@ -1,9 +1,9 @@
-use Rattle.std.proofs.Common.{[], ◌++◌, ap, ◌∙◌, ℕ, List, sym, subst, refl}
+use Rattle.std.proofs.Common.{[], ◌++◌, ◌∙◌, ℕ, List, sym, subst, refl}
 use Rattle.host_system.specs.declared.system.FileName.TheVariants.{New}
 use Rattle.host_system.specs.Folder.{printed}
-use Rattle.mem_system.specs.MemSystem.{as_stopped, past_noted, with_change, faulted_to}
+use Rattle.mem_system.specs.MemSystem.{as_stopped, past_noted}
 use Rattle.mem_system.specs.Steps.Kept.{Holds}
-use Rattle.mem_system.proofs.MemLemmas.{noted, held_after, no_text, of_err, of_ok}
+use Rattle.mem_system.proofs.MemLemmas.{noted, noted_state, held_after, no_text, of_err, of_ok}
 use Rattle.mem_system.proofs.mem_system.MemSystem.append.Goals as goal
 
 pub invariant_of-self : goal.invariant_of-self
@@ -13,7 +13,7 @@ invariant_of-self c =
     (noted (as_stopped c.self.inside.first) 9 New 0 0 [] _ _ c.note.ensures) (no_text c.self.inside.files c.self.inside.out.items) c.self.invariant)
 
 pub returns-then-is_err-clause-err : goal.returns-then-is_err-clause-err
-returns-then-is_err-clause-err c = ap (faulted_to c.self.inside.faults) (noted (as_stopped c.self.inside.first) 9 New 0 0 [] _ _ c.note.ensures) ∙ ap (with_change (printed [])) c.self.view_is
+returns-then-is_err-clause-err c = noted_state (printed []) _ _ _ _ _ _ _ (noted (as_stopped c.self.inside.first) 9 New 0 0 [] _ _ c.note.ensures) c.self.view_is
 
 pub invariant_of-self-2 : goal.invariant_of-self-2
 invariant_of-self-2 c =
@@ -22,4 +22,4 @@ invariant_of-self-2 c =
     (noted (as_stopped c.self.inside.first) 9 New 0 0 c.args.bytes.now _ _ c.note-2.ensures) (λ uses. refl) c.self.invariant)
 
 pub returns-clause-ok : goal.returns-clause-ok
-returns-clause-ok c = ap (faulted_to c.self.inside.faults) (noted (as_stopped c.self.inside.first) 9 New 0 0 c.args.bytes.now _ _ c.note-2.ensures) ∙ ap (with_change (printed c.args.bytes.now)) c.self.view_is
+returns-clause-ok c = noted_state (printed c.args.bytes.now) _ _ _ _ _ _ _ (noted (as_stopped c.self.inside.first) 9 New 0 0 c.args.bytes.now _ _ c.note-2.ensures) c.self.view_is
