@@ -32,8 +32,22 @@ any_event='\b(aer|non_standard|mc|extlog_mem)_event: '
 # are passed too, but none that looks like an event: a device can have that in its name.
 log_reports=("${whole[@]}" --only '\}\[Hardware Error\]: |^\[9{12}\.' --more 1000 --without "$any_event")
 
-# Passes on what the trace has beside machine checks. An Intel error that comes as extlog_mem_event is a machine check too.
-trace_events=("${whole[@]}" --only '\b(aer|non_standard)_event: ')
+# Sets firmware to where the memory errors come from that the firmware reports in a boot, log or trace: TRACE, the boot's
+# file. Its first line names the events that it has from its beginning, so this never changes: an error has another name in
+# the trace than in the log, and would count twice.
+find_firmware() {
+    local first=''
+    firmware=log
+    [[ ! -f $1 ]] || read -r first <"$1"
+    [[ $first != '# '*' mc_event'* ]] || firmware=trace
+}
+
+# Sets trace_events to the command that passes on what the trace has beside machine checks: FIRMWARE. An Intel error that
+# comes as extlog_mem_event is a machine check too.
+event_filter() {
+    trace_events=("${whole[@]}" --only '\b(aer|non_standard)_event: ')
+    [[ $1 == log ]] || trace_events=("${whole[@]}" --only '\b(aer|non_standard|mc)_event: ')
+}
 
 # Sets make_lines to the command that converts what log_reports and trace_events pass on: BOOT SECOND, at which the boot
 # began. It is one command for both, since a run knows only the last table of the firmware's sources. A piece ends before a
