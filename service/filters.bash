@@ -67,7 +67,18 @@ log_before_trace() {
         echo "feed: $traces/trace.$1 has no time stamp, so machine checks from before the trace don't count" >&2
         return
     fi
-    journalctl -k -b "${1//-/}" -o short-monotonic ${2:+"--after-cursor=$2"} | awk -v end="$first" -f "$here/older-lines.awk"
+    journalctl -k -b "${1//-/}" -o short-monotonic ${2:+"--after-cursor=$2"} |
+        awk -v begins=': Machine Check' -v end="$first" -f "$here/older-lines.awk"
+}
+
+# Prints of a boot's log the firmware's reports from before its trace, and the log's end: NAME-OF-BOOT CURSOR. The kernel logs
+# a report before it traces it, so the trace may have a report of the last second.
+reports_before_trace() {
+    local first
+    first=$(awk -f "$here/first-stamp.awk" "$traces/trace.$1")
+    [[ -n $first ]] || return 0
+    journalctl -k -b "${1//-/}" -o short-monotonic ${2:+"--after-cursor=$2"} |
+        awk -v begins='Hardware error from APEI' -v end="$first" -v margin=1 -f "$here/older-lines.awk" && echo "$log_end"
 }
 
 # Sets make_lines to the command that converts a boot's trace: BOOT MCG_CAP. An injected error has no MCG_CAP, and gets this.
