@@ -1,10 +1,11 @@
 -- The event of a memory controller is read as the kernel prints it.
-use Rattle.std.proofs.Common.{◌≡◌, ℕ, zero, suc, ◌+◌, ◌*◌, ◌-◌, ◌^◌, ◌<◌, ◌==◌, ◌&&◌, ◌||◌, Bool, true, false, not, List, [], ◌∷◌, ◌++◌, codes, decimal, refl, ap, ◌∙◌, arith, append_assoc, Option, Some, None, if◌then◌else◌}
+use Rattle.std.proofs.Common.{◌≡◌, ℕ, zero, suc, ◌+◌, ◌*◌, ◌-◌, ◌^◌, ◌<◌, ◌==◌, ◌&&◌, ◌||◌, Bool, true, false, not, nat_eq, List, [], ◌∷◌, ◌++◌, codes, decimal, refl, ap, ◌∙◌, arith, append_assoc, Option, Some, None, if◌then◌else◌}
 use Rattle.std.specs.Prelude.{unwrap_or, IfSome}
 use Rattle.std.specs.Fmt.{digits}
 use Rattle.std.specs.Int.{is_power_of_two}
 use Rattle.std.specs.Int.RustNames.{count_ones}
-use Rattle.std.specs.List.{list_all}
+use Rattle.std.specs.List.{ends_with, list_all}
+use Rattle.std.specs.Option.{option_map_or}
 use Rattle.std.specs.Str.{bytes_eq}
 use Rattle.std.proofs.lemmas.Bool.Decides.{nat_tests}
 use Rattle.std.proofs.lemmas.Nat.{ones_cat, pow_pos}
@@ -23,6 +24,7 @@ use Rattle.block_lines.specs.declared.memory.MemoryError.{MemoryError}
 use Rattle.event_lines.specs.Memory.{address_told, addresses_in, behind_controller, controller_error_of, controller_of, detail_in, grain_mask, grain_of, kind_before, type_severity}
 use Rattle.event_lines.specs.MemoryKernel.{IsMemory, PrintedMemory, before_more, controller_text, error_of_memory, grain_text, memory_front, message_text, number_before, places_text, printed_memory, severity_name}
 use Rattle.event_lines.specs.Traced.{controller_event, found_memory}
+use Rattle.event_lines.specs.declared.traced.LineEvent.TheVariants.{Absent, Unread}
 use Rattle.event_lines.proofs.AerLemmas.{last_cut}
 use Rattle.event_lines.proofs.ControllerLemmas.{HasNone, last_behind_mark, none_before, none_behind_space}
 use Rattle.event_lines.proofs.KindLemmas.{kind_is_before}
@@ -158,6 +160,25 @@ number_none name (Some n) more lacks small none =
     by [] none = refl
     by (b ∷ more) none = none_before (32 ∷ []) (b ∷ more) ((λ (e : ◌≡◌ {A = ℕ} 32 40). omega (arith, e)), tt) none
 
+-- ---- what is in the parentheses
+
+controller_at : (front controller : List ℕ) → behind_controller controller ≡ None
+    → controller_of ((front ++ (codes " (mc:" ++ controller)) ++ codes ")") ≡ Some controller
+controller_at front controller none =
+    ap (λ (o : Option (List ℕ)). read_then o behind_controller) (last_cut 41 (front ++ (codes " (mc:" ++ controller)))
+    ∙ last_behind_mark front controller none
+
+pub other_driver : (stamp : Option ℕ) (front controller : List ℕ) → behind_controller controller ≡ None
+    → value_after (codes "APEI location: ") (detail_in controller) ≡ None
+    → controller_event stamp ((front ++ (codes " (mc:" ++ controller)) ++ codes ")") ≡ Absent
+other_driver stamp front controller none other =
+    ap (λ (o : Option (List ℕ)). option_map_or (λ inside. option_map_or (λ places. found_memory stamp (controller_error_of ((front ++ (codes " (mc:" ++ controller)) ++ codes ")") inside places))
+    (value_after (codes "APEI location: ") (detail_in inside)) Absent) o Unread) (controller_at front controller none)
+    ∙ ap (λ (o : Option (List ℕ)). option_map_or (λ places. found_memory stamp (controller_error_of ((front ++ (codes " (mc:" ++ controller)) ++ codes ")") controller places)) o Absent) other
+
+pub cut_event : (stamp : Option ℕ) (text : List ℕ) → ends_with nat_eq text (41 ∷ []) ≡ false → controller_event stamp text ≡ Unread
+cut_event stamp text is = rw is refl
+
 -- ---- what is read, part by part
 
 controller_so : (text controller places told message digits word : List ℕ) (address grain severity : ℕ) (physical mask kind : Option ℕ) (location : ErrorLocation)
@@ -266,9 +287,7 @@ module _ (p : PrintedMemory) (is : IsMemory p) where
       (none_before (codes " address:0x") addressed (literal_lacks 40 (codes " address:0x") refl) addressed_none))))
 
   controller_is : controller_of (printed_memory p) ≡ Some (controller_text p)
-  controller_is =
-      ap (λ (o : Option (List ℕ)). read_then o behind_controller) (last_cut 41 (memory_front p ++ (codes " (mc:" ++ controller_text p)))
-      ∙ last_behind_mark (memory_front p) (controller_text p) no_mark
+  controller_is = controller_at (memory_front p) (controller_text p) no_mark
 
   -- ---- the front
 

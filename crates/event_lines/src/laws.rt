@@ -1,7 +1,8 @@
 //! What the filter reads and makes.
 
-ghost use Rattle.std.specs.Prelude.{◌≡◌, ◌+◌, ◌*◌, ◌<◌, ◌≤◌, ◌^◌, ℕ, List, [], ◌∷◌, None, Some, Ok, false};
-ghost use Rattle.std.specs.List.{AllByRecursion};
+ghost use Rattle.std.specs.Prelude.{◌≡◌, ◌+◌, ◌*◌, ◌<◌, ◌≤◌, ◌^◌, ℕ, List, [], ◌∷◌, ◌++◌, codes};
+ghost use Rattle.std.specs.Prelude.{nat_eq, Option, None, Some, Ok, false};
+ghost use Rattle.std.specs.List.{AllByRecursion, ends_with};
 ghost use Rattle.apei_sources.specs.Blocks.{block_of};
 ghost use Rattle.apei_sources.specs.Entries.{entry_data, entry_guid, entry_severity};
 ghost use Rattle.cper_pcie.specs.Section.{pcie_guid, pcie_of};
@@ -10,6 +11,7 @@ ghost use Rattle.cper_sections.specs.declared.sections.Section.TheVariants as se
 ghost use Rattle.ras_facts.specs.Names.{same_name};
 ghost use Rattle.ras_script.specs.Line.{line_of};
 ghost use Rattle.ras_script.specs.LineLaws.{line_text};
+ghost use Rattle.bank_lines.specs.Parts.{value_after};
 ghost use Rattle.bank_lines.specs.TraceHeads.{IsFront, Tracer};
 ghost use Rattle.bank_lines.specs.declared.log_line.TheConstants.{LAST_SECOND};
 ghost use Rattle.block_lines.specs.Blocks.{error_entry_bytes, made_status};
@@ -19,6 +21,7 @@ ghost use Rattle.block_lines.specs.declared.memory.MemoryError.{MemoryError};
 ghost use Rattle.event_lines.specs.Aer.{aer_event_of, cper_severity};
 ghost use Rattle.event_lines.specs.Filter.{event_block, memory_block, report_filter};
 ghost use Rattle.event_lines.specs.Kernel.{IsEvent, PrintedAer, aer_line, aer_text, event_head, event_of};
+ghost use Rattle.event_lines.specs.Memory.{behind_controller, detail_in};
 ghost use Rattle.event_lines.specs.MemoryKernel.{IsExtlog, IsMemory, PrintedExtlog, PrintedMemory, error_of_extlog};
 ghost use Rattle.event_lines.specs.MemoryKernel.{error_of_memory, extlog_line, memory_line};
 ghost use Rattle.event_lines.specs.PcieBytes.{pcie_section_bytes};
@@ -26,11 +29,11 @@ ghost use Rattle.event_lines.specs.ReadBack.{event_asked, event_entry, event_nam
 ghost use Rattle.event_lines.specs.ReadBack.{section_told};
 ghost use Rattle.event_lines.specs.SectionEvent.{section_bytes_of};
 ghost use Rattle.event_lines.specs.SectionKernel.{IsSection, PrintedSection, head_of_section, section_line};
-ghost use Rattle.event_lines.specs.Traced.{line_event_of};
+ghost use Rattle.event_lines.specs.Traced.{controller_event, line_event_of};
 ghost use Rattle.event_lines.specs.declared.aer.AerEvent.{AerEvent};
 ghost use Rattle.event_lines.specs.declared.traced.FoundEvent.{FoundEvent};
 ghost use Rattle.event_lines.specs.declared.traced.FoundMemory.{FoundMemory};
-ghost use Rattle.event_lines.specs.declared.traced.LineEvent.TheVariants.{Absent, Found, Memory, Section};
+ghost use Rattle.event_lines.specs.declared.traced.LineEvent.TheVariants.{Absent, Found, Memory, Section, Unread};
 
 /// The event of a PCI Express error, as the kernel prints it, is read as that event, whichever bits
 /// of the status are set: by its text, and behind what each tracer prints before it, with the time
@@ -64,6 +67,18 @@ pub fn printed_events_are_read()
         (p : PrintedExtlog) → IsFront front seconds micros → IsExtlog p
         → line_event_of (extlog_line (event_head tracer front seconds micros spaces) more p)
         ≡ Memory (record { stamp = 1000000 * seconds + micros; error = error_of_extlog p }) }
+{}
+
+/// Which events of a memory controller are no errors of the firmware: another driver's event says
+/// nothing, whatever is before its last ` (mc:`, and an event that is cut before the parenthesis at
+/// its end can't be read.
+pub fn other_controller_events_are_no_errors()
+    ensures driver { (stamp : Option ℕ) (front controller : List ℕ)
+        → behind_controller controller ≡ None
+        → value_after (codes "APEI location: ") (detail_in controller) ≡ None
+        → controller_event stamp ((front ++ (codes " (mc:" ++ controller)) ++ codes ")") ≡ Absent }
+    ensures cut { (stamp : Option ℕ) (text : List ℕ) → ends_with nat_eq text (codes ")") ≡ false
+        → controller_event stamp text ≡ Unread }
 {}
 
 /// What is made of an event is read back: its section as its function and its status, its block as

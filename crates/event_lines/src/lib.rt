@@ -19,5 +19,5 @@ pub use aer::{AerDevice, AerEvent, AerSeverity, TlpHeader};
 pub use filter::{ReportFilter, TRACE_SOURCE};
 pub use laws::{
     logs_are_filtered_as_before, made_memory_blocks_are_read_back, made_sections_are_read_back,
-    printed_events_are_read,
+    other_controller_events_are_no_errors, printed_events_are_read,
 };
