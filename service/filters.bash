@@ -32,8 +32,22 @@ any_event='\b(aer|non_standard|mc|extlog_mem)_event: '
 # are passed too, but none that looks like an event: a device can have that in its name.
 log_reports=("${whole[@]}" --only '\}\[Hardware Error\]: |^\[9{12}\.' --more 1000 --without "$any_event")
 
-# Passes on what the trace has beside machine checks. An Intel error that comes as extlog_mem_event is a machine check too.
-trace_events=("${whole[@]}" --only '\b(aer|non_standard)_event: ')
+# Sets firmware to where the memory errors come from that the firmware reports in a boot, log or trace: TRACE, the boot's
+# file. Its first line names the events that it has from its beginning, so this never changes: an error has another name in
+# the trace than in the log, and would count twice.
+find_firmware() {
+    local first=''
+    firmware=log
+    [[ ! -f $1 ]] || read -r first <"$1"
+    [[ $first != '# '*' mc_event'* ]] || firmware=trace
+}
+
+# Sets trace_events to the command that passes on what the trace has beside machine checks: FIRMWARE. An Intel error that
+# comes as extlog_mem_event is a machine check too.
+event_filter() {
+    trace_events=("${whole[@]}" --only '\b(aer|non_standard)_event: ')
+    [[ $1 == log ]] || trace_events=("${whole[@]}" --only '\b(aer|non_standard|mc)_event: ')
+}
 
 # Sets make_lines to the command that converts what log_reports and trace_events pass on: BOOT SECOND, at which the boot
 # began. It is one command for both, since a run knows only the last table of the firmware's sources. A piece ends before a
@@ -53,7 +67,18 @@ log_before_trace() {
         echo "feed: $traces/trace.$1 has no time stamp, so machine checks from before the trace don't count" >&2
         return
     fi
-    journalctl -k -b "${1//-/}" -o short-monotonic ${2:+"--after-cursor=$2"} | awk -v end="$first" -f "$here/older-lines.awk"
+    journalctl -k -b "${1//-/}" -o short-monotonic ${2:+"--after-cursor=$2"} |
+        awk -v begins=': Machine Check' -v end="$first" -f "$here/older-lines.awk"
+}
+
+# Prints of a boot's log the firmware's reports from before its trace, and the log's end: NAME-OF-BOOT CURSOR. The kernel logs
+# a report before it traces it, so the trace may have a report of the last second.
+reports_before_trace() {
+    local first
+    first=$(awk -f "$here/first-stamp.awk" "$traces/trace.$1")
+    [[ -n $first ]] || return 0
+    journalctl -k -b "${1//-/}" -o short-monotonic ${2:+"--after-cursor=$2"} |
+        awk -v begins='Hardware error from APEI' -v end="$first" -v margin=1 -f "$here/older-lines.awk" && echo "$log_end"
 }
 
 # Sets make_lines to the command that converts a boot's trace: BOOT MCG_CAP. An injected error has no MCG_CAP, and gets this.

@@ -68,7 +68,13 @@ SECTION = (
     "sec type:00112233-4455-6677-8899-aabbccddeeff; FRU: 00000000-0000-0000-0000-000000000000 A1; "
     "data len:4; raw data:aa bb cc dd\n"
 )
-SETTINGS = ("MCG_CAP", "SOURCE", "BOOTS_KEPT")
+MEMORY = (
+    "     kworker/0:1-7         [000] ..... {0:5}.200003: mc_event: 1 Corrected error: single-bit ECC on DIMM_B3 "
+    "(mc:0 location:2:-1:-1 address:0x{1:08x} grain:4096 syndrome:0x00000000 APEI location: node:1 card:0 module:2 rank:0 "
+    "bank:3 row:12 column:8 DIMM location: DIMM_B3 status(0x0000000000000400): Storage error in DRAM memory)\n"
+)
+EVENTS = "mce_record aer_event non_standard_event"
+SETTINGS = ("MCG_CAP", "SOURCE", "FIRMWARE", "BOOTS_KEPT")
 ROWS = "cpu 0 0\nmodule DIMM_A1 0 7 0\nmodule-limit 4 86400"
 # The feed's line before the first error is a poll, behind rows, a bank that holds none, and a table with its comment.
 HEAD = 8
@@ -120,6 +126,7 @@ class Service:
             "RASD_PIPE": f"{self.room}/lines",
             "RASD_TRACE": str(self.room),
             "RASD_PSTORE": f"{self.room}/pstore",
+            "RASD_EDAC": f"{self.room}/mc",
         }
         self.process = None
 
@@ -191,9 +198,9 @@ class Service:
         with open(self.room / "log", "a") as log:
             log.write(text)
 
-    def trace(self, text, boot=BOOT):
-        """Lets a boot's trace be this."""
-        (self.room / f"trace.{boot}").write_text(text)
+    def trace(self, text, events=EVENTS, boot=BOOT):
+        """Lets a boot's trace be this, behind the names of its events, as service/keep-trace has it."""
+        (self.room / f"trace.{boot}").write_text(f"# {events}\n{text}")
 
     def end_log(self):
         """Ends journalctl."""

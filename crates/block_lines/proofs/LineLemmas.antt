@@ -128,7 +128,7 @@ pub front_long : (severity count size : ℕ) → length (block_front severity co
 unfolding block_front u32_bytes
 front_long severity count size = refl
 
-block_all : (severity : ℕ) (es : List MemoryError) → AllByRecursion IsError es → AreBytes (block_bytes severity es)
+pub block_all : (severity : ℕ) (es : List MemoryError) → AllByRecursion IsError es → AreBytes (block_bytes severity es)
 unfolding block_bytes
 block_all severity es all = (
   omega (arith, front_long severity (length es) (152 * length es), length-append (block_front severity (length es) (152 * length es)) (flat_map error_entry_bytes es)),

@@ -1,6 +1,6 @@
 //! Writes the bytes of the blocks.
 
-ghost use Rattle.std.specs.Prelude.{◌≡◌, ◌≤◌, ◌<◌, ◌++◌, length, unwrap_or, OnOk};
+ghost use Rattle.std.specs.Prelude.{◌≡◌, ◌≤◌, ◌<◌, [], ◌∷◌, ◌++◌, length, unwrap_or, OnOk};
 ghost use Rattle.std.specs.List.{flat_map};
 ghost use Rattle.block_lines.specs.Blocks.{address_bytes, block_bytes, error_entry_bytes, flag, block_front};
 ghost use Rattle.block_lines.specs.Blocks.{entry_header_bytes, kind_bytes, location_bytes, location_flags};
@@ -56,6 +56,18 @@ fn push_both(
     push_front(bytes, severity, count, 152 * count)?;
     push_entries(bytes, errors)?;
     push_entries(bytes, others)
+}
+
+/// Appends the block of one memory error, which has the error's severity.
+///
+/// # Errors
+///
+/// `NoMemory`: only if memory runs out.
+pub fn push_error_block(bytes: &mut Vec<u8>, error: MemoryError) -> Result<(), NoMemory>
+    ensures { OnOk result (bytes.new.items
+        ≡ bytes.old.items ++ block_bytes error.severity (error ∷ [])) }
+{
+    push_both(bytes, error.severity, &[error], &[])
 }
 
 /// Appends the block of one error, which has this severity and a section of this type. Requires a

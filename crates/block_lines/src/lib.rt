@@ -18,8 +18,10 @@ mod sources;
 mod text;
 mod told_laws;
 
-pub use blocks::{LONGEST_SECTION, push_section_block};
+pub use blocks::{LONGEST_SECTION, push_error_block, push_section_block};
 pub use filter::BlockFilter;
 pub use kernel_laws::{printed_reports_are_read, printed_texts_are_read};
 pub use laws::{made_blocks_are_read_back, made_lines_are_read_back};
+pub use memory::{ErrorLocation, MemoryError};
+pub use report_line::{location_of, severity_of};
 pub use told_laws::{cut_reports_are_told, foreign_lines_are_told};

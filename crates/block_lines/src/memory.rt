@@ -5,21 +5,28 @@ ghost use Rattle.block_lines.specs.Reports.{blank_error, error_with};
 
 /// Where an error is, in the firmware's numbers, each of which may be unknown.
 #[derive(Clone, Copy, Debug, PartialEq, Eq)]
-pub(crate) struct ErrorLocation {
-    pub(crate) node: Option<u16>,
-    pub(crate) card: Option<u16>,
-    pub(crate) module: Option<u16>,
+pub struct ErrorLocation {
+    /// The node.
+    pub node: Option<u16>,
+    /// The card.
+    pub card: Option<u16>,
+    /// The module.
+    pub module: Option<u16>,
 }
 
-/// A memory error: its severity, its address and which bits of the address are valid, its location
-/// and its type.
+/// A memory error, of which the firmware may leave out everything but the severity.
 #[derive(Clone, Copy, Debug, PartialEq, Eq)]
-pub(crate) struct MemoryError {
-    pub(crate) severity: u32,
-    pub(crate) physical: Option<u64>,
-    pub(crate) mask: Option<u64>,
-    pub(crate) location: ErrorLocation,
-    pub(crate) kind: Option<u8>,
+pub struct MemoryError {
+    /// How severe the error is: 0 recoverable, 1 fatal, 2 corrected, 3 informational.
+    pub severity: u32,
+    /// The physical address.
+    pub physical: Option<u64>,
+    /// Which bits of the address are valid.
+    pub mask: Option<u64>,
+    /// Where the error is.
+    pub location: ErrorLocation,
+    /// The type of error.
+    pub kind: Option<u8>,
 }
 
 /// What a line of a memory section says.

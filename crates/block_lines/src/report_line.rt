@@ -62,8 +62,8 @@ fn value_after<'a>(name: &[u8], text: &'a [u8]) -> Option<&'a [u8]>
     text.strip_prefix(name)
 }
 
-// Returns the number of a severity by the kernel's word for it.
-fn severity_of(word: &[u8]) -> u32
+/// Returns the number of a severity by the kernel's word for it.
+pub fn severity_of(word: &[u8]) -> u32
     ensures { result ≡ severity_of word.now }
 {
     if word == b"recoverable".as_slice() {
@@ -184,8 +184,9 @@ fn location_line(text: &[u8]) -> ReportLine
     }
 }
 
-// Returns the location of an error. Its numbers come in this order, and each may be missing.
-fn location_of(text: &[u8]) -> ErrorLocation
+/// Returns the location of an error from a text that begins with the location. Its numbers come in
+/// the order node, card, module, and each may be missing.
+pub fn location_of(text: &[u8]) -> ErrorLocation
     ensures { result ≡ location_of text.now }
 {
     let cards = after_named(b"node:", text);

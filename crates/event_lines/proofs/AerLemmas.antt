@@ -123,7 +123,7 @@ module _ (d : AerDevice) (within : IsDevice d) where
 
 -- ---- the header
 
-last_cut : (byte : ℕ) (text : List ℕ) → before_last byte (text ++ byte ∷ []) ≡ Some text
+pub last_cut : (byte : ℕ) (text : List ℕ) → before_last byte (text ++ byte ∷ []) ≡ Some text
 last_cut byte text =
     let whole : List ℕ = text ++ byte ∷ [] in
     let size : length whole - 1 ≡ length text = omega (arith, length-append text (byte ∷ [])) in

@@ -1,8 +1,7 @@
 -- A line that has an event, as tracers print it, is found.
-use Rattle.std.proofs.Common.{◌≡◌, ℕ, zero, suc, ◌+◌, ◌*◌, ◌<◌, ◌==◌, Bool, true, false, not, List, [], ◌∷◌, ◌++◌, codes, decimal, take, drop, length, refl, sym, ap, ◌∙◌, arith, append_assoc, length-append, Option, Some}
+use Rattle.std.proofs.Common.{◌≡◌, ℕ, zero, suc, ◌+◌, ◌*◌, ◌==◌, Bool, true, not, List, [], ◌∷◌, ◌++◌, codes, decimal, take, drop, length, refl, sym, ap, ◌∙◌, arith, append_assoc, length-append, Option, Some}
 use Rattle.std.specs.Prelude.{replicate, unwrap_or}
 use Rattle.std.proofs.Math.Seq.{take-append_seam}
-use Rattle.std.proofs.lemmas.Bool.Decides.{nat_tests}
 use Rattle.std.proofs.lemmas.List.{drop_at}
 use Rattle.std.specs.List.{prefix_len}
 use Rattle.std.specs.Option.{option_map_or}
@@ -20,11 +19,16 @@ use Rattle.bank_lines.proofs.NumeralLemmas.{lack_both}
 use Rattle.bank_lines.proofs.TraceHeadLemmas.{clock_lacks, counts, last_behind, last_is, none_in_timed, stamp_read}
 use Rattle.event_lines.specs.Aer.{aer_event_of}
 use Rattle.event_lines.specs.Kernel.{IsEvent, PrintedAer, aer_line, aer_text, device_text, event_head, event_of, flags_text, header_text, ras_before, severity_text}
+use Rattle.event_lines.specs.Memory.{extlog_error_of}
+use Rattle.event_lines.specs.MemoryKernel.{IsExtlog, IsMemory, PrintedExtlog, PrintedMemory, error_of_extlog, error_of_memory, extlog_line, memory_line, printed_extlog, printed_memory}
 use Rattle.event_lines.specs.SectionEvent.{section_bytes_of, section_head_of}
 use Rattle.event_lines.specs.SectionKernel.{IsSection, PrintedSection, head_of_section, printed_section, raw_text, section_line}
-use Rattle.event_lines.specs.Traced.{clock_place, event_behind, found_event, found_section, line_event_of, named_text, stamp_at}
-use Rattle.event_lines.specs.declared.traced.LineEvent.TheVariants.{Absent, Found, Section}
+use Rattle.event_lines.specs.Traced.{clock_place, controller_event, event_behind, found_event, found_memory, found_section, line_event_of, named_text, stamp_at}
+use Rattle.event_lines.specs.declared.traced.LineEvent.TheVariants.{Absent, Found, Memory, Section}
 use Rattle.event_lines.proofs.AerLemmas.{device_lacks_space, text_read}
+use Rattle.event_lines.proofs.ExtlogLemmas.{extlog_text_read}
+use Rattle.event_lines.proofs.MemoryLemmas.{controller_read}
+use Rattle.event_lines.proofs.PlaceLemmas.{no_space}
 use Rattle.event_lines.proofs.SectionEventLemmas.{bytes_are, ends_behind, ends_whole, head_read}
 
 -- ---- spaces
@@ -37,12 +41,6 @@ passes text =
 all_passed : (spaces : ℕ) (text : List ℕ) → without_spaces (replicate spaces 32 ++ text) ≡ without_spaces text
 all_passed zero text = refl
 all_passed (suc n) text = passes (replicate n 32 ++ text) ∙ all_passed n text
-
-no_space : (word rest : List ℕ) → Lacks 32 word → 0 < length word → without_spaces (word ++ rest) ≡ word ++ rest
-no_space [] rest lacks some = absurd (omega (arith, some))
-no_space (b ∷ word) rest lacks some =
-    let other : (b == 32) ≡ false = grind (arith, nat_tests, lacks.0) in
-    rw other refl
 
 -- ---- a line
 
@@ -194,3 +192,39 @@ module _ (tracer : Tracer) (front : List ℕ) (seconds micros spaces more : ℕ)
       (ends_behind head raw section_named
       (ends_behind (codes "non_standard_event: ") raw (replicate more 32 ++ printed_section p)
       (ends_behind (replicate more 32) raw (printed_section p) (ends_whole p within))))
+
+-- ---- memory errors
+
+module _ (tracer : Tracer) (front : List ℕ) (seconds micros spaces more : ℕ) (p : PrintedMemory)
+    (is : IsFront front seconds micros) (within : IsMemory p) where
+  abbrev memory_named : List ℕ
+  memory_named = codes "mc_event: " ++ (replicate more 32 ++ printed_memory p)
+
+  memory_begins : (t : Tracer) → without_system (without_spaces (ras_before t ++ memory_named)) ≡ memory_named
+  memory_begins trace_pipe = refl
+  memory_begins trace_cmd = refl
+  memory_begins perf = refl
+
+  pub memory_read : line_event_of (memory_line (event_head tracer front seconds micros spaces) more p)
+      ≡ Memory (record { stamp = 1000000 * seconds + micros; error = error_of_memory p })
+  memory_read =
+      event_at tracer front seconds micros spaces is memory_named memory_begins
+      ∙ ap (controller_event (Some (1000000 * seconds + micros))) (all_passed more (printed_memory p))
+      ∙ controller_read p within (Some (1000000 * seconds + micros))
+
+module _ (tracer : Tracer) (front : List ℕ) (seconds micros spaces more : ℕ) (p : PrintedExtlog)
+    (is : IsFront front seconds micros) (within : IsExtlog p) where
+  abbrev extlog_named : List ℕ
+  extlog_named = codes "extlog_mem_event: " ++ (replicate more 32 ++ printed_extlog p)
+
+  extlog_begins : (t : Tracer) → without_system (without_spaces (ras_before t ++ extlog_named)) ≡ extlog_named
+  extlog_begins trace_pipe = refl
+  extlog_begins trace_cmd = refl
+  extlog_begins perf = refl
+
+  pub extlog_read : line_event_of (extlog_line (event_head tracer front seconds micros spaces) more p)
+      ≡ Memory (record { stamp = 1000000 * seconds + micros; error = error_of_extlog p })
+  extlog_read =
+      event_at tracer front seconds micros spaces is extlog_named extlog_begins
+      ∙ ap (λ (text : List ℕ). found_memory (Some (1000000 * seconds + micros)) (extlog_error_of text)) (all_passed more (printed_extlog p))
+      ∙ ap (found_memory (Some (1000000 * seconds + micros))) (extlog_text_read p within)

@@ -24,11 +24,11 @@ use Rattle.event_lines.proofs.FlagLemmas.{joined_lack, words_split}
 
 -- ---- bytes: a test of all 256
 
-abbrev all_below : ℕ → (ℕ → Bool) → Bool
+abbrev pub all_below : ℕ → (ℕ → Bool) → Bool
 all_below zero test = true
 all_below (suc n) test = test n && all_below n test
 
-below : (n b : ℕ) (test : ℕ → Bool) → all_below n test ≡ true → b < n → test b ≡ true
+pub below : (n b : ℕ) (test : ℕ → Bool) → all_below n test ≡ true → b < n → test b ≡ true
 below zero b test all less = absurd (omega (arith, less))
 below (suc n) b test all less = by (b == n) (test n) refl refl all (below n b test)
   where
@@ -40,7 +40,7 @@ below (suc n) b test all less = by (b == n) (test n) refl refl all (below n b te
         more rest (omega (arith, less, other))
     by same false is here rest more = absurd cc
 
-abbrev is_read : Option ℕ → ℕ → Bool
+abbrev pub is_read : Option ℕ → ℕ → Bool
 is_read None b = false
 is_read (Some n) b = n == b
 
@@ -53,15 +53,15 @@ is_fine b = is_read (byte_of (two_digits b)) b && lacks_both (two_digits b)
 all_fine : all_below 256 is_fine ≡ true
 all_fine = refl
 
-and_left : (a b : Bool) → (a && b) ≡ true → a ≡ true
+pub and_left : (a b : Bool) → (a && b) ≡ true → a ≡ true
 and_left true b is = refl
 and_left false b is = absurd cc
 
-and_right : (a b : Bool) → (a && b) ≡ true → b ≡ true
+pub and_right : (a b : Bool) → (a && b) ≡ true → b ≡ true
 and_right true b is = is
 and_right false b is = absurd cc
 
-read_is : (o : Option ℕ) (b : ℕ) → is_read o b ≡ true → o ≡ Some b
+pub read_is : (o : Option ℕ) (b : ℕ) → is_read o b ≡ true → o ≡ Some b
 read_is None b is = absurd cc
 read_is (Some n) b is = let same : n ≡ b = grind (arith, nat_tests, is) in ap Some same
 

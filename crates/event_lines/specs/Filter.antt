@@ -6,10 +6,11 @@ use Rattle.apei_sources.specs.Blocks.{block_of}
 use Rattle.ras_klog.specs.Reading.{provided, read_then}
 use Rattle.line_filters.specs.Filter.{Filter}
 use Rattle.ras_script.specs.declared.line.LineRefused.{LineRefused}
-use Rattle.block_lines.specs.Blocks.{section_block_bytes}
+use Rattle.block_lines.specs.Blocks.{block_bytes, section_block_bytes}
 use Rattle.block_lines.specs.Filter.{BlockProgress}
 use Rattle.block_lines.specs.LogLines.{report_log_line}
 use Rattle.block_lines.specs.Reports.{Reporting, no_reports, reporting_after, with_source}
+use Rattle.block_lines.specs.declared.memory.MemoryError.{MemoryError}
 use Rattle.block_lines.specs.Texts.{blocks_text_at, rest_text, source_block_text, unread_report_line}
 use Rattle.event_lines.specs.Aer.{cper_severity}
 use Rattle.event_lines.specs.PcieBytes.{pcie_section_bytes, pcie_type}
@@ -18,9 +19,10 @@ use Rattle.event_lines.specs.Traced.{line_event_of}
 use Rattle.event_lines.specs.declared.aer.AerEvent.{AerEvent}
 use Rattle.event_lines.specs.declared.filter.TheConstants.{TRACE_SOURCE}
 use Rattle.event_lines.specs.declared.traced.FoundEvent.{FoundEvent}
+use Rattle.event_lines.specs.declared.traced.FoundMemory.{FoundMemory}
 use Rattle.event_lines.specs.declared.traced.FoundSection.{FoundSection}
 use Rattle.event_lines.specs.declared.traced.LineEvent.{LineEvent}
-use Rattle.event_lines.specs.declared.traced.LineEvent.TheVariants.{Absent, Unread, Found, Section}
+use Rattle.event_lines.specs.declared.traced.LineEvent.TheVariants.{Absent, Unread, Found, Section, Memory}
 
 -- ---- an event
 
@@ -43,6 +45,14 @@ section_block_of found line =
 abbrev pub section_event_text : Reporting → FoundSection → List ℕ → List ℕ
 section_event_text r found block = source_block_text r TRACE_SOURCE found.stamp block
 
+-- the block of a memory error, as a report of the log with this error alone has it
+abbrev pub memory_block : MemoryError → List ℕ
+memory_block error = block_bytes error.severity (error ∷ [])
+
+-- the line of this block, after a table if one is due
+abbrev pub memory_event_text : Reporting → FoundMemory → List ℕ
+memory_event_text r found = source_block_text r TRACE_SOURCE found.stamp (memory_block found.error)
+
 -- after a line with an event: the reports of the log stay as they are
 abbrev pub after_event : BlockProgress → BlockProgress
 after_event p = record { reports = with_source p.reports TRACE_SOURCE; taken = p.taken + 1 }
@@ -56,6 +66,7 @@ event_text_by p line (Found found) = event_text p.reports found
 event_text_by p line (Section found) =
     option_map_or (section_event_text p.reports found) (section_block_of found line)
     (unread_report_line (p.taken + 1) ++ 10 ∷ [])
+event_text_by p line (Memory found) = memory_event_text p.reports found
 
 abbrev pub after_by : BlockProgress → List ℕ → LineEvent → BlockProgress
 after_by p line Absent =
@@ -64,6 +75,7 @@ after_by p line Unread = record p { taken = p.taken + 1 }
 after_by p line (Found found) = after_event p
 after_by p line (Section found) =
     option_map_or (λ block. after_event p) (section_block_of found line) (record p { taken = p.taken + 1 })
+after_by p line (Memory found) = after_event p
 
 -- the text of a line, and the state of the filter after it
 abbrev pub report_text_at : BlockProgress → List ℕ → List ℕ

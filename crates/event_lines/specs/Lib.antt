@@ -2,8 +2,10 @@ pub mod Flags
 pub mod Aer
 pub mod PcieBytes
 pub mod SectionEvent
+pub mod Memory
 pub mod Traced
 pub mod Filter
 pub mod Kernel
 pub mod SectionKernel
+pub mod MemoryKernel
 pub mod ReadBack

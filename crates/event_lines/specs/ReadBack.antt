@@ -1,4 +1,4 @@
--- What the section, the block and the line of an event are read as.
+-- What the section, the block and the line of an event are read as, and the block and the line of a memory error.
 use Rattle.std.specs.Prelude.{ℕ, ◌+◌, ◌/◌, List, Some}
 use Rattle.cper_pcie.specs.declared.section.PcieSection.{PcieSection}
 use Rattle.ras_facts.specs.declared.name.Name.{Name}
@@ -9,11 +9,12 @@ use Rattle.ras_script.specs.declared.line.Line.TheVariants as asks
 use Rattle.bank_lines.specs.declared.log_line.TheConstants.{MICROSECONDS}
 use Rattle.block_lines.specs.Blocks.{section_entry_bytes}
 use Rattle.event_lines.specs.Aer.{cper_severity}
-use Rattle.event_lines.specs.Filter.{event_block}
+use Rattle.event_lines.specs.Filter.{event_block, memory_block}
 use Rattle.event_lines.specs.PcieBytes.{correctable_by, pcie_section_bytes, pcie_type, uncorrectable_by}
 use Rattle.event_lines.specs.declared.aer.AerEvent.{AerEvent}
 use Rattle.event_lines.specs.declared.filter.TheConstants.{TRACE_SOURCE}
 use Rattle.event_lines.specs.declared.traced.FoundEvent.{FoundEvent}
+use Rattle.event_lines.specs.declared.traced.FoundMemory.{FoundMemory}
 
 -- the PCI Express section of an event: its function, without ids, and its status
 abbrev pub section_told : AerEvent → PcieSection
@@ -42,3 +43,14 @@ event_asked boot began found =
 -- the name under which it counts
 abbrev pub event_name : ℕ → FoundEvent → Name
 event_name boot found = names.Block boot TRACE_SOURCE found.stamp
+
+-- ---- a memory error
+
+-- what its line asks of a run, in this boot, which began at this second
+abbrev pub memory_asked : ℕ → ℕ → FoundMemory → Line
+memory_asked boot began found =
+    asks.Report (Block boot (began + found.stamp / MICROSECONDS) TRACE_SOURCE found.stamp (memory_block found.error))
+
+-- the name under which it counts
+abbrev pub memory_name : ℕ → FoundMemory → Name
+memory_name boot found = names.Block boot TRACE_SOURCE found.stamp

@@ -3,16 +3,16 @@
 ghost use Rattle.std.specs.Prelude.{◌≡◌, ◌≤◌, ◌++◌, IfOk, OnErr, OnOk};
 ghost use Rattle.std.specs.Option.{option_map};
 ghost use Rattle.bank_lines.specs.declared.log_line.TheConstants.{LAST_SECOND};
-ghost use Rattle.event_lines.specs.Filter.{after_event, after_line, event_text, report_filter};
+ghost use Rattle.event_lines.specs.Filter.{after_event, after_line, event_text, memory_event_text, report_filter};
 ghost use Rattle.event_lines.specs.Filter.{after_by, event_text_by, report_text_at, reports_make, section_block_of};
 ghost use Rattle.event_lines.specs.declared.traced.LineEvent.TheVariants.{Section};
 ghost use Rattle.ras_script.specs.declared.reader.TheConstants.{LONGEST_SCRIPT};
 
 use crate::pcie_bytes::{PCIE_TYPE, push_pcie_section};
 use crate::section_event::section_bytes;
-use crate::traced::{FoundEvent, FoundSection, LineEvent, line_event};
+use crate::traced::{FoundEvent, FoundMemory, FoundSection, LineEvent, line_event};
 use apei_sources::read_block;
-use block_lines::{BlockFilter, push_section_block};
+use block_lines::{BlockFilter, push_error_block, push_section_block};
 use line_filters::LineFilter;
 use ras_base::NoMemory;
 use ras_script::LineRefused;
@@ -68,6 +68,7 @@ impl ReportFilter {
             LineEvent::Unread => self.log.take_unread(text),
             LineEvent::Found(found) => self.take_event(alloc, found, text),
             LineEvent::Section(found) => self.take_section(alloc, found, line, text),
+            LineEvent::Memory(found) => self.take_memory(alloc, found, text),
         }
     }
 
@@ -117,6 +118,27 @@ impl ReportFilter {
                 .take_block(alloc, TRACE_SOURCE, found.stamp, &block, text),
             None => self.log.take_unread(text),
         }
+    }
+}
+
+impl ReportFilter {
+    // Takes a line with this memory error, and appends the line of the error's block.
+    fn take_memory(
+        &mut self,
+        alloc: Global,
+        found: FoundMemory,
+        text: &mut Vec<u8>,
+    ) -> Result<(), NoMemory>
+        requires { self.old.taken ≤ LONGEST_SCRIPT }
+        ensures text { OnOk result (text.new.items
+            ≡ text.old.items ++ memory_event_text self.old.reports found) }
+        ensures after { OnOk result (self.new ≡ after_event self.old) }
+        ensures kept { OnErr result (self.new.taken ≡ self.old.taken) }
+    {
+        let mut block = Vec::new(alloc);
+        push_error_block(&mut block, found.error)?;
+        self.log
+            .take_block(alloc, TRACE_SOURCE, found.stamp, &block, text)
     }
 }
 

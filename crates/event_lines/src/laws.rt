@@ -1,28 +1,39 @@
 //! What the filter reads and makes.
 
-ghost use Rattle.std.specs.Prelude.{◌≡◌, ◌+◌, ◌*◌, ◌<◌, ◌≤◌, ◌^◌, ℕ, List, [], ◌∷◌, Some, Ok, false};
-ghost use Rattle.std.specs.List.{AllByRecursion};
+ghost use Rattle.std.specs.Prelude.{◌≡◌, ◌+◌, ◌*◌, ◌<◌, ◌≤◌, ◌^◌, ℕ, List, [], ◌∷◌, ◌++◌, codes};
+ghost use Rattle.std.specs.Prelude.{nat_eq, Option, None, Some, Ok, false};
+ghost use Rattle.std.specs.List.{AllByRecursion, ends_with};
 ghost use Rattle.apei_sources.specs.Blocks.{block_of};
 ghost use Rattle.apei_sources.specs.Entries.{entry_data, entry_guid, entry_severity};
 ghost use Rattle.cper_pcie.specs.Section.{pcie_guid, pcie_of};
+ghost use Rattle.cper_sections.specs.Sections.{section_of};
+ghost use Rattle.cper_sections.specs.declared.sections.Section.TheVariants as sections;
 ghost use Rattle.ras_facts.specs.Names.{same_name};
 ghost use Rattle.ras_script.specs.Line.{line_of};
 ghost use Rattle.ras_script.specs.LineLaws.{line_text};
+ghost use Rattle.bank_lines.specs.Parts.{value_after};
 ghost use Rattle.bank_lines.specs.TraceHeads.{IsFront, Tracer};
 ghost use Rattle.bank_lines.specs.declared.log_line.TheConstants.{LAST_SECOND};
-ghost use Rattle.block_lines.specs.Blocks.{made_status};
+ghost use Rattle.block_lines.specs.Blocks.{error_entry_bytes, made_status};
 ghost use Rattle.block_lines.specs.Filter.{block_filter};
+ghost use Rattle.block_lines.specs.ReadBack.{IsError};
+ghost use Rattle.block_lines.specs.declared.memory.MemoryError.{MemoryError};
 ghost use Rattle.event_lines.specs.Aer.{aer_event_of, cper_severity};
-ghost use Rattle.event_lines.specs.Filter.{event_block, report_filter};
+ghost use Rattle.event_lines.specs.Filter.{event_block, memory_block, report_filter};
 ghost use Rattle.event_lines.specs.Kernel.{IsEvent, PrintedAer, aer_line, aer_text, event_head, event_of};
+ghost use Rattle.event_lines.specs.Memory.{behind_controller, detail_in};
+ghost use Rattle.event_lines.specs.MemoryKernel.{IsExtlog, IsMemory, PrintedExtlog, PrintedMemory, error_of_extlog};
+ghost use Rattle.event_lines.specs.MemoryKernel.{error_of_memory, extlog_line, memory_line};
 ghost use Rattle.event_lines.specs.PcieBytes.{pcie_section_bytes};
-ghost use Rattle.event_lines.specs.ReadBack.{event_asked, event_entry, event_name, section_told};
+ghost use Rattle.event_lines.specs.ReadBack.{event_asked, event_entry, event_name, memory_asked, memory_name};
+ghost use Rattle.event_lines.specs.ReadBack.{section_told};
 ghost use Rattle.event_lines.specs.SectionEvent.{section_bytes_of};
 ghost use Rattle.event_lines.specs.SectionKernel.{IsSection, PrintedSection, head_of_section, section_line};
-ghost use Rattle.event_lines.specs.Traced.{line_event_of};
+ghost use Rattle.event_lines.specs.Traced.{controller_event, line_event_of};
 ghost use Rattle.event_lines.specs.declared.aer.AerEvent.{AerEvent};
 ghost use Rattle.event_lines.specs.declared.traced.FoundEvent.{FoundEvent};
-ghost use Rattle.event_lines.specs.declared.traced.LineEvent.TheVariants.{Absent, Found, Section};
+ghost use Rattle.event_lines.specs.declared.traced.FoundMemory.{FoundMemory};
+ghost use Rattle.event_lines.specs.declared.traced.LineEvent.TheVariants.{Absent, Found, Memory, Section, Unread};
 
 /// The event of a PCI Express error, as the kernel prints it, is read as that event, whichever bits
 /// of the status are set: by its text, and behind what each tracer prints before it, with the time
@@ -45,6 +56,29 @@ pub fn printed_events_are_read()
         (p : PrintedSection) → IsFront front seconds micros → IsSection p
         → section_bytes_of (head_of_section p)
         (section_line (event_head tracer front seconds micros spaces) more p) ≡ Some p.bytes }
+
+    // The memory errors that the firmware reported, whatever the label of a module and the text of a
+    // unit are.
+    ensures memory { (tracer : Tracer) (front : List ℕ) (seconds micros spaces more : ℕ)
+        (p : PrintedMemory) → IsFront front seconds micros → IsMemory p
+        → line_event_of (memory_line (event_head tracer front seconds micros spaces) more p)
+        ≡ Memory (record { stamp = 1000000 * seconds + micros; error = error_of_memory p }) }
+    ensures extlog { (tracer : Tracer) (front : List ℕ) (seconds micros spaces more : ℕ)
+        (p : PrintedExtlog) → IsFront front seconds micros → IsExtlog p
+        → line_event_of (extlog_line (event_head tracer front seconds micros spaces) more p)
+        ≡ Memory (record { stamp = 1000000 * seconds + micros; error = error_of_extlog p }) }
+{}
+
+/// Which events of a memory controller are no errors of the firmware: another driver's event says
+/// nothing, whatever is before its last ` (mc:`, and an event that is cut before the parenthesis at
+/// its end can't be read.
+pub fn other_controller_events_are_no_errors()
+    ensures driver { (stamp : Option ℕ) (front controller : List ℕ)
+        → behind_controller controller ≡ None
+        → value_after (codes "APEI location: ") (detail_in controller) ≡ None
+        → controller_event stamp ((front ++ (codes " (mc:" ++ controller)) ++ codes ")") ≡ Absent }
+    ensures cut { (stamp : Option ℕ) (text : List ℕ) → ends_with nat_eq text (codes ")") ≡ false
+        → controller_event stamp text ≡ Unread }
 {}
 
 /// What is made of an event is read back: its section as its function and its status, its block as
@@ -65,6 +99,36 @@ pub fn made_sections_are_read_back()
     // Two events with different time stamps have different names.
     ensures names { (boot : ℕ) (one other : FoundEvent) → ¬ (one.stamp ≡ other.stamp)
         → same_name (event_name boot one) (event_name boot other) ≡ false }
+{}
+
+/// What is made of a memory error is read back: its block as one entry with the error's severity and
+/// a memory section of its address, mask, location and type, its line as a report of this block.
+pub fn made_memory_blocks_are_read_back()
+    ensures block { (error : MemoryError) → IsError error
+        → block_of (memory_block error) ≡ Ok (record {
+          status = made_status error.severity 1;
+          entries = error_entry_bytes error ∷ [];
+        }) }
+    ensures entry { (error : MemoryError) → IsError error
+        → (entry_severity (error_entry_bytes error) ≡ error.severity)
+        × (section_of (entry_guid (error_entry_bytes error)) (entry_data (error_entry_bytes error))
+        ≡ Ok (sections.Memory (record {
+          physical = error.physical;
+          mask = error.mask;
+          node = error.location.node;
+          card = error.location.card;
+          «module» = error.location.«module»;
+          bank = None;
+          row = None;
+          rank = None;
+          kind = error.kind;
+        }))) }
+    ensures line { (boot began : ℕ) (found : FoundMemory) → boot < 2 ^ 64 → began ≤ LAST_SECOND
+        → found.stamp < 2 ^ 64 → IsError found.error
+        → line_of (line_text (memory_asked boot began found)) ≡ Ok (memory_asked boot began found) }
+    // Two errors with different time stamps have different names.
+    ensures names { (boot : ℕ) (one other : FoundMemory) → ¬ (one.stamp ≡ other.stamp)
+        → same_name (memory_name boot one) (memory_name boot other) ≡ false }
 {}
 
 /// Over lines without an event the filter prints what the filter of the log alone prints.

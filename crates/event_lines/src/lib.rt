@@ -9,10 +9,15 @@ mod aer;
 mod filter;
 mod flags;
 mod laws;
+mod memory_event;
+mod memory_words;
 mod pcie_bytes;
 mod section_event;
 mod traced;
 
 pub use aer::{AerDevice, AerEvent, AerSeverity, TlpHeader};
 pub use filter::{ReportFilter, TRACE_SOURCE};
-pub use laws::{logs_are_filtered_as_before, made_sections_are_read_back, printed_events_are_read};
+pub use laws::{
+    logs_are_filtered_as_before, made_memory_blocks_are_read_back, made_sections_are_read_back,
+    other_controller_events_are_no_errors, printed_events_are_read,
+};

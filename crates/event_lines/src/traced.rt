@@ -1,13 +1,14 @@
 //! Finds the event of a line, where tracers print it.
 
 ghost use Rattle.std.specs.Prelude.{◌≡◌, ◌+◌, ◌≤◌, length, IfSome};
-ghost use Rattle.event_lines.specs.Traced.{clock_place, event_behind, found_event, found_section};
-ghost use Rattle.event_lines.specs.Traced.{line_event_of};
-ghost use Rattle.event_lines.specs.Traced.{named_text, stamp_at};
+ghost use Rattle.event_lines.specs.Traced.{clock_place, controller_event, event_behind, found_event};
+ghost use Rattle.event_lines.specs.Traced.{found_memory, found_section, line_event_of, named_text, stamp_at};
 
 use crate::aer::{AerEvent, aer_event};
+use crate::memory_event::{controller_error, controller_of, detail_in, extlog_error};
 use crate::section_event::{SectionHead, section_head};
 use bank_lines::{is_count, last_word, mark_place, stamp_of, value_after, without_spaces};
+use block_lines::MemoryError;
 
 /// An event, and the time stamp of its line in microseconds since the boot.
 #[derive(Clone, Copy, Debug, PartialEq, Eq)]
@@ -23,10 +24,18 @@ pub(crate) struct FoundSection {
     pub(crate) head: SectionHead,
 }
 
+/// A memory error that the firmware reported, and the time stamp of its line.
+#[derive(Clone, Copy, Debug, PartialEq, Eq)]
+pub(crate) struct FoundMemory {
+    pub(crate) stamp: u64,
+    pub(crate) error: MemoryError,
+}
+
 /// Which event a line has.
 #[derive(Clone, Copy, Debug, PartialEq, Eq)]
 pub(crate) enum LineEvent {
-    // No name of an event is where tracers print it.
+    // No name of an event is where tracers print it, or another driver than the firmware's made the
+    // event of a memory controller.
     Absent,
     // An event that can't be read, or has no time stamp.
     Unread,
@@ -34,6 +43,8 @@ pub(crate) enum LineEvent {
     Found(FoundEvent),
     // A section, whose bytes weren't read yet.
     Section(FoundSection),
+    // A memory error.
+    Memory(FoundMemory),
 }
 
 // Returns which event a line has. Allocates nothing.
@@ -87,8 +98,27 @@ fn event_behind(stamp: Option<u64>, text: &[u8]) -> LineEvent
     if let Some(told) = value_after(b"aer_event: ", text) {
         return found_event(stamp, aer_event(without_spaces(told)));
     }
-    match value_after(b"non_standard_event: ", text) {
-        Some(told) => found_section(stamp, section_head(without_spaces(told))),
+    if let Some(told) = value_after(b"non_standard_event: ", text) {
+        return found_section(stamp, section_head(without_spaces(told)));
+    }
+    if let Some(told) = value_after(b"mc_event: ", text) {
+        return controller_event(stamp, without_spaces(told));
+    }
+    match value_after(b"extlog_mem_event: ", text) {
+        Some(told) => found_memory(stamp, extlog_error(without_spaces(told))),
+        None => LineEvent::Absent,
+    }
+}
+
+// Returns which event the text of a memory controller's event is.
+fn controller_event(stamp: Option<u64>, text: &[u8]) -> LineEvent
+    ensures { result ≡ controller_event stamp text.now }
+{
+    let Some(controller) = controller_of(text) else {
+        return LineEvent::Unread;
+    };
+    match value_after(b"APEI location: ", detail_in(controller)) {
+        Some(places) => found_memory(stamp, controller_error(text, controller, places)),
         None => LineEvent::Absent,
     }
 }
@@ -109,6 +139,16 @@ fn found_section(stamp: Option<u64>, head: Option<SectionHead>) -> LineEvent
 {
     match (stamp, head) {
         (Some(stamp), Some(head)) => LineEvent::Section(FoundSection { stamp, head }),
+        _ => LineEvent::Unread,
+    }
+}
+
+// Returns a memory error with its time stamp, if both were read.
+fn found_memory(stamp: Option<u64>, error: Option<MemoryError>) -> LineEvent
+    ensures { result ≡ found_memory stamp error }
+{
+    match (stamp, error) {
+        (Some(stamp), Some(error)) => LineEvent::Memory(FoundMemory { stamp, error }),
         _ => LineEvent::Unread,
     }
 }

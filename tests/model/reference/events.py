@@ -2,11 +2,12 @@
 import re
 import uuid
 
+from reference import memory
 from reference.base import check
 from reference.kernel import LAST_SECOND_OF_TRACE, SECOND, STAMP
 
 HEX = rb"([0-9a-fA-F]{1,16})"
-NAMED = re.compile(rb" *(?:ras:)?(aer|non_standard)_event: +(.*)|(?!)", re.S)
+NAMED = re.compile(rb" *(?:ras:)?(aer|non_standard|mc|extlog_mem)_event: +(.*)|(?!)", re.S)
 AER = re.compile(
     rb"%s:%s:%s\.([0-9]{1,20}) PCIe Bus Error: severity=(Corrected|Fatal|Uncorrected, non-fatal), ([^,]*), TLP Header=(.*)"
     % (HEX, HEX, HEX), re.S
@@ -93,8 +94,11 @@ def raw_section(text):
     return OF_GHES[at_most(severity, 3, 10)], uuid.UUID(kind.decode()).bytes, section
 
 
+READERS = {b"aer": pcie_section, b"non_standard": raw_section, b"mc": memory.of_controller, b"extlog_mem": memory.of_log}
+
+
 def event_in(line):
-    """The time stamp of a line's event, and its severity, type and section; none if the line has no event.
+    """The time stamp of a line's event, and its severity, type and section; none if the line has no event that counts.
 
     The event's name is behind the clock: the line's first colon before a space ends a word of at least four signs.
     """
@@ -103,7 +107,8 @@ def event_in(line):
     found = NAMED.fullmatch(b" " + rest)
     if not found or not re.fullmatch(rb"(?=.{4})[0-9.]*[0-9][0-9.]*", clock):
         return None
+    if found[1] == b"mc" and memory.is_of_another_driver(found[2]):
+        return None
     stamp = STAMP.fullmatch(clock + b":")
     check(stamp and int(stamp[1]) <= LAST_SECOND_OF_TRACE)
-    section = pcie_section(found[2]) if found[1] == b"aer" else raw_section(found[2])
-    return int(stamp[1]) * SECOND + int(stamp[2]), *section
+    return int(stamp[1]) * SECOND + int(stamp[2]), *READERS[found[1]](found[2])

@@ -1,0 +1,86 @@
+"""The events of memory errors that the firmware reported: `mc_event` of ghes_edac, and `extlog_mem_event`."""
+import re
+
+from reference.base import check
+
+MEMORY = bytes.fromhex("1411bca5646fde4eb8633e83ed7c83b1")
+SEVERITIES = {b"Uncorrected": 0, b"Fatal": 1, b"Corrected": 2}
+WORDS = {b"recoverable": 0, b"fatal": 1, b"corrected": 2}
+# The kernel's names of the types of errors, from 1 on.
+KINDS = (
+    b"no error", b"single-bit ECC", b"multi-bit ECC", b"single-symbol chipkill ECC", b"multi-symbol chipkill ECC",
+    b"master abort", b"target abort", b"parity error", b"watchdog timeout", b"invalid address", b"mirror Broken",
+    b"memory sparing", b"scrub corrected error", b"scrub uncorrected error", b"physical memory map-out event",
+)  # fmt: skip
+HEX = rb"([0-9a-fA-F]{1,16})"
+# What a controller's event has in its parentheses, up to its driver's detail.
+CONTROLLER = re.compile(rb"[^ ]* [^ ]* ([^ ]*) ([^ ]*) [^ ]* APEI location: (.*)", re.S)
+FRONT = re.compile(rb"1 ([^ ]*) error: (.*)", re.S)
+LOG = re.compile(
+    rb"\{[^}]*\} ([^ ]*) error: ((?:(?! physical addr: ).)*) physical addr: %s \(mask lsb: %s\) (.*FRU: .*)" % (HEX, HEX), re.S
+)
+GRAINS = {b"%d" % (1 << bit): 1 << bit for bit in range(31)} | {b"-2147483648": 1 << 31}
+ALL = 2**64
+
+
+def little(value, size):
+    """A number as it is in memory; 0 if it isn't known."""
+    return (value or 0).to_bytes(size, "little")
+
+
+def place_of(text):
+    """The node, the card and the module with which a text begins, each if it is there."""
+    place = []
+    for name in (b"node:", b"card:", b"module:"):
+        value = None
+        if text.startswith(name):
+            word, _, text = text[len(name) :].lstrip(b" ").partition(b" ")
+            value = int(word) if re.fullmatch(rb"[0-9]{1,20}", word) and int(word) < 65_536 else None
+        place.append(value)
+    return place
+
+
+def section(severity, address, mask, place, name):
+    """The severity, the type and the section of an error."""
+    kind = KINDS.index(name) + 1 if name in KINDS else None
+    bits = zip((1, 2, 3, 4, 5, 14), (address, mask, *place, kind), strict=True)
+    valid = sum(1 << bit for bit, value in bits if value is not None)
+    front = little(valid, 8) + bytes(8) + little(address, 8) + little(mask, 8)
+    return severity, MEMORY, front + b"".join(little(it, 2) for it in place) + bytes(34) + little(kind, 1) + bytes(7)
+
+
+def in_parentheses(text):
+    """What a controller's event has in its last parentheses."""
+    _, mark, controller = text.rpartition(b" (mc:")
+    check(mark and controller.endswith(b")"))
+    return controller[:-1]
+
+
+def is_of_another_driver(text):
+    """Whether another driver than the firmware's made this event."""
+    controller = in_parentheses(text)
+    return not b"".join(controller.split(b" ", 5)[5:]).startswith(b"APEI location: ")
+
+
+def of_controller(text):
+    """The severity, the type and the section of the firmware's event of a memory controller."""
+    found, front = CONTROLLER.fullmatch(in_parentheses(text)), FRONT.fullmatch(text)
+    check(found and front)
+    address, grain = re.fullmatch(rb"address:0x" + HEX, found[1]), found[2].removeprefix(b"grain:")
+    grain = GRAINS.get(grain.lstrip(b"0") if len(grain) <= 20 else b"") if found[2] != grain else None
+    check(address and grain)
+    name, on, _ = front[2].partition(b" on ")
+    mask = ALL - grain if grain > 1 else None
+    severity = SEVERITIES.get(front[1], 3)
+    return section(severity, int(address[1], 16) or None, mask, place_of(found[3]), name if on else b"")
+
+
+def of_log(text):
+    """The severity, the type and the section of an event of the extended log."""
+    found = LOG.fullmatch(text)
+    check(found)
+    severity, name, address, bit, places = found.groups()
+    address, bit = int(address, 16), int(bit, 16)
+    check(bit <= 64 or bit == 255)
+    mask = ALL - (1 << bit) if bit <= 64 else None
+    return section(WORDS.get(severity, 3), address if address < ALL - 1 else None, mask, place_of(places), name)
