@@ -5,6 +5,7 @@
 
 mod board_file;
 mod faults;
+mod kernel;
 mod laws;
 mod notes;
 mod store_file;
@@ -12,6 +13,7 @@ mod system;
 
 pub use board_file::{open_files, read_file};
 pub use faults::counted;
+pub use kernel::{Held, INLINE_LENGTH, Kernel, KernelInput, Note, Place, Refusal, Way};
 pub use laws::system_laws;
 pub use notes::Notes;
 pub use store_file::replace_store;

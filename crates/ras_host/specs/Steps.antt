@@ -3,6 +3,7 @@ pub mod BoardLaws
 pub mod KeptDevice
 pub mod Listed
 pub mod Once
+pub mod OverKernel
 pub mod Settled
 pub mod Telling
 pub mod Written

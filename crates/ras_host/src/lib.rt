@@ -3,9 +3,10 @@
 //!
 //! `journal` opens, reads and syncs the journal's files, `kept` has the device and writes its record
 //! store to the store's file, and `file_board` writes the journal's files, prints, and counts the
-//! calls that failed: all three are proved over every modelled system. `real_system` and `real_input` make the calls of the
-//! operating system, whose effects no clause covers, and `names` checks the file that a name refers
-//! to before a call is made.
+//! calls that failed: all three are proved over every modelled system. `over_kernel` is such a system
+//! over every modelled kernel: it decides which calls of the operating system are made, and `names`
+//! checks the files that the names refer to. `over_input` is the input over the kernel's read.
+//! `real_kernel` and `real_input` make the calls, whose effects no clause covers.
 #![tactic(auto)]
 
 mod faults;
@@ -15,14 +16,18 @@ mod journal;
 mod kept;
 mod listed;
 mod names;
+mod over_input;
+mod over_kernel;
 mod reading;
 mod real_input;
-mod real_system;
+mod real_kernel;
 mod saved;
 mod uses;
 
 pub use file_board::FileBoard;
 pub use file_source::FileSource;
-pub use real_input::RealInput;
-pub use real_system::RealSystem;
+pub use over_input::OverInput;
+pub use over_kernel::OverKernel;
+pub use real_input::{RealInput, StandardInput};
+pub use real_kernel::{RealKernel, RealSystem};
 pub use uses::{Alone, Found, Reading, Use};

@@ -1,46 +1,34 @@
 //! The standard input of the process. No clause covers its bytes.
-ghost use Rattle.std.specs.Prelude.{◌≡◌, ◌≤◌, length, IfOk, None};
+ghost use Rattle.std.specs.Prelude.{◌≡◌, None};
 
-use board_core::Failed;
-use host_system::{Input, counted};
-use std::io::{ErrorKind, Read};
+use crate::over_input::OverInput;
+use crate::real_kernel::refusal;
+use host_system::{KernelInput, Refusal};
+use std::io::Read;
 
-/// The standard input of the process, which isn't modelled.
+/// The call on the standard input of the process, which isn't modelled.
 #[derive(Drop)]
-pub struct RealInput {
+pub struct StandardInput {
     rt: HostRuntime,
-    faults: u64,
 }
 
-impl RealInput {
+/// The standard input of the process.
+pub type RealInput = OverInput<StandardInput>;
+
+impl OverInput<StandardInput> {
     /// Returns the process's standard input, from its present position on.
     pub fn new(rt: HostRuntime) -> RealInput
-        ensures process { result.rt ≡ rt }
+        ensures process { result.input.rt ≡ rt }
         ensures quiet { result.faults ≡ 0 }
     {
-        RealInput { rt, faults: 0 }
-    }
-
-    // Reads again if a signal interrupted the read.
-    fn read_next(&self, buf: &mut [u8]) -> Result<usize, Failed>
-        ensures { IfOk result (λ n. n ≤ length buf.old) }
-    {
-        for _ in 0..u64::MAX {
-            match self.rt.stdin().read(buf) {
-                Err(error) if error.kind() == ErrorKind::Interrupted => {}
-                answer => return answer.map_err(|_| Failed),
-            }
-        }
-        Err(Failed)
+        OverInput::over(StandardInput { rt })
     }
 }
 
-impl Input for RealInput {
+impl KernelInput for StandardInput {
     ghost left = { λ _. None };
 
-    ghost faults = { λ s. s.faults };
-
-    fn read(&mut self, buf: &mut [u8]) -> Result<usize, Failed> {
-        counted(self.read_next(buf), &mut self.faults)
+    fn read(&mut self, buf: &mut [u8]) -> Result<usize, Refusal> {
+        self.rt.stdin().read(buf).map_err(refusal)
     }
 }

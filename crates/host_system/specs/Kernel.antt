@@ -1,0 +1,99 @@
+-- What one call of the operating system does, for the clauses of `Kernel`.
+use Rattle.std.specs.Prelude.{◌≡◌, ◌⊎◌, Option, None, Some, IfSome}
+use Rattle.std.specs.Fs.{metadata_len, file_type, IsSymlink}
+use Rattle.std.specs.Option.{option_map}
+use Rattle.std.specs.declared.fs.attrs.Metadata.{Metadata}
+use Rattle.host_system.specs.declared.kernel.Held.{Held}
+use Rattle.host_system.specs.declared.kernel.Held.TheVariants.{Kept, Opened}
+use Rattle.host_system.specs.declared.kernel.Note.{Note}
+use Rattle.host_system.specs.declared.kernel.Note.TheVariants.{Locked, Lost, Absent, Names}
+use Rattle.host_system.specs.declared.kernel.Place.{Place}
+use Rattle.host_system.specs.declared.kernel.Place.TheVariants.{Name}
+use Rattle.host_system.specs.declared.kernel.Refusal.{Refusal}
+use Rattle.host_system.specs.declared.kernel.Refusal.TheVariants.{Exists, NotPermitted, ReadOnly, Unsupported}
+use Rattle.host_system.specs.declared.system.FileName.{FileName}
+use Rattle.host_system.specs.declared.system.FileName.TheVariants.{Journal}
+use Rattle.host_system.specs.Folder.{FolderChange, opens, locks, loses, made, synced, synced_names}
+use Rattle.host_system.specs.FolderPast.{FolderPast, Did, IfTold, MayDo, HasFile, IsMissing, IsOpen, length_told}
+
+-- ---- what is found
+
+-- Nothing was found and the file with this name is missing, or its metadata was found, with its length.
+abbrev pub IsFound : FileName → Option Metadata → FolderPast → Type 0
+IsFound name found past = length_told name past ≡ option_map metadata_len found
+
+-- the same, where the name is one of the four
+abbrev pub IsFoundAt : Place → Option Metadata → FolderPast → Type 0
+IsFoundAt (Name name) found past = IsFound name found past
+IsFoundAt place found past = Unit {0}
+
+abbrev pub IsLink : Option Metadata → Type 0
+IsLink None = ⊥
+IsLink (Some metadata) = IsSymlink (file_type metadata)
+
+-- A name itself was found: its file, or a symlink, of which nothing more is said. Only a journal file is behind a
+-- symlink.
+abbrev pub IsFoundItself : Place → Option Metadata → FolderPast → Type 0
+IsFoundItself (Name (Journal file)) found past = IsLink found ⊎ IsFound (Journal file) found past
+IsFoundItself place found past = IsFoundAt place found past
+
+-- ---- which file a call is made on
+
+abbrev pub name_of : Held → FileName
+name_of (Kept name) = name
+name_of (Opened name) = name
+
+-- The calls before this one have prepared this change, if the kernel is modelled.
+abbrev pub IsPrepared : FolderChange → Option FolderPast → Option FolderChange → Type 0
+IsPrepared change None prepared = Unit {0}
+IsPrepared change (Some past) prepared = prepared ≡ Some change
+
+-- A file may be asked for: a name's file that is kept, or the file that was opened last, by this name.
+abbrev pub IsHeldBy : Held → Option FolderPast → Option FolderChange → Type 0
+IsHeldBy (Kept name) told prepared = Unit {0}
+IsHeldBy (Opened name) told prepared = IsPrepared (opens name) told prepared
+
+-- A file may be synced: one that is kept exists and is open.
+abbrev pub MaySync : Held → Option FolderPast → Option FolderChange → Type 0
+MaySync (Kept name) told prepared = IfSome told (HasFile name) × IfSome told (IsOpen name)
+MaySync (Opened name) told prepared = IsPrepared (opens name) told prepared
+
+-- ---- what a call that failed did
+
+-- Making a file failed. In a modelled folder nobody else makes files, so a file that is missing doesn't exist
+-- when it is made.
+abbrev pub FailsMake : FileName → Refusal → Option FolderPast → Option FolderPast → Type 0
+FailsMake name Exists old new = (old ≡ None) × (new ≡ None)
+FailsMake name why old new = IfTold (MayDo (made name)) old new
+
+-- A sync of a file failed. Of a file that was opened only to be read, a sync counts as done if the file system is
+-- read-only or has no syncs, because then nothing waits there to be written.
+abbrev pub FailsSync : Held → Refusal → Option FolderPast → Option FolderPast → Type 0
+FailsSync (Kept name) why old new = Did (loses name) old new
+FailsSync (Opened name) ReadOnly old new = Did (synced name) old new
+FailsSync (Opened name) Unsupported old new = Did (synced name) old new
+FailsSync (Opened name) why old new = Did (loses name) old new
+
+-- Syncing the names failed, of a process that keeps no file. It may count as done if the file system is read-only
+-- or has no syncs. A modelled folder may be opened.
+abbrev pub FailsNames : Refusal → Option FolderPast → Option FolderChange → Type 0
+FailsNames ReadOnly told prepared = IsPrepared synced_names told prepared
+FailsNames Unsupported told prepared = IsPrepared synced_names told prepared
+FailsNames NotPermitted told prepared = told ≡ None
+FailsNames why told prepared = Unit {0}
+
+-- ---- notes
+
+-- the change that a note makes
+abbrev pub change_of : Note → FolderChange
+change_of (Locked name) = locks name
+change_of (Lost name) = loses name
+change_of (Absent file) = synced (Journal file)
+change_of Names = synced_names
+
+-- What was prepared may be noted as done, that a file isn't relied on any more, and that a missing file is synced.
+abbrev pub MayNote : Note → Option FolderPast → Option FolderChange → Type 0
+MayNote (Locked name) told prepared = IsPrepared (locks name) told prepared
+MayNote (Lost name) told prepared = Unit {0}
+MayNote (Absent file) told prepared = IfSome told (IsMissing (Journal file))
+MayNote Names told prepared = IsPrepared synced_names told prepared

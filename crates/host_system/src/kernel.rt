@@ -1,0 +1,275 @@
+//! The calls of the operating system, one a method.
+ghost use Rattle.std.specs.Prelude.{◌≡◌, ◌≢◌, ℕ, ◌<◌, ◌≤◌, Bool, false, List, length, take, drop, Option, Some, IfOk, IfErr, OnOk, OnErr, IfSome};
+ghost use Rattle.std.specs.Option.{option_map};
+ghost use Rattle.board_core.specs.Takes.{Takes};
+ghost use Rattle.host_system.specs.Folder.{FolderChange, wrote, synced, made, opens, locks, removed, renamed, synced_names, printed};
+ghost use Rattle.host_system.specs.FolderPast.{FolderPast, Did, IfTold, HasFile, IsMissing, IsOpen, IsNotLost, MayBeWritten, bytes_named, file_bytes, MayDo, MayWrite, MayPrint};
+ghost use Rattle.host_system.specs.Kernel.{FailsMake, FailsNames, FailsSync, IsFound, IsFoundAt, IsFoundItself, IsHeldBy, IsPrepared, MayNote, MaySync, change_of, name_of};
+ghost use Rattle.host_system.specs.View.{MayBeRead};
+
+use crate::FileName;
+use board_core::FileNo;
+use std::fs::{Metadata, Permissions};
+
+/// The greatest length of a file whose bytes may be in its inode. Linux's ext4 has such files if it
+/// was made with `inline_data`, and its fdatasync doesn't make these bytes durable.
+pub const INLINE_LENGTH: u64 = 4096;
+
+/// What a call looks at.
+#[derive(Clone, Copy)]
+pub enum Place {
+    /// One of the four names.
+    Name(FileName),
+    /// `rasd.left`, under which a new store's file is kept if `rasd.store` is missing.
+    Left,
+    /// The process's standard output.
+    Output,
+    /// The process itself, which belongs to its user.
+    Process,
+    /// The working folder.
+    Folder,
+}
+
+/// An open file.
+#[derive(Clone, Copy)]
+pub enum Held {
+    /// The file that is kept as this name's.
+    Kept(FileName),
+    /// The file that was opened last, by this name.
+    Opened(FileName),
+}
+
+/// How a file is opened.
+#[derive(Clone, Copy)]
+pub enum Way {
+    /// To read it.
+    Read,
+    /// To read and write it.
+    Write,
+}
+
+/// Why a call failed.
+#[derive(Clone, Copy)]
+pub enum Refusal {
+    /// Something has this name.
+    Exists,
+    /// The process may not do that.
+    NotPermitted,
+    /// The file system is read-only.
+    ReadOnly,
+    /// The file doesn't support that.
+    Unsupported,
+    /// No such file is open.
+    NotOpen,
+    /// A signal interrupted the call.
+    Interrupted,
+    /// Anything else, also a check of the caller's.
+    Other,
+}
+
+/// What only the model is told: how the process has its files.
+#[derive(Clone, Copy)]
+pub enum Note {
+    /// The file of this name, which was locked, counts as locked.
+    Locked(FileName),
+    /// The bytes of this name's file aren't relied on any more.
+    Lost(FileName),
+    /// A missing journal file counts as synced.
+    Absent(FileNo),
+    /// The names count as synced.
+    Names,
+}
+
+/// The calls of the operating system on the working folder and on standard output.
+///
+/// A kernel may be modelled, as a system may be: its clauses then say what a call did to the folder,
+/// provided that its four names refer to regular files that nobody else changes, those of the
+/// journal maybe through symlinks. A call that takes `&self` changes nothing that clauses speak of.
+pub trait Kernel {
+    /// What was done to the folder and the output, if the kernel is modelled.
+    ghost told: { Self → Option FolderPast };
+
+    /// The change that the last calls have prepared: a file is open and not kept yet, or locked and
+    /// not noted as locked yet, or the names may count as synced. Any change ends it.
+    ghost prepared: { Self → Option FolderChange };
+
+    /// Whether the process keeps a file.
+    ghost keeps: { Self → Bool };
+
+    /// Returns whether the process keeps a file. No call is made.
+    fn keeps_any(&self) -> bool
+        ensures { result ≡ keeps self.now };
+
+    /// Returns the metadata of what a name itself refers to, or `None` if it refers to nothing.
+    fn lstat(&self, place: Place) -> Result<Option<Metadata>, Refusal>
+        ensures { IfOk result (λ found. IfSome (told self.now) (IsFoundItself place found)) };
+
+    /// Returns the metadata of the file that a name refers to, through any symlink, or `None` if
+    /// there is no such file.
+    fn stat(&self, place: Place) -> Result<Option<Metadata>, Refusal>
+        ensures { IfOk result (λ found. IfSome (told self.now) (IsFoundAt place found)) };
+
+    /// Returns the metadata of an open file. A file that is kept is the name's present one.
+    fn fstat(&self, held: Held) -> Result<Metadata, Refusal>
+        requires { IsHeldBy held (told self.now) (prepared self.now) }
+        ensures { IfOk result (λ m. IfSome (told self.now) (IsFound (name_of held) (Some m))) };
+
+    /// Returns the descriptor of an open file.
+    fn number(&self, held: Held) -> Result<i32, Refusal>;
+
+    /// Gives an open file a descriptor above the standard streams'.
+    fn dup(&mut self, held: Held) -> Result<(), Refusal>
+        ensures told { told self.new ≡ told self.old }
+        ensures prepared { OnOk result (prepared self.new ≡ prepared self.old) };
+
+    /// Opens the file of a name. It isn't kept yet.
+    fn open(&mut self, name: FileName, way: Way) -> Result<(), Refusal>
+        ensures told { told self.new ≡ told self.old }
+        ensures prepared { OnOk result (IsPrepared (opens name) (told self.old)
+            (prepared self.new)) };
+
+    /// Keeps the file that was opened as the name's, in the place of any other. No call is made.
+    fn keep(&mut self, name: FileName)
+        requires prepared { IsPrepared (opens name) (told self.old) (prepared self.old) }
+        requires there { IfSome (told self.old) (HasFile name) }
+        requires kept { IfSome (told self.old) (IsNotLost name) }
+        ensures { Did (opens name) (told self.old) (told self.new) };
+
+    /// Closes the file that was opened last, unless it was kept.
+    fn close(&mut self)
+        ensures { told self.new ≡ told self.old };
+
+    /// Makes an empty file with this mode to read and write it, and keeps it. After an error it may
+    /// exist.
+    fn create(&mut self, name: FileName, mode: u32) -> Result<(), Refusal>
+        requires { IfSome (told self.old) (IsMissing name) }
+        ensures told { OnOk result (Did (made name) (told self.old) (told self.new)) }
+        ensures failed { IfErr result (λ why. FailsMake name why (told self.old)
+            (told self.new)) };
+
+    /// Gives the file that is kept as this name's an owner and a group.
+    fn fchown(&self, name: FileName, owner: u32, group: u32) -> Result<(), Refusal>;
+
+    /// Gives the file that is kept as this name's a mode.
+    fn fchmod(&self, name: FileName, mode: Permissions) -> Result<(), Refusal>;
+
+    /// Locks the file that is kept as this name's, so that no other run has it.
+    fn flock(&mut self, name: FileName) -> Result<(), Refusal>
+        requires { IfSome (told self.old) (IsOpen name) }
+        ensures told { told self.new ≡ told self.old }
+        ensures prepared { OnOk result (IsPrepared (locks name) (told self.old)
+            (prepared self.new)) };
+
+    /// Opens the folder that a name's file is in, through any symlink, keeps it too, and returns its
+    /// place among the folders that are kept.
+    fn open_folder(&mut self, name: FileName) -> Result<usize, Refusal>
+        ensures told { told self.new ≡ told self.old }
+        ensures prepared { OnOk result (prepared self.new ≡ prepared self.old) };
+
+    /// Returns the metadata of the folder at this place.
+    fn folder(&self, place: usize) -> Result<Metadata, Refusal>;
+
+    /// Closes the folder that was opened last.
+    fn close_folder(&mut self)
+        ensures told { told self.new ≡ told self.old }
+        ensures prepared { prepared self.new ≡ prepared self.old };
+
+    /// Notes how the process has a file. No call is made.
+    fn note(&mut self, note: Note)
+        requires { MayNote note (told self.old) (prepared self.old) }
+        ensures { Did (change_of note) (told self.old) (told self.new) };
+
+    /// Returns the first bytes of the file that was opened last, at most `most`, and closes it.
+    fn read(&mut self, name: FileName, most: u64) -> Result<Vec<u8>, Refusal>
+        requires { IsPrepared (opens name) (told self.old) (prepared self.old) }
+        ensures read { IfOk result (λ v. IfSome (told self.old) (λ p. MayBeRead name p
+            → Some v.items ≡ option_map (take most) (bytes_named name p))) }
+        ensures told { told self.new ≡ told self.old };
+
+    /// Fills the buffer with the bytes of a file that is kept, from the offset `place` on.
+    fn pread(&self, name: FileName, place: u64, buf: &mut [u8]) -> Result<(), Refusal>
+        requires open { IfSome (told self.now) (IsOpen name) }
+        requires within { IfSome (told self.now)
+            (λ p. length buf.old ≤ length (drop place (file_bytes name p))) }
+        ensures { OnOk result (IfSome (told self.now)
+            (λ p. buf.new ≡ take (length buf.old) (drop place (file_bytes name p)))) };
+
+    /// Writes bytes at the offset `place` of a file that is kept. After an error any part may be
+    /// written.
+    fn pwrite(&mut self, name: FileName, place: u64, bytes: &[u8]) -> Result<(), Refusal>
+        requires there { IfSome (told self.old) (HasFile name) }
+        requires open { IfSome (told self.old) (MayBeWritten name) }
+        requires within { IfSome (told self.old) (λ p. place ≤ length (file_bytes name p)) }
+        ensures told { OnOk result
+            (Did (wrote name place (length bytes.now) bytes.now) (told self.old)
+            (told self.new)) }
+        ensures failed { OnErr result (IfTold (MayWrite name place (length bytes.now))
+            (told self.old) (told self.new)) };
+
+    /// Makes the bytes and the metadata of an open file durable.
+    fn fsync(&mut self, held: Held) -> Result<(), Refusal>
+        requires { MaySync held (told self.old) (prepared self.old) }
+        ensures told { OnOk result (Did (synced (name_of held)) (told self.old) (told self.new)) }
+        ensures failed { IfErr result (λ why. FailsSync held why (told self.old)
+            (told self.new)) };
+
+    /// Makes the bytes of an open file durable. Requires a length of more than `INLINE_LENGTH`, and
+    /// not a new store's file, whose owner and mode have to be durable too.
+    fn fdatasync(&mut self, held: Held) -> Result<(), Refusal>
+        requires held { MaySync held (told self.old) (prepared self.old) }
+        requires long { IfSome (told self.old)
+            (λ p. INLINE_LENGTH < length (file_bytes (name_of held) p)) }
+        requires owned { name_of held ≢ FileName.New }
+        ensures told { OnOk result (Did (synced (name_of held)) (told self.old) (told self.new)) }
+        ensures failed { IfErr result (λ why. FailsSync held why (told self.old)
+            (told self.new)) };
+
+    /// Removes a name. No file is kept as the name's any more.
+    fn unlink(&mut self, name: FileName) -> Result<(), Refusal>
+        requires { IfSome (told self.old) (HasFile name) }
+        ensures told { OnOk result (Did (removed name) (told self.old) (told self.new)) }
+        ensures failed { OnErr result (IfTold (MayDo (removed name)) (told self.old)
+            (told self.new)) };
+
+    /// Renames `rasd.new` to `rasd.store`. No file is kept as either's any more.
+    fn rename(&mut self) -> Result<(), Refusal>
+        requires { IfSome (told self.old) (HasFile FileName.New) }
+        ensures told { OnOk result (Did renamed (told self.old) (told self.new)) }
+        ensures failed { OnErr result (IfTold (MayDo renamed) (told self.old)
+            (told self.new)) };
+
+    /// Renames `rasd.new` to `rasd.left`, so that the name is missing. No file is kept as the name's
+    /// any more.
+    fn leave(&mut self) -> Result<(), Refusal>
+        requires { IfSome (told self.old) (HasFile FileName.New) }
+        ensures told { OnOk result (Did (removed FileName.New) (told self.old) (told self.new)) }
+        ensures failed { OnErr result (IfTold (MayDo (removed FileName.New)) (told self.old)
+            (told self.new)) };
+
+    /// Makes the names durable, by an fsync of the working folder and of each folder that is kept.
+    fn fsync_folders(&mut self) -> Result<(), Refusal>
+        ensures told { OnOk result (Did synced_names (told self.old) (told self.new)) }
+        ensures failed { OnErr result (told self.new ≡ told self.old) }
+        ensures prepared { IfErr result (λ why. keeps self.old ≡ false
+            → FailsNames why (told self.old) (prepared self.new)) };
+
+    /// Appends to standard output. After an error a beginning of the bytes may be printed.
+    fn write(&mut self, bytes: &[u8]) -> Result<(), Refusal>
+        ensures told { OnOk result (Did (printed bytes.now) (told self.old) (told self.new)) }
+        ensures failed { OnErr result (IfTold (MayPrint bytes.now) (told self.old)
+            (told self.new)) };
+}
+
+/// The call of the operating system on standard input.
+pub trait KernelInput {
+    /// The bytes that are left, if the input is modelled.
+    ghost left: { Self → Option (List ℕ) };
+
+    /// Reads the next bytes into the front of `buf` and returns their number, 0 at the end. A read
+    /// that fails takes nothing.
+    fn read(&mut self, buf: &mut [u8]) -> Result<usize, Refusal>
+        requires { 0 < length buf.old }
+        ensures within { IfOk result (λ n. n ≤ length buf.old) }
+        ensures taken { IfOk result (λ n. Takes n buf.new (left self.old) (left self.new)) }
+        ensures failed { OnErr result (left self.new ≡ left self.old) };
+}

@@ -1,0 +1,6 @@
+-- The reads that a signal interrupted took nothing.
+use Rattle.std.proofs.Common.{◌≡◌}
+use Rattle.ras_host.proofs.over_input.read_next.Given as goal
+
+abbrev pub invariant-loop : goal.invariant-loop
+invariant-loop g l = g.I.KernelInput.left l.input ≡ g.I.KernelInput.left l.initial.input

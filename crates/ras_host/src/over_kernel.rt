@@ -1,0 +1,356 @@
+//! The system over a kernel: which calls each call of the system makes, and in which order.
+ghost use Rattle.std.specs.Prelude.{◌≡◌, ◌≢◌, ◌≤◌, length, take, IfSome, IfOk, IfErr, OnOk, OnErr};
+ghost use Rattle.std.specs.Option.{option_map};
+ghost use Rattle.host_system.specs.Folder.{made, opens, locks, loses, removed, synced, synced_names};
+ghost use Rattle.host_system.specs.FolderPast.{Did, IfTold, HasFile, IsMissing, IsOpen, IsNotLost, MayDo, bytes_named, length_told};
+ghost use Rattle.host_system.specs.Kernel.{FailsSync, MaySync, name_of};
+ghost use Rattle.host_system.specs.View.{MayBeRead};
+ghost use Rattle.host_system.specs.declared.system.FileName.TheVariants.{Journal};
+
+use crate::names::{check_names, keep_folder, look, open_to_read};
+use board_core::{Failed, FileNo};
+use host_system::{
+    FileName, Held, INLINE_LENGTH, Kernel, Note, Place, Refusal, System, Way, counted,
+};
+use std::os::unix::fs::MetadataExt;
+
+// The mode of a new file, without the bits of the process's mask. Other users may not read a
+// journal file, because whoever can read it can hold its lock.
+const NEW_MODE: u32 = 0o640;
+
+// The mode of a new store's file before it gets the owner and mode of the old one.
+const UNOWNED_MODE: u32 = 0o600;
+
+/// The system over a kernel. It is modelled if its kernel is.
+#[derive(Drop)]
+pub struct OverKernel<K: Kernel + Drop> {
+    kernel: K,
+    faults: u64,
+}
+
+impl<K: Kernel + Drop> OverKernel<K> {
+    /// Returns a system over a kernel that keeps no file, with no faults.
+    pub fn over(kernel: K) -> OverKernel<K>
+        ensures kernel { result.kernel ≡ kernel }
+        ensures quiet { result.faults ≡ 0 }
+    {
+        OverKernel { kernel, faults: 0 }
+    }
+}
+
+// Makes the calls of each call, and counts its fault if one failed.
+impl<K: Kernel + Drop> System for OverKernel<K> {
+    ghost told = { λ s. K.told s.kernel };
+
+    ghost faults = { λ s. s.faults };
+
+    fn find(&mut self, name: FileName) -> Result<Option<u64>, Failed> {
+        counted(find(&self.kernel, name), &mut self.faults)
+    }
+
+    fn open(&mut self, name: FileName) -> Result<(), Failed> {
+        counted(open_file(&mut self.kernel, name), &mut self.faults)
+    }
+
+    fn make(&mut self, name: FileName) -> Result<(), Failed> {
+        counted(make_file(&mut self.kernel, name), &mut self.faults)
+    }
+
+    fn lock(&mut self, name: FileName) -> Result<(), Failed> {
+        counted(lock_file(&mut self.kernel, name), &mut self.faults)
+    }
+
+    fn read(&mut self, name: FileName, most: u64) -> Result<Option<Vec<u8>>, Failed> {
+        counted(read_file(&mut self.kernel, name, most), &mut self.faults)
+    }
+
+    fn read_at(&mut self, name: FileName, place: u64, buf: &mut [u8]) -> Result<(), Failed> {
+        counted(self.kernel.pread(name, place, buf), &mut self.faults)
+    }
+
+    fn write_at(&mut self, name: FileName, place: u64, bytes: &[u8]) -> Result<(), Failed> {
+        let answer = match check_to_write(&self.kernel, name, place, bytes) {
+            Ok(()) => self.kernel.pwrite(name, place, bytes),
+            Err(why) => Err(why),
+        };
+        counted(answer, &mut self.faults)
+    }
+
+    fn sync(&mut self, name: FileName) -> Result<(), Failed> {
+        counted(sync_kept(&mut self.kernel, name), &mut self.faults)
+    }
+
+    fn sync_read(&mut self, file: FileNo) -> Result<(), Failed> {
+        counted(sync_to_read(&mut self.kernel, file), &mut self.faults)
+    }
+
+    fn remove(&mut self, name: FileName) -> Result<(), Failed> {
+        let answer = match name {
+            FileName::New => remove_new(&mut self.kernel),
+            _ => self.kernel.unlink(name),
+        };
+        counted(answer, &mut self.faults)
+    }
+
+    fn rename(&mut self) -> Result<(), Failed> {
+        counted(self.kernel.rename(), &mut self.faults)
+    }
+
+    fn sync_names(&mut self) -> Result<(), Failed> {
+        counted(sync_folders(&mut self.kernel), &mut self.faults)
+    }
+
+    fn print(&mut self, bytes: &[u8]) -> Result<(), Failed> {
+        counted(self.kernel.write(bytes), &mut self.faults)
+    }
+}
+
+// Returns the length of a file, or `None` if it is missing. If a file is kept, it is asked itself.
+fn find<K: Kernel>(kernel: &K, name: FileName) -> Result<Option<u64>, Refusal>
+    ensures { IfOk result (λ found. IfSome (K.told kernel.now) (λ p. found ≡ length_told name p)) }
+{
+    match kernel.fstat(Held::Kept(name)) {
+        Err(Refusal::NotOpen) => Ok(look(kernel, name)?.map(|it| it.len())),
+        open => Ok(Some(open?.len())),
+    }
+}
+
+// Opens a file to read and write it, and keeps it.
+fn open_file<K: Kernel>(kernel: &mut K, name: FileName) -> Result<(), Refusal>
+    requires there { IfSome (K.told kernel.old) (HasFile name) }
+    requires kept { IfSome (K.told kernel.old) (IsNotLost name) }
+    ensures told { OnOk result (Did (opens name) (K.told kernel.old) (K.told kernel.new)) }
+    ensures failed { OnErr result (K.told kernel.new ≡ K.told kernel.old) }
+{
+    kernel.open(name, Way::Write)?;
+    move_up(kernel, Held::Opened(name))?;
+    kernel.keep(name);
+    Ok(())
+}
+
+// Gives a file another descriptor if it has a standard stream's. The kernel gives a file the lowest
+// free number, which may be a closed stream's.
+fn move_up<K: Kernel>(kernel: &mut K, held: Held) -> Result<(), Refusal>
+    ensures told { K.told kernel.new ≡ K.told kernel.old }
+    ensures prepared { OnOk result (K.prepared kernel.new ≡ K.prepared kernel.old) }
+{
+    if kernel.number(held)? <= 2 {
+        return kernel.dup(held);
+    }
+    Ok(())
+}
+
+// Makes a file and keeps it.
+fn make_file<K: Kernel>(kernel: &mut K, name: FileName) -> Result<(), Refusal>
+    requires { IfSome (K.told kernel.old) (IsMissing name) }
+    ensures told { OnOk result (Did (made name) (K.told kernel.old) (K.told kernel.new)) }
+    ensures failed { OnErr result (IfTold (MayDo (made name)) (K.told kernel.old)
+        (K.told kernel.new)) }
+{
+    match name {
+        FileName::New => make_new(kernel),
+        _ => make_or_open(kernel, name),
+    }
+}
+
+// Makes a file, or opens it if another run has made it meanwhile: its lock then decides. No file is
+// made through a symlink that leads nowhere, because the disk behind it may not be mounted.
+fn make_or_open<K: Kernel>(kernel: &mut K, name: FileName) -> Result<(), Refusal>
+    requires { IfSome (K.told kernel.old) (IsMissing name) }
+    ensures told { OnOk result (Did (made name) (K.told kernel.old) (K.told kernel.new)) }
+    ensures failed { OnErr result (IfTold (MayDo (made name)) (K.told kernel.old)
+        (K.told kernel.new)) }
+{
+    match kernel.create(name, NEW_MODE) {
+        Ok(()) => move_up(kernel, Held::Kept(name)),
+        Err(Refusal::Exists) => open_file(kernel, name),
+        Err(why) => Err(why),
+    }
+}
+
+// Makes a new store's file, with the owner and the mode of the old one.
+fn make_new<K: Kernel>(kernel: &mut K) -> Result<(), Refusal>
+    requires { IfSome (K.told kernel.old) (IsMissing FileName.New) }
+    ensures told { OnOk result (Did (made FileName.New) (K.told kernel.old)
+        (K.told kernel.new)) }
+    ensures failed { OnErr result (IfTold (MayDo (made FileName.New)) (K.told kernel.old)
+        (K.told kernel.new)) }
+{
+    let old = look(kernel, FileName::Store)?;
+    let mode = old.as_ref().map_or(NEW_MODE, |_| UNOWNED_MODE);
+    kernel.create(FileName::New, mode)?;
+    move_up(kernel, Held::Kept(FileName::New))?;
+    if let Some(old) = old {
+        kernel.fchown(FileName::New, old.uid(), old.gid())?;
+        kernel.fchmod(FileName::New, old.permissions())?;
+    }
+    Ok(())
+}
+
+// Locks a file. The names are checked once it is locked.
+fn lock_file<K: Kernel>(kernel: &mut K, name: FileName) -> Result<(), Refusal>
+    requires { IfSome (K.told kernel.old) (IsOpen name) }
+    ensures told { OnOk result (Did (locks name) (K.told kernel.old) (K.told kernel.new)) }
+    ensures failed { OnErr result (K.told kernel.new ≡ K.told kernel.old) }
+{
+    kernel.flock(name)?;
+    check_names(kernel)?;
+    keep_folder(kernel, name)?;
+    kernel.note(Note::Locked(name));
+    Ok(())
+}
+
+// Returns the first bytes of a file, at most `most`, or `None` if it is missing.
+fn read_file<K: Kernel>(
+    kernel: &mut K,
+    name: FileName,
+    most: u64,
+) -> Result<Option<Vec<u8>>, Refusal>
+    ensures read { IfOk result (λ found. IfSome (K.told kernel.old)
+        (λ p. MayBeRead name p → option_map (λ v. v.items) found
+        ≡ option_map (take most) (bytes_named name p))) }
+    ensures told { K.told kernel.new ≡ K.told kernel.old }
+{
+    if name != FileName::Store {
+        check_names(kernel)?;
+    }
+    if !open_to_read(kernel, name)? {
+        return Ok(None);
+    }
+    Ok(Some(kernel.read(name, most)?))
+}
+
+// Fails on a file that has no name left, because what is written to it would be lost. A write of one
+// byte is a gate, whose link was written just before, so it isn't checked. Before a file is begun
+// from scratch, the names themselves are checked again.
+fn check_to_write<K: Kernel>(
+    kernel: &K,
+    name: FileName,
+    place: u64,
+    bytes: &[u8],
+) -> Result<(), Refusal> {
+    if place == 0 && name != FileName::New {
+        check_names(kernel)?;
+    }
+    if bytes.len() > 1 && kernel.fstat(Held::Kept(name))?.nlink() == 0 {
+        return Err(Refusal::Other);
+    }
+    Ok(())
+}
+
+// Makes a file that is kept durable. The owner and the mode of a new store's file have to be durable
+// too.
+fn sync_kept<K: Kernel>(kernel: &mut K, name: FileName) -> Result<(), Refusal>
+    requires there { IfSome (K.told kernel.old) (HasFile name) }
+    requires open { IfSome (K.told kernel.old) (IsOpen name) }
+    ensures told { OnOk result (Did (synced name) (K.told kernel.old) (K.told kernel.new)) }
+    ensures failed { OnErr result (Did (loses name) (K.told kernel.old) (K.told kernel.new)) }
+{
+    match name {
+        FileName::New => kernel.fsync(Held::Kept(name)),
+        _ => sync_bytes(kernel, Held::Kept(name)),
+    }
+}
+
+// Makes a file's bytes durable, by its length.
+fn sync_bytes<K: Kernel>(kernel: &mut K, held: Held) -> Result<(), Refusal>
+    requires held { MaySync held (K.told kernel.old) (K.prepared kernel.old) }
+    requires owned { name_of held ≢ FileName.New }
+    ensures told { OnOk result (Did (synced (name_of held)) (K.told kernel.old)
+        (K.told kernel.new)) }
+    ensures failed { IfErr result (λ why. FailsSync held why (K.told kernel.old)
+        (K.told kernel.new)) }
+{
+    let Ok(found) = kernel.fstat(held) else {
+        kernel.note(Note::Lost(name_of(held)));
+        return Err(Refusal::Other);
+    };
+    if found.len() <= INLINE_LENGTH {
+        return kernel.fsync(held);
+    }
+    kernel.fdatasync(held)
+}
+
+fn name_of(held: Held) -> FileName
+    ensures { result ≡ name_of held }
+{
+    match held {
+        Held::Kept(name) | Held::Opened(name) => name,
+    }
+}
+
+// Makes a journal file durable that is only read. What a run wrote there before it ended may not be
+// durable yet.
+fn sync_to_read<K: Kernel>(kernel: &mut K, file: FileNo) -> Result<(), Refusal>
+    ensures told { OnOk result (Did (synced (Journal file)) (K.told kernel.old)
+        (K.told kernel.new)) }
+    ensures failed { OnErr result (Did (loses (Journal file)) (K.told kernel.old)
+        (K.told kernel.new)) }
+{
+    let name = FileName::Journal(file);
+    match open_to_read(kernel, name) {
+        Ok(true) => sync_opened(kernel, file),
+        Ok(false) => {
+            kernel.note(Note::Absent(file));
+            Ok(())
+        }
+        Err(why) => {
+            kernel.note(Note::Lost(name));
+            Err(why)
+        }
+    }
+}
+
+// Makes a file durable that was opened to read it, and closes it. On a read-only file system nothing
+// waits to be written, for example after a fault of its disk.
+fn sync_opened<K: Kernel>(kernel: &mut K, file: FileNo) -> Result<(), Refusal>
+    requires { MaySync (Held.Opened (Journal file)) (K.told kernel.old) (K.prepared kernel.old) }
+    ensures told { OnOk result (Did (synced (Journal file)) (K.told kernel.old)
+        (K.told kernel.new)) }
+    ensures failed { OnErr result (Did (loses (Journal file)) (K.told kernel.old)
+        (K.told kernel.new)) }
+{
+    let answer = sync_bytes(kernel, Held::Opened(FileName::Journal(file)));
+    kernel.close();
+    match answer {
+        Err(Refusal::ReadOnly | Refusal::Unsupported) => Ok(()),
+        answer => answer,
+    }
+}
+
+// Removes `rasd.new`. A file system without a journal may lose half of the rename of a new store:
+// the store then has its first name, and `rasd.store` is missing. So the file isn't removed in that
+// case, but kept under another name.
+fn remove_new<K: Kernel>(kernel: &mut K) -> Result<(), Refusal>
+    requires { IfSome (K.told kernel.old) (HasFile FileName.New) }
+    ensures told { OnOk result (Did (removed FileName.New) (K.told kernel.old)
+        (K.told kernel.new)) }
+    ensures failed { OnErr result (IfTold (MayDo (removed FileName.New)) (K.told kernel.old)
+        (K.told kernel.new)) }
+{
+    if kernel.lstat(Place::Name(FileName::Store))?.is_some() {
+        return kernel.unlink(FileName::New);
+    }
+    if kernel.lstat(Place::Left)?.is_some() {
+        return Err(Refusal::Other);
+    }
+    kernel.leave()
+}
+
+// Makes the names durable. A run keeps its files, a report keeps none. What a run reported is
+// durable, because the run itself made the names durable first. So a report continues where it may
+// search the folder but not open it, or where the folder can't be synced, as it does with a file.
+fn sync_folders<K: Kernel>(kernel: &mut K) -> Result<(), Refusal>
+    ensures told { OnOk result (Did synced_names (K.told kernel.old) (K.told kernel.new)) }
+    ensures failed { OnErr result (K.told kernel.new ≡ K.told kernel.old) }
+{
+    let is_run = kernel.keeps_any();
+    match kernel.fsync_folders() {
+        Err(Refusal::NotPermitted) if !is_run => Ok(()),
+        Err(Refusal::ReadOnly | Refusal::Unsupported) if !is_run => {
+            kernel.note(Note::Names);
+            Ok(())
+        }
+        answer => answer,
+    }
+}
