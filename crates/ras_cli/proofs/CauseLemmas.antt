@@ -12,7 +12,7 @@ use Rattle.ras_daemon.specs.declared.word.Task.TheVariants.{Run, Report, Load, P
 use Rattle.ras_exit.specs.Causes.{BoardCauseBy, SourceCause}
 use Rattle.ras_exit.specs.Endings.{CallEnding, answered, ending_of, faulted, source_failed, starved}
 use Rattle.ras_exit.specs.declared.exit.Exit.{Exit}
-use Rattle.ras_host.specs.Blame.{AreCaused}
+use Rattle.ras_host.specs.Blame.{AreCaused, AreCounted}
 use Rattle.ras_host.specs.SourceState.{SourceState}
 use Rattle.ras_host.specs.declared.journal.JournalFiles.{JournalFiles}
 use Rattle.ras_host.specs.declared.kept.Kept.{Kept}
@@ -31,66 +31,89 @@ one_by most n some is = omega arith
 one : (n : ℕ) → Rose 0 n → n ≡ 1
 one n rose = one_by (2 ^ 64 - 1) n (lit< tt) rose
 
-never : (count d r p : ℕ) → count ≤ d + (r + p) → d ≡ 0 → r ≡ 0 → p ≡ 0 → count ≡ 0
-never count d r p each no_d no_r no_p = omega arith
+-- what was refused or failed is what the board counts, since that is at most 1
+few : (failed refused sum most : ℕ) → sum ≤ 1 → 1 < most → (sum < most → failed + refused ≡ sum) → failed + refused ≡ sum
+few failed refused sum most small some each = each (omega (arith, small, some))
 
-once_most : (count d r p : ℕ) → count ≤ d + (r + p) → d + (r + p) ≡ 1 → count ≤ 1
-once_most count d r p each is = omega arith
+parts : (failed refused sum : ℕ) → sum ≤ 1 → AreCounted sum failed refused → failed + refused ≡ sum
+parts failed refused sum small each = few failed refused sum (2 ^ 64 - 1) small (lit< tt) each
 
-once_disk : (count d r p : ℕ) → count ≤ d + (r + p) → d ≡ 1 → r ≡ 0 → p ≡ 0 → (d ≡ 0) ⊎ (0 < count + r) → count ≡ 1
-once_disk count d r p each one_d no_r no_p (inl no_d) = omega arith
-once_disk count d r p each one_d no_r no_p (inr some) = omega arith
+none_left : (failed refused : ℕ) → failed + refused ≡ 0 → (failed ≡ 0) × (refused ≡ 0)
+none_left failed refused is = (omega (arith, is), omega (arith, is))
 
-once_print : (count d r p : ℕ) → count ≤ d + (r + p) → d ≡ 0 → r ≡ 0 → p ≡ 1 → (p ≡ 0) ⊎ (0 < count) → count ≡ 1
-once_print count d r p each no_d no_r one_p (inl no_p) = omega arith
-once_print count d r p each no_d no_r one_p (inr some) = omega arith
+one_failed : (failed refused : ℕ) → failed + refused ≡ 1 → 0 < failed → (failed ≡ 1) × (refused ≡ 0)
+one_failed failed refused is some = (omega (arith, is, some), omega (arith, is, some))
+
+only_left : {P Q : Type 0} → (P → ⊥) → P ⊎ Q → Q
+only_left not (inl p) = absurd (not p)
+only_left not (inr q) = q
+
+not_none : (n : ℕ) → n ≡ 1 → n ≡ 0 → ⊥
+not_none n one none = omega (arith, one, none)
 
 -- ---- causes
 
-module _ (how count : ℕ) (files : JournalFiles) (kept : Kept) (faults : Faults) (caused : AreCaused how files kept faults count) where
-  -- of which two counts stayed 0
-  by_disk : (task : Option Task) → (task ≡ Some Run → how ≡ 1) → faults.disk ≡ 1 → faults.registers ≡ 0 → faults.prints ≡ 0 → SystemCauseBy (faulted disk_call) task count
-  by_disk (Some Run) alone d r p = once_disk count faults.disk faults.registers faults.prints caused.each d r p (caused.disk (alone refl))
-  by_disk None alone d r p = once_most count faults.disk faults.registers faults.prints caused.each (omega (arith, d, r, p))
-  by_disk (Some (Report listing)) alone d r p = once_most count faults.disk faults.registers faults.prints caused.each (omega (arith, d, r, p))
-  by_disk (Some (Load n)) alone d r p = once_most count faults.disk faults.registers faults.prints caused.each (omega (arith, d, r, p))
-  by_disk (Some Pcie) alone d r p = once_most count faults.disk faults.registers faults.prints caused.each (omega (arith, d, r, p))
-  by_disk (Some (Klog boot cap)) alone d r p = once_most count faults.disk faults.registers faults.prints caused.each (omega (arith, d, r, p))
-  by_disk (Some (TraceLines boot)) alone d r p = once_most count faults.disk faults.registers faults.prints caused.each (omega (arith, d, r, p))
-  by_disk (Some (KlogLines boot cap)) alone d r p = once_most count faults.disk faults.registers faults.prints caused.each (omega (arith, d, r, p))
-  by_disk (Some (GhesLines boot began)) alone d r p = once_most count faults.disk faults.registers faults.prints caused.each (omega (arith, d, r, p))
-  by_disk (Some (MceLine boot)) alone d r p = once_most count faults.disk faults.registers faults.prints caused.each (omega (arith, d, r, p))
-  by_disk (Some Help) alone d r p = once_most count faults.disk faults.registers faults.prints caused.each (omega (arith, d, r, p))
-  by_disk (Some Version) alone d r p = once_most count faults.disk faults.registers faults.prints caused.each (omega (arith, d, r, p))
+module _ (how failed refused : ℕ) (files : JournalFiles) (kept : Kept) (faults : Faults) (caused : AreCaused how files kept faults failed refused) where
+  abbrev sum : ℕ
+  sum = faults.disk + (faults.registers + faults.prints)
 
-  at_rest : faults ≡ quiet → count ≡ 0
-  at_rest is = never count faults.disk faults.registers faults.prints caused.each (ap (λ (f : Faults). f.disk) is) (ap (λ (f : Faults). f.registers) is) (ap (λ (f : Faults). f.prints) is)
+  one_call : sum ≡ 1 → failed + refused ≡ 1
+  one_call is = parts failed refused sum (omega (arith, is)) caused.each ∙ is
 
-  pub system_cause : (task : Option Task) (ending : CallEnding) → (task ≡ Some Run → how ≡ 1) → BoardCauseBy ending quiet faults → SystemCauseBy ending task count
+  -- a fault of the disk, if the two other counts stayed 0
+  by_disk : (task : Option Task) → (task ≡ Some Run → how ≡ 1) → faults.disk ≡ 1 → faults.registers ≡ 0 → failed + refused ≡ 1 → SystemCauseBy (faulted disk_call) task failed refused
+  by_disk (Some Run) alone d r is =
+      let some : 0 < failed + faults.registers = only_left (not_none faults.disk d) (caused.disk (alone refl)) in
+      one_failed failed refused is (omega (arith, some, r))
+  by_disk None alone d r is = is
+  by_disk (Some (Report listing)) alone d r is = is
+  by_disk (Some (Load n)) alone d r is = is
+  by_disk (Some Pcie) alone d r is = is
+  by_disk (Some (Klog boot cap)) alone d r is = is
+  by_disk (Some (TraceLines boot)) alone d r is = is
+  by_disk (Some (KlogLines boot cap)) alone d r is = is
+  by_disk (Some (GhesLines boot began)) alone d r is = is
+  by_disk (Some (MceLine boot)) alone d r is = is
+  by_disk (Some Help) alone d r is = is
+  by_disk (Some Version) alone d r is = is
+
+  at_rest : faults ≡ quiet → (failed ≡ 0) × (refused ≡ 0)
+  at_rest is =
+      let none : sum ≡ 0 = ap (λ (f : Faults). f.disk + (f.registers + f.prints)) is in
+      none_left failed refused (parts failed refused sum (omega (arith, none)) caused.each ∙ none)
+
+  pub system_cause : (task : Option Task) (ending : CallEnding) → (task ≡ Some Run → how ≡ 1) → BoardCauseBy ending quiet faults → SystemCauseBy ending task failed refused
   system_cause task answered alone is = at_rest is
   system_cause task starved alone is = at_rest is
   system_cause task source_failed alone is = at_rest is
   system_cause task (faulted disk_call) alone is =
-      by_disk task alone (one faults.disk is.own) (ap (λ (f : Faults). f.registers) is.others) (ap (λ (f : Faults). f.prints) is.others)
+      let d : faults.disk ≡ 1 = one faults.disk is.own in
+      let r : faults.registers ≡ 0 = ap (λ (f : Faults). f.registers) is.others in
+      let p : faults.prints ≡ 0 = ap (λ (f : Faults). f.prints) is.others in
+      by_disk task alone d r (one_call (omega (arith, d, r, p)))
   system_cause task (faulted device_call) alone is =
       let d : faults.disk ≡ 0 = ap (λ (f : Faults). f.disk) is.others in
       let r : faults.registers ≡ 1 = one faults.registers is.own in
       let p : faults.prints ≡ 0 = ap (λ (f : Faults). f.prints) is.others in
-      once_most count faults.disk faults.registers faults.prints caused.each (omega (arith, d, r, p))
+      one_call (omega (arith, d, r, p))
   system_cause task (faulted print_call) alone is =
-      once_print count faults.disk faults.registers faults.prints caused.each (ap (λ (f : Faults). f.disk) is.others) (ap (λ (f : Faults). f.registers) is.others) (one faults.prints is.own) caused.print
+      let d : faults.disk ≡ 0 = ap (λ (f : Faults). f.disk) is.others in
+      let r : faults.registers ≡ 0 = ap (λ (f : Faults). f.registers) is.others in
+      let p : faults.prints ≡ 1 = one faults.prints is.own in
+      one_failed failed refused (one_call (omega (arith, d, r, p))) (only_left (not_none faults.prints p) caused.print)
 
-pub over_caused : (task : Option Task) (exit : Exit) (how count before now : ℕ) (files : JournalFiles) (kept : Kept) (old new : Faults)
-    → Caused exit before now old new → old ≡ quiet → (task ≡ Some Run → how ≡ 1) → AreCaused how files kept new count
-    → (first last total : ℕ) → before ≡ first → last ≡ now → total ≡ count → OverCaused task exit first last total
-over_caused task exit how count before now files kept old new caused is_quiet alone are first last total is_first is_last is_total = record {
+pub over_caused : (task : Option Task) (exit : Exit) (how failed refused before now : ℕ) (files : JournalFiles) (kept : Kept) (old new : Faults)
+    → Caused exit before now old new → old ≡ quiet → (task ≡ Some Run → how ≡ 1) → AreCaused how files kept new failed refused
+    → (first last total least : ℕ) → before ≡ first → last ≡ now → total ≡ failed → least ≡ refused → OverCaused task exit first last total least
+over_caused task exit how failed refused before now files kept old new caused is_quiet alone are first last total least is_first is_last is_total is_least = record {
   input =
       subst (λ (n : ℕ). SourceCause exit n last) is_first
       (subst (λ (n : ℕ). SourceCause exit before n) (sym is_last) caused.source);
   system =
-      subst (λ (n : ℕ). SystemCauseBy (ending_of exit) task n) (sym is_total)
-      (system_cause how count files kept new are task (ending_of exit) alone
-      (subst (λ (faults : Faults). BoardCauseBy (ending_of exit) faults new) is_quiet caused.board));
+      rw is_total
+      (rw is_least
+      (system_cause how failed refused files kept new are task (ending_of exit) alone
+      (subst (λ (faults : Faults). BoardCauseBy (ending_of exit) faults new) is_quiet caused.board)));
 }
 
 -- ---- what is read

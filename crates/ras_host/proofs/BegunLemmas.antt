@@ -2,6 +2,7 @@
 use Rattle.std.proofs.Common.{◌≡◌, ℕ, ◌≤◌, List, [], length, take, Some, refl, sym, ap, subst, ◌∙◌, arith}
 use Rattle.std.specs.Prelude.{Bool, true, false, ◌==◌, if◌then◌else◌, Option, None, IfSome, IfOk, Result, Ok, Err}
 use Rattle.std.specs.Option.{option_map}
+use Rattle.std.specs.Result.{result_or}
 use Rattle.std.proofs.lemmas.List.{take_all}
 use Rattle.erst_store.specs.Store.{IsStore}
 use Rattle.erst_store.specs.StoreReading.{store_at}
@@ -74,6 +75,10 @@ whole most n (Some bytes) is within = ap Some (take_all most bytes (short is))
   where
     short : Some n ≡ Some (length bytes) → length bytes ≤ most
     short e = let count : n ≡ length bytes = cc in omega arith
+
+pub if_or : {T E F : Type 0} (P : T → Type 0) (r : Result T E) (f : F) → IfOk r P → IfOk (result_or r (Err f)) P
+if_or P (Ok x) f is = is
+if_or P (Err e) f is = tt
 
 pub read_whole : {V E : Type 0} (items : V → List ℕ) (result : Result (Option V) E) (most n : ℕ) (a b : Option FolderPast) → b ≡ a → IfSome a HasWholeStore
     → IfSome a (λ p. Some n ≡ length_told Store p) → n ≤ most

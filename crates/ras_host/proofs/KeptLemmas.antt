@@ -39,6 +39,9 @@ use Rattle.ras_host.specs.Steps.Written.{Writes}
 use Rattle.ras_host.specs.declared.journal.JournalFiles.{JournalFiles}
 use Rattle.ras_host.specs.declared.journal.JournalFiles.TheVariants.{Shut, Unread as NotRead}
 use Rattle.ras_host.specs.declared.kept.Change.{Change}
+use Rattle.ras_host.specs.Steps.Failures.{put_answer}
+use Rattle.ras_host.specs.declared.faults.CallFailed.{CallFailed}
+use Rattle.ras_host.specs.declared.faults.PutFailed.TheVariants.{Call}
 use Rattle.ras_host.specs.declared.kept.Kept.{Kept}
 use Rattle.ras_host.specs.declared.kept.Kept.TheVariants.{Unread, Here, Lost, Unreadable}
 use Rattle.ras_host.specs.declared.saved.Saved.{Saved}
@@ -484,6 +487,12 @@ in_step_taken saved old (Some p) is filed taken = record {
 pub turned_or : {T E F : Type 0} (step : Device → Device) (old new : Kept) (result : Result T E) (f : F) (before after : Option FolderPast) → Turned step old new result before after → Turned step old new (result_or result (Err f)) before after
 turned_or step old new (Ok x) f before after turned = record { ok = turned.ok; err = tt; stops = turned.stops; in_step = turned.in_step; saved = turned.saved; spares = turned.spares }
 turned_or step old new (Err e) f before after turned = record { ok = tt; err = turned.err; stops = turned.stops; in_step = turned.in_step; saved = turned.saved; spares = turned.spares }
+
+-- a put whose store came into the file, or didn't because a call of the system failed
+pub turned_put : {E : Type 0} (step : Device → Device) (old new : Kept) (result : Result (Unit {0}) E) (why : CallFailed) (before after : Option FolderPast) → Turned step old new result before after
+    → Turned step old new (put_answer (result_or result (Err (Call why)))) before after
+turned_put step old new (Ok x) why before after turned = record { ok = turned.ok; err = tt; stops = turned.stops; in_step = turned.in_step; saved = turned.saved; spares = turned.spares }
+turned_put step old new (Err e) why before after turned = record { ok = tt; err = turned.err; stops = turned.stops; in_step = turned.in_step; saved = turned.saved; spares = turned.spares }
 
 pub put_is : (id : ℕ) (bytes : List ℕ) (d made : Device) → made ≡ with_put id bytes d → refusal_of id bytes d.store ≡ None → made ≡ after_put id bytes d
 put_is id bytes d made is free = is ∙ ap (λ (r : Option PutRefused). unless_refused r (with_put id bytes d) d) (sym free)

@@ -21,6 +21,7 @@ mod real_system;
 mod saved;
 mod uses;
 
+pub use faults::Refusals;
 pub use file_board::FileBoard;
 pub use file_source::FileSource;
 pub use real_input::RealInput;
