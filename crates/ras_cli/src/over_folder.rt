@@ -1,10 +1,9 @@
 //! Runs commands over a folder of files.
 ghost use Rattle.std.specs.Prelude.{◌≡◌, ◌⊎◌, Some, IfSome, IsSomeAnd, true};
-ghost use Rattle.host_system.specs.StoreFile.{SparesNoStore};
 ghost use Rattle.host_system.specs.View.{MayBegin};
 ghost use Rattle.listing_texts.specs.declared.listing.Listing.{Listing};
 ghost use Rattle.ras_cli.specs.OverCauses.{Answers};
-ghost use Rattle.ras_cli.specs.OverFolder.{Ends, NeverOpened, Outlives, OutlivesOpened, OverDamaged, OverFolder, OverOther, OverReport, PrintsAlone, Refuses, Reported};
+ghost use Rattle.ras_cli.specs.OverFolder.{Ends, LeavesFolder, NeverOpened, Outlives, OutlivesOpened, OverDamaged, OverFolder, OverOther, OverReport, PrintsAlone, Refuses, Reported};
 ghost use Rattle.ras_cli.specs.Steps.OneBoard.{KeepsAll};
 ghost use Rattle.ras_daemon.specs.Task.{task_of};
 
@@ -66,9 +65,10 @@ pub fn rasd_over<S: System + Drop, I: Input + Drop>(
     ensures commands { OverOther (λ past. IsSomeAnd (S.told result.system)
         (PrintsAlone result.exit (task_of words.now) (I.left input) (I.left result.input) past))
         (task_of words.now) (S.told system) }
-    // Bytes of rasd.store that aren't a store's stay as they are, whatever the command does.
-    ensures spares { IfSome (S.told system) (λ past. IsSomeAnd (S.told result.system)
-        (SparesNoStore past)) }
+    // Bytes of rasd.store that aren't a store's stay as they are, and the next command may begin
+    // over what this one left, unless it ended with a disk fault.
+    ensures leaves { IfSome (S.told system) (λ past. IsSomeAnd (S.told result.system)
+        (LeavesFolder result.exit past)) }
     // Why the command ends with a fault, its exits, and what it reads of the input.
     ensures answers { Answers (task_of words.now) result.exit
         (record { left = I.left input; faults = I.faults input })

@@ -2,8 +2,7 @@
 use Rattle.std.proofs.Common.{◌≡◌, ℕ, ◌+◌, ◌-◌, ◌^◌, ◌<◌, ◌≤◌, min, refl, sym, ◌∙◌, subst, inl, inr, arith, lit<}
 use Rattle.std.specs.Prelude.{◌⊎◌, ◌==◌, if◌then◌else◌, Bool, true, false, List, Result, Ok, Err, OnOk, IsTrue}
 use Rattle.board_core.specs.Cause.{Faults, HasCause, Rose, put_failure}
-use Rattle.board_core.specs.declared.board.BoardPut.{BoardPut}
-use Rattle.ras_host.specs.Blame.{AreBlamed, AreCaused, AreCounted, AreReports, FilesCause, IsLost}
+use Rattle.ras_host.specs.Blame.{AreAllSound, AreBlamed, AreCaused, AreCounted, AreReports, FilesCause, IsLost}
 use Rattle.ras_host.specs.BoardState.{kept_for}
 use Rattle.ras_host.specs.JournalFiles.{files_for}
 use Rattle.ras_host.specs.Steps.Failures.{call_answer, put_answer, refusal, system_failure}
@@ -97,6 +96,14 @@ disk_failed : {T : Type 0} (how : ℕ) (old new : JournalFiles) (d d' g n n' : �
 disk_failed how old new d d' g n n' (Ok v) run cause counts was is = rw counts.same (more (d ≡ 0) n n' g g cause.counts.later (omega arith) (was is))
 disk_failed how old new d d' g n n' (Err e) run cause counts was is = inr (run_failed how old new n' g run cause.comes cause.cause is)
 
+-- a disk call failed, or each file is as sound as it was
+sound_later : {T : Type 0} (old new : JournalFiles) (d d' : ℕ) (r : Result T CallFailed) → OnOk r (AreAllSound old → AreAllSound new) → HasCause d d' r → (d ≡ 0 → AreAllSound old) → d' ≡ 0 → AreAllSound new
+sound_later old new d d' (Ok v) keeps counts was none = keeps (was (sym counts.same ∙ none))
+sound_later old new d d' (Err e) keeps counts was none = absurd (some_none d' (rose d d' counts.failed) none)
+  where
+    some_none : (n : ℕ) → 0 < n → n ≡ 0 → ⊥
+    some_none n some none = omega (arith, some, none)
+
 pub caused_files : {T : Type 0} (how : ℕ) (old new : JournalFiles) (kept : Kept) (f : Faults) (d' n n' m m' : ℕ) (r : Result T CallFailed) → AreCaused how old kept f n m → AreBlamed new n' → FilesCause old new n n' r
     → HasCause f.disk d' r → HasCause m m' (refusal r) → AreCaused how new kept (record f { disk = d' }) n' m'
 caused_files how old new kept f d' n n' m m' r c blamed cause counts refusals = record {
@@ -104,6 +111,7 @@ caused_files how old new kept f d' n n' m m' r c blamed cause counts refusals = 
   blamed = blamed;
   run = λ is reports. c.run is (cause.comes reports);
   report = λ is. cause.stays (c.report is);
+  sound = sound_later old new f.disk d' r cause.sound counts c.sound;
   disk = λ is. disk_failed how old new f.disk d' f.registers n n' r c.run cause counts c.disk is;
   print = still (f.prints ≡ 0) n n' cause.counts.later c.print;
   lost = c.lost;
@@ -111,8 +119,8 @@ caused_files how old new kept f d' n n' m m' r c blamed cause counts refusals = 
 
 -- the system was asked, and the files stay
 asked : {T E : Type 0} (files : JournalFiles) (n n' : ℕ) (r : Result T E) → HasCause n n' r → FilesCause files files n n' (as_call r)
-asked files n n' (Ok v) c = record { counts = by_system n n' (Ok v) c; cause = tt; stays = λ is. is; comes = λ is. is }
-asked files n n' (Err e) c = record { counts = by_system n n' (Err e) c; cause = inr (rose n n' c.failed); stays = λ is. is; comes = λ is. is }
+asked files n n' (Ok v) c = record { counts = by_system n n' (Ok v) c; cause = tt; stays = λ is. is; comes = λ is. is; sound = λ is. is }
+asked files n n' (Err e) c = record { counts = by_system n n' (Err e) c; cause = inr (rose n n' c.failed); stays = λ is. is; comes = λ is. is; sound = tt }
 
 pub caused_asked : {T E : Type 0} (how : ℕ) (files : JournalFiles) (kept : Kept) (f : Faults) (d' n n' m : ℕ) (r : Result T E) → AreCaused how files kept f n m → HasCause n n' r → HasCause f.disk d' r
     → AreCaused how files kept (record f { disk = d' }) n' m
@@ -124,7 +132,7 @@ pub caused_unwritten : {T : Type 0} (how : ℕ) (files : JournalFiles) (kept : K
     → HasCause {T = T} {E = CallFailed} f.disk d' (Err why.Refused) → HasCause m m' (refusal {T = T} (Err why.Refused)) → AreCaused how files kept (record f { disk = d' }) n m'
 caused_unwritten how files kept f d' n m m' c reports counts refusals =
     caused_files how files files kept f d' n n m m' (Err why.Refused) c c.blamed
-    (record { counts = record { later = omega arith; failed = tt; same = refl }; cause = inl reports; stays = λ is. is; comes = λ is. is }) counts refusals
+    (record { counts = record { later = omega arith; failed = tt; same = refl }; cause = inl reports; stays = λ is. is; comes = λ is. is; sound = tt }) counts refusals
 
 -- a sync that isn't asked, since a change of the device may not have come into its file
 is_lost : (kept : Kept) → (IsSaved kept → ⊥) → IsLost kept
@@ -148,6 +156,7 @@ caused_unasked how files kept f d' n m m' c never counts refusals =
       blamed = c.blamed;
       run = c.run;
       report = c.report;
+      sound = sound_later files files f.disk d' (Err why.Refused) tt counts c.sound;
       disk = λ is. inr (omega (arith, lost));
       print = c.print;
       lost = c.lost;
@@ -169,6 +178,7 @@ caused_device how files old new f g' n n' m m' r c cause here counts refusals = 
   blamed = blamed_later files n n' cause.later c.blamed;
   run = c.run;
   report = c.report;
+  sound = c.sound;
   disk = λ is. more (f.disk ≡ 0) n n' f.registers g' cause.later counts.later (c.disk is);
   print = still (f.prints ≡ 0) n n' cause.later c.print;
   lost = lost_later new f.registers g' r here counts;
@@ -206,6 +216,7 @@ caused_print how files kept f p' n n' m r c cause counts = record {
   blamed = blamed_later files n n' cause.later c.blamed;
   run = c.run;
   report = c.report;
+  sound = c.sound;
   disk = λ is. more (f.disk ≡ 0) n n' f.registers f.registers cause.later (omega arith) (c.disk is);
   print = printed f.prints p' n n' r cause counts c.print;
   lost = c.lost;
@@ -217,6 +228,10 @@ begun_blamed : (is_run : Bool) (n : ℕ) → AreBlamed (if is_run then Shut else
 begun_blamed true n = tt
 begun_blamed false n = tt
 
+begun_sound : (is_run : Bool) → AreAllSound (if is_run then Shut else Unread)
+begun_sound true = tt
+begun_sound false = tt
+
 begun_kept : (is_run : Bool) → IsLost (if is_run then NotRead else Unreadable) → ⊥
 begun_kept true lost = lost
 begun_kept false lost = lost
@@ -227,6 +242,7 @@ caused_begun how n none = record {
   blamed = begun_blamed (how == 1) n;
   run = λ is reports. subst (λ (h : ℕ). AreReports (files_for h)) is reports;
   report = λ is. subst (λ (h : ℕ). AreReports (files_for h)) (sym is) tt;
+  sound = λ none. begun_sound (how == 1);
   disk = λ is. inl refl;
   print = inl refl;
   lost = λ lost. absurd (begun_kept (how == 1) lost);

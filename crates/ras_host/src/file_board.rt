@@ -4,9 +4,10 @@ ghost use Rattle.board_core.specs.Cause.{FailsAs, disk_call};
 ghost use Rattle.board_core.specs.Clock.{Passes};
 ghost use Rattle.board_core.specs.Stop.{Same};
 ghost use Rattle.board_core.specs.Told.{Steps, with_call};
+ghost use Rattle.host_system.specs.BoardFile.{AreOpenable};
 ghost use Rattle.host_system.specs.FolderPast.{GoesOnBy, PrintsOrSyncs};
 ghost use Rattle.host_system.specs.StoreFile.{SparesNoStore};
-ghost use Rattle.host_system.specs.View.{MayBegin};
+ghost use Rattle.host_system.specs.View.{HasUsableStore, MayBegin};
 ghost use Rattle.ras_host.specs.Steps.Telling.{clock_of, seen_of, told_of};
 ghost use Rattle.ras_host.specs.Blame.{AreCaused};
 ghost use Rattle.ras_host.specs.JournalFiles.{IsReady, files_for};
@@ -121,6 +122,8 @@ impl<S: System + Drop, U: Use, B: Found> FileBoard<S, U, B> {
         ensures count { S.faults result.0 ≡ self.count }
         ensures refused { result.1.count ≡ self.refused }
         ensures caused { AreCaused U.HOW self.files self.kept self.faults self.count self.refused }
+        ensures synced { self.faults.disk ≡ 0 → IfSome self.past AreOpenable }
+        ensures store { IfSome self.past HasUsableStore }
         ensures spares { IfSome B.past (λ found. IsSomeAnd self.past (SparesNoStore found)) }
         ensures reading { U.HOW ≡ 0 → IfSome B.past (λ found. IsSomeAnd self.past
             (GoesOnBy PrintsOrSyncs found)) }

@@ -2,9 +2,8 @@
 -- before and after.
 use Rattle.std.specs.Prelude.{ℕ, ◌⊎◌, Option, IfSome, IsSomeAnd}
 use Rattle.host_system.specs.FolderPast.{FolderPast}
-use Rattle.host_system.specs.StoreFile.{SparesNoStore}
 use Rattle.ras_cli.specs.OverCauses.{Answers}
-use Rattle.ras_cli.specs.OverFolder.{Ends, NeverOpened, Outlives, OutlivesOpened, OverDamaged, OverFolder, OverOther, OverReport, PrintsAlone, Refuses, Reported}
+use Rattle.ras_cli.specs.OverFolder.{Ends, LeavesFolder, NeverOpened, Outlives, OutlivesOpened, OverDamaged, OverFolder, OverOther, OverReport, PrintsAlone, Refuses, Reported}
 use Rattle.ras_daemon.specs.declared.word.Task.{Task}
 use Rattle.ras_exit.specs.declared.exit.Exit.{Exit}
 use Rattle.ras_host.specs.SourceState.{SourceState}
@@ -16,5 +15,5 @@ pub record KeepsAll (task : Option Task) (exit : Exit) (old new : SourceState) (
   pub refused : OverDamaged (λ why p. IsSomeAnd now (Refuses exit why p)) task past
   pub reported : OverReport (λ listing p. IsSomeAnd now (Reported exit listing p)) task past
   pub commands : OverOther (λ p. IsSomeAnd now (PrintsAlone exit task old.left new.left p)) task past
-  pub spares : IfSome past (λ p. IsSomeAnd now (SparesNoStore p))
+  pub leaves : IfSome past (λ p. IsSomeAnd now (LeavesFolder exit p))
   pub answers : Answers task exit old new failed refusals

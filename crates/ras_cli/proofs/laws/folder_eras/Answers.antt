@@ -4,7 +4,7 @@ use Rattle.era_laws.specs.Eras.{reported_in}
 use Rattle.host_system.specs.Steps.LawLemmas.{may_begin}
 use Rattle.host_system.specs.View.{seen_as}
 use Rattle.ras_account.specs.Continued.{account_after_all}
-use Rattle.ras_cli.proofs.FolderLemmas.{ended, eras, left_last, rests, stopped, went_on}
+use Rattle.ras_cli.proofs.FolderLemmas.{ended, eras, joined, left_last, rests, stopped, went_on}
 use Rattle.ras_cli.proofs.laws.folder_eras.Goals as goal
 use Rattle.ras_cli.specs.FolderEras.{eras_over}
 use Rattle.ras_journal.specs.Recovered.{Recovers}
@@ -20,6 +20,9 @@ returns-clause-ended c = λ account script past now opens recover outlives. ende
 
 pub returns-clause-went_on : goal.returns-clause-went_on
 returns-clause-went_on c = λ exit account script past now left opens settles may. went_on account script past now opens exit settles left may
+
+pub returns-clause-joined : goal.returns-clause-joined
+returns-clause-joined c = λ exit account then script next past now last left opens recover outlives goes settles may. joined account then script next past now last opens recover outlives goes exit settles left may
 
 pub returns-clause-next : goal.returns-clause-next
 returns-clause-next c = λ files bytes. may_begin (record files { out = [] }) bytes

@@ -1,8 +1,8 @@
-use Rattle.std.proofs.Common.{◌∙◌, refl, sym}
-use Rattle.std.specs.Prelude.{◌⊎◌, IfSome, IsSomeAnd}
-use Rattle.host_system.specs.StoreFile.{SparesNoStore}
+use Rattle.std.proofs.Common.{◌∙◌, sym}
+use Rattle.std.specs.Prelude.{◌⊎◌, IsSomeAnd}
 use Rattle.ras_cli.specs.OverFolder.{Ends, NeverOpened, Outlives, OutlivesOpened}
 use Rattle.ras_cli.proofs.CauseLemmas.{over_caused, over_reads}
+use Rattle.ras_cli.proofs.LeavesLemmas.{goes_on, leaves}
 use Rattle.ras_cli.proofs.OverLemmas.{Begun, begun_kept, over_folder, headline, settles, ends, refused, reports, commands}
 use Rattle.ras_cli.proofs.over_folder.over_board.Goals as goal
 use Rattle.ras_daemon.specs.Task.{task_of}
@@ -31,7 +31,8 @@ returns g c =
       reported = reports exit task _ _ past now c.new-board.result c.rasd-exit.new.board begun same c.rasd-exit.ensures.commands
           (λ listing asked. rw (← c.requires.found) (rw c.into_parts-system.ensures.past (c.into_parts-system.ensures.reading (c.requires.reads listing asked))));
       commands = commands exit task _ _ past now c.new-board.result c.rasd-exit.new.board begun same c.rasd-exit.ensures.commands (g.I.Input.left c.args.input) (g.I.Input.left c.into_input-input.result) c.new-source.ensures.left c.into_input-input.ensures.left;
-      spares = rw (← c.requires.found) (rw c.into_parts-system.ensures.past c.into_parts-system.ensures.spares);
+      leaves = leaves exit past now (rw (← c.requires.found) (rw c.into_parts-system.ensures.past c.into_parts-system.ensures.spares))
+          (goes_on exit _ _ now c.rasd-exit.ensures.causes.board c.new-board.ensures.faults (rw c.into_parts-system.ensures.past c.into_parts-system.ensures.synced) (rw c.into_parts-system.ensures.past c.into_parts-system.ensures.store));
       answers = record {
         causes = over_caused task exit _ _ _ _ _ _ _ _ _ c.rasd-exit.ensures.causes c.new-board.ensures.faults c.requires.alone c.into_parts-system.ensures.caused _ _ _ _ c.new-source.ensures.faults c.into_input-input.ensures.faults c.into_parts-system.ensures.count c.into_parts-system.ensures.refused;
         exits = c.rasd-exit.ensures.exits;
