@@ -73,7 +73,7 @@ pub fn rasd_over<S: System + Drop, I: Input + Drop>(
     ensures answers { Answers (task_of words.now) result.exit
         (record { left = I.left input; faults = I.faults input })
         (record { left = I.left result.input; faults = I.faults result.input })
-        (S.faults result.system) result.refusals.count }
+        (S.faults result.system) result.refusals }
 {
     if is_run(words) {
         over_board::<S, I, Alone, Brand>(alloc, words, input, system)
@@ -99,7 +99,7 @@ fn over_board<S: System + Drop, I: Input + Drop, U: Use, B: Found>(
     ensures { KeepsAll (task_of words.now) result.exit
         (record { left = I.left input; faults = I.faults input })
         (record { left = I.left result.input; faults = I.faults result.input })
-        (S.faults result.system) result.refusals.count (S.told system) (S.told result.system) }
+        (S.faults result.system) result.refusals (S.told system) (S.told result.system) }
 {
     let mut source = FileSource::new(input);
     let mut board: FileBoard<S, U, B> = FileBoard::new(alloc, system);

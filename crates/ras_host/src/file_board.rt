@@ -68,7 +68,7 @@ impl<S: System + Drop, U: Use, B: Found> Model for FileBoard<S, U, B> {
         prints = b.print_faults;
       };
       count = S.faults b.system;
-      refused = b.refusals.count;
+      refused = b.refusals;
       disk_calls = b.disk_calls.calls;
       accesses = b.accesses.calls;
     } };
@@ -80,7 +80,7 @@ impl<S: System + Drop, U: Use, B: Found> Model for FileBoard<S, U, B> {
           disk = b.disk_faults;
           registers = b.register_faults;
           prints = b.print_faults;
-        }) (S.faults b.system) b.refusals.count
+        }) (S.faults b.system) b.refusals
         × IfSome B.past (λ found. IsSomeAnd (S.told b.system) (SparesNoStore found))
         × (U.HOW ≡ 0 → IsReading b.kept B.past (S.told b.system)) };
 }
@@ -120,7 +120,7 @@ impl<S: System + Drop, U: Use, B: Found> FileBoard<S, U, B> {
     pub fn into_parts(self) -> (S, Refusals)
         ensures past { S.told result.0 ≡ self.past }
         ensures count { S.faults result.0 ≡ self.count }
-        ensures refused { result.1.count ≡ self.refused }
+        ensures refused { result.1 ≡ self.refused }
         ensures caused { AreCaused U.HOW self.files self.kept self.faults self.count self.refused }
         ensures synced { self.faults.disk ≡ 0 → IfSome self.past AreOpenable }
         ensures store { IfSome self.past HasUsableStore }

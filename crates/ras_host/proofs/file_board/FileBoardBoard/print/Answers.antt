@@ -29,7 +29,7 @@ returns g c =
       kept = b.kept;
       faults = record { disk = b.disk_faults; registers = b.register_faults; prints = b.print_faults };
       count = g.S.System.faults b.system;
-      refused = b.refusals.count;
+      refused = b.refusals;
       disk_calls = b.disk_calls.calls;
       accesses = b.accesses.calls;
     } in
