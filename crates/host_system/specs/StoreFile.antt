@@ -6,7 +6,7 @@ use Rattle.board_core.specs.declared.board.FileNo.{FileNo}
 use Rattle.erst_store.specs.StoreFile.{IsNoStoreFile}
 use Rattle.host_system.specs.BoardFile.{KeepsFile, SeesSame, HasSettledStore, with_store}
 use Rattle.host_system.specs.FolderPast.{FolderPast, IfTold, bytes_named}
-use Rattle.host_system.specs.View.{HasWholeStore, clock_over, seen_now, store_in}
+use Rattle.host_system.specs.View.{HasUsableStore, clock_over, seen_now, store_in}
 use Rattle.host_system.specs.declared.system.FileName.TheVariants.{Store}
 
 -- A board sees the store of these bytes, and everything else as before.
@@ -23,14 +23,14 @@ pub record HasReplaced (bytes : List ℕ) (old new : FolderPast) : Type 0 where
 abbrev pub SparesNoStore : FolderPast → FolderPast → Type 0
 SparesNoStore old new = (bytes : List ℕ) → bytes_named Store old ≡ Some bytes → IsNoStoreFile bytes → bytes_named Store new ≡ Some bytes
 
--- If the bytes of the store's file were durable, they still are.
-abbrev pub KeepsWhole : FolderPast → FolderPast → Type 0
-KeepsWhole old new = HasWholeStore old → HasWholeStore new
+-- If the store's file might be used, it still may.
+abbrev pub KeepsUsable : FolderPast → FolderPast → Type 0
+KeepsUsable old new = HasUsableStore old → HasUsableStore new
 
 -- The store's file was replaced by a file of these bytes, or that failed.
 pub record Replaces {T E : Type 0} (bytes : List ℕ) (result : Result T E) (old new : Option FolderPast) : Type 0 where
-  -- If the bytes of the store's file were durable, they still are.
-  pub whole : IfTold KeepsWhole old new
+  -- If the store's file might be used, it still may.
+  pub usable : IfTold KeepsUsable old new
   -- The journal's files are as usable as they were.
   pub files : (file : FileNo) → IfTold (KeepsFile file) old new
   -- On `Ok` the file is the new one, and is durable.

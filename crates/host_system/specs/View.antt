@@ -63,6 +63,11 @@ IsDurable (Some file) = file.disk.written ≡ []
 abbrev pub HasWholeStore : FolderPast → Type 0
 HasWholeStore past = IsDurable (folder_of past).store.now
 
+-- The record store's file may be used: all its bytes are durable, and each of them is a byte.
+pub record HasUsableStore (past : FolderPast) : Type 0 where
+  pub whole : HasWholeStore past
+  pub bytes : AreBytes (file_bytes Store past)
+
 -- A read returns what was written, unless a sync of the file failed. The record store's file is never written
 -- in place, so all its bytes have to be durable.
 abbrev pub MayBeRead : FileName → FolderPast → Type 0

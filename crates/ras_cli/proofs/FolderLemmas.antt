@@ -88,6 +88,16 @@ module _ (account : State) (script : List ℕ) (past now : FolderPast) (opens : 
         | inr leaves ↦ inr (is_era left leaves)
       ]
 
+-- two runs without a crash between them
+pub joined : (account then : State) (script next : List ℕ) (past now last : FolderPast) (opens : Recovers account (seen_now past)) → StopsRecover (start_of account (begun_over past)) (clock_over (Some past))
+    → Outlives (start_of account (begun_over past)) script past now → (goes : Recovers then (seen_now now)) → (exit : Exit)
+    → OutlivesOpened (start_of then (begun_over now)) next now last ⊎ NeverOpened exit (start_of then (begun_over now)) now last
+    → (left : Left) → (clock_over (Some last)).may_leave_since (clock_over (Some now)).now left → IsEra (era_of account (begun_over past) script left) ⊎ IsEra (era_of then (begun_over now) next left)
+joined account then script next past now last opens recover outlives goes exit settles left may = elim (went_on then next now last goes exit settles left may) [
+  | inl was ↦ inl (stopped account script past now opens recover outlives left (earlier_left (Some now) (clock_over (Some past)).now (clock_over (Some now)).now left outlives.later was))
+  | inr leaves ↦ inr leaves
+]
+
 -- ---- runs one after another
 
 begins_over : (files : Stopped) (run : FolderRun) → BeginsOver (seen_as files) (era_of run.account (begun_over (started_over files)) run.script (seen_as run.left))

@@ -1,3 +1,4 @@
 pub mod CauseLemmas
 pub mod FolderLemmas
+pub mod LeavesLemmas
 pub mod OverLemmas

@@ -1,10 +1,11 @@
 -- What the commands promise over a folder of files, by what a crash of the machine leaves of the folder.
-use Rattle.std.specs.Prelude.{◌≡◌, ℕ, ◌≤◌, ◌⊎◌, List, [], ◌++◌, Option, Some, IfSome, ⊤}
+use Rattle.std.specs.Prelude.{◌≡◌, ◌≢◌, ℕ, ◌≤◌, ◌⊎◌, List, [], ◌++◌, Option, Some, IfSome, ⊤}
 use Rattle.board_core.specs.Clock.{Adds, Always, LeftNow}
 use Rattle.board_core.specs.Told.{Told}
 use Rattle.erst_store.specs.Device.{new_device, volatile_of}
 use Rattle.host_system.specs.FolderPast.{FolderPast, GoesOnBy, PrintsOrSyncs}
-use Rattle.host_system.specs.View.{clock_over, seen_now}
+use Rattle.host_system.specs.StoreFile.{SparesNoStore}
+use Rattle.host_system.specs.View.{HasUsableStore, MayBegin, clock_over, seen_now}
 use Rattle.ras_account.specs.Account.{State}
 use Rattle.ras_exit.specs.Endings.{OnAnswer, OnWhole}
 use Rattle.ras_exit.specs.Telling.{PrintsPart}
@@ -127,3 +128,17 @@ OverOther P task past = IfSome past P
 abbrev pub PrintsAlone : Exit → Option Task → Option (List ℕ) → Option (List ℕ) → FolderPast → FolderPast → Type 0
 PrintsAlone exit task script left past now =
     ByTask exit task script left (Some (begun_over past)) (Some (begun_over now)) (clock_over (Some past)) (clock_over (Some now))
+
+-- The next command may begin over what this one left, without a crash between them. After a disk fault a sync of a
+-- journal file may have failed: then no process may rely on that file's bytes until the machine starts again.
+pub record GoesOn (exit : Exit) (now : FolderPast) : Type 0 where
+  -- The record store's file is durable and consists of bytes, however the command ended.
+  pub store : HasUsableStore now
+  -- After any other exit, no sync of a journal file failed either.
+  pub begins : exit ≢ DiskFault → MayBegin now
+
+-- What each command leaves of the folder.
+pub record LeavesFolder (exit : Exit) (past now : FolderPast) : Type 0 where
+  -- Bytes of rasd.store that aren't a store's stay as they are.
+  pub spares : SparesNoStore past now
+  pub goes_on : GoesOn exit now

@@ -63,6 +63,20 @@ pub fn folder_eras()
         → LeftNow (clock_over (Some past)) left
         ⊎ IsEra (era_of account (begun_over past) script left) }
 
+    // A run may also begin over what a finished run left, by `rasd_over/leaves`, even if not all of
+    // that is durable. A crash during the second run leaves the end of an era of one of the two.
+    ensures joined { (exit : Exit) (account then : State) (script next : List ℕ)
+        (past now last : FolderPast) (left : Left)
+        → let start = start_of account (begun_over past) in
+        let second = start_of then (begun_over now) in
+        Recovers account (seen_now past) → StopsRecover start (clock_over (Some past))
+        → Outlives start script past now
+        → Recovers then (seen_now now)
+        → OutlivesOpened second next now last ⊎ NeverOpened exit second now last
+        → (clock_over (Some last)).may_leave_since (clock_over (Some now)).now left
+        → IsEra (era_of account (begun_over past) script left)
+        ⊎ IsEra (era_of then (begun_over now) next left) }
+
     // A run may begin over any files that a crash has left, if the store's file consists of bytes.
     ensures next { (files : Stopped) → AreBytes (bytes_or files.store)
         → MayBegin (started_over files) }

@@ -1,18 +1,15 @@
 //! Runs commands over a folder of files.
 ghost use Rattle.std.specs.Prelude.{◌≡◌, ◌⊎◌, Some, IfSome, IsSomeAnd, true};
-ghost use Rattle.host_system.specs.StoreFile.{SparesNoStore};
 ghost use Rattle.host_system.specs.View.{MayBegin};
 ghost use Rattle.listing_texts.specs.declared.listing.Listing.{Listing};
-ghost use Rattle.ras_cli.specs.OverCauses.{OverCaused};
-ghost use Rattle.ras_cli.specs.OverFolder.{Ends, NeverOpened, Outlives, OutlivesOpened, OverDamaged, OverFolder, OverOther, OverReport, PrintsAlone, Refuses, Reported};
+ghost use Rattle.ras_cli.specs.OverCauses.{Answers};
+ghost use Rattle.ras_cli.specs.OverFolder.{Ends, LeavesFolder, NeverOpened, Outlives, OutlivesOpened, OverDamaged, OverFolder, OverOther, OverReport, PrintsAlone, Refuses, Reported};
 ghost use Rattle.ras_cli.specs.Steps.OneBoard.{KeepsAll};
-ghost use Rattle.ras_daemon.specs.Ahead.{TakesBy, TakesRecordBy};
-ghost use Rattle.ras_daemon.specs.Commands.{MayEnd};
-ghost use Rattle.ras_daemon.specs.Task.{ReadsBy, task_of};
+ghost use Rattle.ras_daemon.specs.Task.{task_of};
 
 use host_system::{Input, System};
 use ras_daemon::{Exit, RasWord, Task, rasd, task_of};
-use ras_host::{Alone, FileBoard, FileSource, Found, Reading, Use};
+use ras_host::{Alone, FileBoard, FileSource, Found, Reading, Refusals, Use};
 use std::alloc::Global;
 use std::marker::Brand;
 
@@ -22,15 +19,17 @@ pub struct Ended<I: Input + Drop, S: System + Drop> {
     pub exit: Exit,
     pub input: I,
     pub system: S,
+    /// How often a call was refused though no call of the system failed.
+    pub refusals: Refusals,
 }
 
 /// Runs the command given by `words` over a system and an input, and returns how it ended, with the
 /// input and the system. Requires a system none of whose calls has failed yet; if the system is
 /// modelled, its folder must be one that a run may begin over.
 ///
-/// `causes`, `exits` and `reads` hold over every system and input, the real ones too. The other
-/// clauses hold for a modelled system. They say what a crash of the machine at any point leaves of
-/// the folder's files, even while names and bytes aren't durable yet.
+/// `answers` holds over every system and input, the real ones too. The other clauses hold for a
+/// modelled system. They say what a crash of the machine at any point leaves of the folder's files,
+/// even while names and bytes aren't durable yet.
 pub fn rasd_over<S: System + Drop, I: Input + Drop>(
     alloc: Global,
     words: &[RasWord],
@@ -66,23 +65,15 @@ pub fn rasd_over<S: System + Drop, I: Input + Drop>(
     ensures commands { OverOther (λ past. IsSomeAnd (S.told result.system)
         (PrintsAlone result.exit (task_of words.now) (I.left input) (I.left result.input) past))
         (task_of words.now) (S.told system) }
-    // Bytes of rasd.store that aren't a store's stay as they are, whatever the command does.
-    ensures spares { IfSome (S.told system) (λ past. IsSomeAnd (S.told result.system)
-        (SparesNoStore past)) }
-    // A command ends with a fault only if a call of the input or of the system failed, and then no
-    // other call did. `OverCaused` has the few faults that may also come from lack of memory or
-    // from damaged files.
-    ensures causes { OverCaused (task_of words.now) result.exit (I.faults input)
-        (I.faults result.input) (S.faults result.system) }
-    // Each command has its own exits.
-    ensures exits { MayEnd (task_of words.now) result.exit }
-    // A command that reads the input takes at most 67,108,865 bytes of it, and all of them if it
-    // ends as done. The command that reads a saved record takes at most 129 bytes, and all of them
-    // or 129 if it ends as done. Every other command leaves the input alone.
-    ensures reads { ReadsBy (task_of words.now)
-        (TakesBy result.exit (I.left input) (I.left result.input))
-        (TakesRecordBy result.exit (I.left input) (I.left result.input))
-        (I.left result.input ≡ I.left input) }
+    // Bytes of rasd.store that aren't a store's stay as they are, and the next command may begin
+    // over what this one left, unless it ended with a disk fault.
+    ensures leaves { IfSome (S.told system) (λ past. IsSomeAnd (S.told result.system)
+        (LeavesFolder result.exit past)) }
+    // Why the command ends with a fault, its exits, and what it reads of the input.
+    ensures answers { Answers (task_of words.now) result.exit
+        (record { left = I.left input; faults = I.faults input })
+        (record { left = I.left result.input; faults = I.faults result.input })
+        (S.faults result.system) result.refusals }
 {
     if is_run(words) {
         over_board::<S, I, Alone, Brand>(alloc, words, input, system)
@@ -105,18 +96,20 @@ fn over_board<S: System + Drop, I: Input + Drop, U: Use, B: Found>(
     requires alone { task_of words.now ≡ Some Task.Run → U.HOW ≡ 1 }
     requires reads { (listing : Listing) → task_of words.now ≡ Some (Task.Report listing)
         → U.HOW ≡ 0 }
-    ensures { KeepsAll (task_of words.now) result.exit (I.left input) (I.left result.input)
-        (I.faults input) (I.faults result.input) (S.faults result.system) (S.told system)
-        (S.told result.system) }
+    ensures { KeepsAll (task_of words.now) result.exit
+        (record { left = I.left input; faults = I.faults input })
+        (record { left = I.left result.input; faults = I.faults result.input })
+        (S.faults result.system) result.refusals (S.told system) (S.told result.system) }
 {
     let mut source = FileSource::new(input);
     let mut board: FileBoard<S, U, B> = FileBoard::new(alloc, system);
     let exit = rasd(alloc, words, &mut source, &mut board);
-    let (input, system) = (source.into_input(), board.into_system());
+    let (input, (system, refusals)) = (source.into_input(), board.into_parts());
     Ended {
         exit,
         input,
         system,
+        refusals,
     }
 }
 

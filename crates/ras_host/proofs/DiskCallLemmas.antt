@@ -22,7 +22,7 @@ use Rattle.host_system.specs.View.{clock_over, seen_now, told_over}
 use Rattle.ras_host.specs.BoardState.{BoardState}
 use Rattle.ras_host.specs.Steps.Listed.{accesses_noted, disk_calls_noted}
 use Rattle.ras_host.specs.Steps.Telling.{clock_of, seen_of, told_of, told_with}
-use Rattle.ras_host.proofs.ToldLemmas.{on_any_ok, same_stops, store_settled}
+use Rattle.ras_host.proofs.ToldLemmas.{on_any_ok, on_ok, same_stops, store_settled}
 
 -- ---- results
 
@@ -132,18 +132,18 @@ begun_file file call P b (Some p) (Some t) steps holds = subst (λ (l : Left). P
     some_is : (s t : Told) → Some s ≡ Some t → s ≡ t
     some_is s t e = cc
 
-pub made_synced : (file : FileNo) (answer result : Result (Unit {0}) Failed) (disk count : ℕ) (a b : BoardState) (past : Option FolderPast) → Begun (Sync file) a b → IfTold SeesSame b.past past
+pub made_synced : {E : Type 0} (file : FileNo) (answer : Result (Unit {0}) E) (result : Result (Unit {0}) Failed) (disk count : ℕ) (a b : BoardState) (past : Option FolderPast) → Begun (Sync file) a b → IfTold SeesSame b.past past
     → Passes Same (clock_over b.past) (clock_over past) → OnOk answer (IfSome b.past (λ p. IsSynced file (file_in file (seen_now p)) (clock_over past))) → OnOk answer (IfSome past HasSettledStore)
-    → IfOk answer (λ value. result ≡ Ok value) → OnErr answer (IsErr result) → HasCause b.faults.disk disk answer → ActMade (calls (Sync file)) result (seen_of a) (seen_of (asked_to past disk count b))
+    → IfOk answer (λ value. result ≡ Ok value) → OnErr answer (IsErr result) → HasCause b.faults.disk disk result → ActMade (calls (Sync file)) result (seen_of a) (seen_of (asked_to past disk count b))
 made_synced file answer result disk count a b past begun sees stops synced settled ok err counts =
     let listed : Steps (with_call (Sync file)) (told_of a) (told_of (asked_to past disk count b)) = same_told b b.past past sees ∙ begun.told in
-    subst (λ (r : Result (Unit {0}) Failed). ActMade (calls (Sync file)) r (seen_of a) (seen_of (asked_to past disk count b))) (counted_is answer result ok err) (record {
-      told = on_any_ok _ answer listed;
-      failed = on_any_err _ answer (relates_called (Sync file) (told_of a) (told_of (asked_to past disk count b)) listed);
+    record {
+      told = on_any_ok _ result listed;
+      failed = on_any_err _ result (relates_called (Sync file) (told_of a) (told_of (asked_to past disk count b)) listed);
       stops = same_then Same (λ l. refl) (clock_of a) (clock_of b) (clock_over past) begun.stops stops;
-      settles = settles answer synced settled;
-      cause = caused disk a.faults b.faults answer begun.same counts;
-    })
+      settles = settles result (on_ok _ _ answer result ok err synced (λ is. is)) (on_ok _ _ answer result ok err settled (λ is. is));
+      cause = caused disk a.faults b.faults result begun.same counts;
+    }
   where
     settles : (r : Result (Unit {0}) Failed) → OnOk r (IfSome b.past (λ p. IsSynced file (file_in file (seen_now p)) (clock_over past))) → OnOk r (IfSome past HasSettledStore)
         → OnOk r (ActSettles (calls (Sync file)) (seen_of a) (seen_of (asked_to past disk count b)))
@@ -206,7 +206,7 @@ write_unready file place bytes r e is old new told stops cause = record {
 }
 
 -- a report's file isn't written
-pub made_refused : (file : FileNo) (place : ℕ) (bytes : List ℕ) (result : Result (Unit {0}) Failed) (failed : Failed) (disk count : ℕ) (a b : BoardState) → Begun (WriteAt file place (length bytes)) a b → IsErr result
+pub made_refused : {E : Type 0} (file : FileNo) (place : ℕ) (bytes : List ℕ) (result : Result (Unit {0}) Failed) (failed : E) (disk count : ℕ) (a b : BoardState) → Begun (WriteAt file place (length bytes)) a b → IsErr result
     → HasCause {T = Unit {0}} b.faults.disk disk (Err failed) → ActMade (writes file place bytes) result (seen_of a) (seen_of (asked_to b.past disk count b))
 made_refused file place bytes result failed disk count a b begun is counts = record {
   told = on_never _ result is;

@@ -1,7 +1,7 @@
 -- What a call of the journal's files comes to, by what it asks of the system.
 use Rattle.std.proofs.Common.{◌≡◌, ℕ, List, Some, refl, sym, ◌∙◌, subst, OnOk, inl, inr}
 use Rattle.std.specs.Prelude.{◌⊎◌, Bool, true, false, IsTrue, Option, None, IfSome, IfOk, Result, Ok, Err}
-use Rattle.std.specs.Result.{is_ok}
+use Rattle.std.specs.Result.{is_ok, result_or}
 use Rattle.board_core.specs.Clock.{Passes}
 use Rattle.board_core.specs.Stop.{Left, Same, file_in}
 use Rattle.board_core.specs.declared.board.FileNo.{FileNo}
@@ -19,6 +19,11 @@ use Rattle.ras_host.specs.declared.reading.ReadFile.{ReadFile}
 -- what a board sees of a call, by what it saw before and sees now
 abbrev pub SeesBy : (Left → Left → Type 0) → FolderPast → FolderPast → Type 0
 SeesBy R old new = R (seen_now old) (seen_now new)
+
+-- what holds if the system's call succeeded
+pub ok_or : {T E F : Type 0} (P : Type 0) (r : Result T E) (f : F) → OnOk r P → OnOk (result_or r (Err f)) P
+ok_or P (Ok x) f is = is
+ok_or P (Err e) f is = tt
 
 settles_still : (f g : JournalFiles) (a b : Option FolderPast) → (IsOneSound g → IsOneSound f) → IfTold KeepsStore a b
     → IfTold (SettlesStore f g) a b

@@ -1,12 +1,10 @@
 -- The device that is kept and the folder go together, however a call on it ended.
-use Rattle.std.proofs.Common.{◌≡◌, ℕ, ◌≤◌, List, [], length, take, Some, refl, sym, ap, subst, ◌∙◌, arith, inl, inr}
-use Rattle.std.specs.Prelude.{◌⊎◌, ◌≢◌, Bool, true, false, ◌&&◌, nat_eq, ◌==◌, if◌then◌else◌, Option, None, IfSome, IfOk, Result, Ok, Err, IsErr, OnOk, OnErr}
+use Rattle.std.proofs.Common.{◌≡◌, ℕ, List, [], Some, refl, sym, ap, subst, ◌∙◌, inl, inr}
+use Rattle.std.specs.Prelude.{◌⊎◌, ◌≢◌, Bool, true, false, ◌&&◌, nat_eq, if◌then◌else◌, Option, None, IfSome, Result, Ok, Err, IsErr, OnOk, OnErr}
 use Rattle.std.specs.Bool.{Decides}
 use Rattle.std.specs.Cmp.{unsigned_Decides}
 use Rattle.std.specs.Cmp.Lexicographic.{pointwise, pointwise_decides, bytes_decides}
-use Rattle.std.specs.Option.{option_map}
 use Rattle.std.specs.Result.{is_err, result_or, result_unwrap_or}
-use Rattle.std.proofs.lemmas.List.{take_all}
 use Rattle.std.proofs.lemmas.Result.{on_ok_weaker, on_err_weaker}
 use Rattle.board_core.specs.Clock.{Passes}
 use Rattle.board_core.specs.Stop.{Left, InStore, Becomes}
@@ -21,31 +19,27 @@ use Rattle.erst_store.specs.Steps.ActionLemmas.{kept}
 use Rattle.erst_store.specs.Store.{Stored, IsStore, refusal_of}
 use Rattle.erst_store.specs.declared.store.PutRefused.{PutRefused}
 use Rattle.erst_store.specs.StoreFile.{store_bytes}
-use Rattle.erst_store.specs.StoreReading.{file_at, store_at}
+use Rattle.erst_store.specs.StoreReading.{file_at}
 use Rattle.erst_store.specs.declared.reading.StoreRefused.{StoreRefused}
-use Rattle.erst_store.specs.Steps.KeptLemmas.{IsDevice-new}
-use Rattle.erst_store.specs.Steps.StoreLemmas.{IsStore-nil}
 use Rattle.host_system.specs.BoardFile.{KeepsFile, HasSettledStore, with_store}
-use Rattle.host_system.specs.FolderPast.{FolderPast, IfTold, bytes_named, bytes_or, length_told}
-use Rattle.host_system.specs.StoreFile.{HasReplaced, KeepsWhole, Replaces, SparesNoStore}
-use Rattle.host_system.specs.View.{HasWholeStore, IsFileOf, MayBeRead, MayBegin, clock_over, seen_now, store_in}
+use Rattle.host_system.specs.FolderPast.{FolderPast, IfTold, bytes_named}
+use Rattle.host_system.specs.StoreFile.{HasReplaced, KeepsUsable, Replaces, SparesNoStore}
+use Rattle.host_system.specs.View.{HasUsableStore, HasWholeStore, IsFileOf, clock_over, seen_now, store_in}
 use Rattle.host_system.specs.Steps.FolderPastLemmas.{stands}
 use Rattle.host_system.specs.declared.system.FileName.TheVariants.{Store}
-use Rattle.ras_host.specs.BoardState.{kept_for}
-use Rattle.ras_host.specs.JournalFiles.{AreHeld, files_for}
-use Rattle.ras_host.specs.Steps.KeptDevice.{Acts, BecomesBy, IsChange, IsInStep, IsOff, IsSaved, IsUsed, Keeps, KeepsOrLoses, MayTurn, Settles, StaysOrLoses, Turned, Turns, device_in, is_same_record, is_same_store, volatile_in}
-use Rattle.ras_host.specs.Steps.Settled.{IsSettledBy}
+use Rattle.ras_host.specs.Steps.KeptDevice.{Acts, BecomesBy, IsChange, IsInStep, IsSaved, IsUsed, Keeps, KeepsOrLoses, MayTurn, Settles, StaysOrLoses, Turned, Turns, device_in, is_same_record, is_same_store, volatile_in}
 use Rattle.ras_host.specs.Steps.Written.{Writes}
-use Rattle.ras_host.specs.declared.journal.JournalFiles.{JournalFiles}
-use Rattle.ras_host.specs.declared.journal.JournalFiles.TheVariants.{Shut, Unread as NotRead}
 use Rattle.ras_host.specs.declared.kept.Change.{Change}
+use Rattle.ras_host.specs.Steps.Failures.{put_answer}
+use Rattle.ras_host.specs.declared.faults.CallFailed.{CallFailed}
+use Rattle.ras_host.specs.declared.faults.PutFailed.TheVariants.{Call}
 use Rattle.ras_host.specs.declared.kept.Kept.{Kept}
 use Rattle.ras_host.specs.declared.kept.Kept.TheVariants.{Unread, Here, Lost, Unreadable}
 use Rattle.ras_host.specs.declared.saved.Saved.{Saved}
 
 pub whole_in : (kept : Kept) (told : Option FolderPast) → IfSome told (IsInStep kept) → IfSome told HasWholeStore
 whole_in kept None is = tt
-whole_in kept (Some p) is = is.whole
+whole_in kept (Some p) is = is.usable.whole
 
 pub on_any_err : {T E : Type 0} (P : Type 0) (result : Result T E) → P → OnErr result P
 on_any_err P (Ok x) holds = tt
@@ -151,9 +145,9 @@ turned_action {T = T} {E = E} reg value saved old new result told before after a
     (subst (λ (o : Option FolderPast). Turned {T = T} {E = E} (act value) (Here saved) new result o after) same turned))
 
 -- a step that left the store as it was
-in_step_acts : (saved : Saved) (store : List Stored) (p : FolderPast) → HasWholeStore p → IsFileOf saved.device.store (bytes_named Store p) → saved.device.store ≡ (seen_now p).store → IsDevice saved.device → IsInStep (Here saved) p
-in_step_acts saved store p whole filed over kept =
-    record { filed = filed; over = over; device = subst (λ (s : List Stored). IsDevice (device_with s (volatile_of saved.device))) over kept; whole = whole }
+in_step_acts : (saved : Saved) (store : List Stored) (p : FolderPast) → HasUsableStore p → IsFileOf saved.device.store (bytes_named Store p) → saved.device.store ≡ (seen_now p).store → IsDevice saved.device → IsInStep (Here saved) p
+in_step_acts saved store p usable filed over kept =
+    record { filed = filed; over = over; device = subst (λ (s : List Stored). IsDevice (device_with s (volatile_of saved.device))) over kept; usable = usable }
 
 acts_turns : (step : Device → Device) (saved : Saved) (old : Kept) (p : FolderPast) → saved.device ≡ step (device_in old p) → (step (device_in old p)).store ≡ (seen_now p).store → Turns step old (Here saved) p p
 acts_turns step saved old p is store =
@@ -183,7 +177,7 @@ did_step step was old new (Some p) after in_step filed taken used same acts =
     subst (λ (k : Kept). DidStep step old k (Some p) after) (sym acts.kept)
     (subst (λ (o : Option FolderPast). DidStep step old (Here acts.saved) (Some p) o) (sym same) (record {
       turns = acts_turns step acts.saved old p is store;
-      in_step = in_step_acts acts.saved (seen_now p).store p in_step.whole
+      in_step = in_step_acts acts.saved (seen_now p).store p in_step.usable
           (subst (λ (s : List Stored). IsFileOf s (bytes_named Store p)) (sym (ap (λ (d : Device). d.store) acts.after ∙ acts.store)) filed) (ap (λ (d : Device). d.store) is ∙ store) acts.device;
       saved = λ now. (used_saved old was used, inl refl);
     }))
@@ -213,7 +207,7 @@ record Wrote {T E : Type 0} (store : List Stored) (result : Result T E) (p : Fol
   ok : OnOk result (IfTold (λ x y. seen_now y ≡ with_store store (seen_now x)) (Some p) after)
   err : OnErr result (IfTold (λ x y. (seen_now y ≡ seen_now x) ⊎ (seen_now y ≡ with_store store (seen_now x))) (Some p) after)
   files : (file : FileNo) → IfTold (KeepsFile file) (Some p) after
-  whole : IfSome after HasWholeStore
+  usable : IfSome after HasUsableStore
   filed : OnOk result (IfSome after (λ q. IsFileOf store (bytes_named Store q)))
   stops : Passes (InStore (Becomes store)) (clock_over (Some p)) (clock_over after)
   saved : OnOk result (IfTold (λ x y. (y ≡ x) ⊎ HasSettledStore y) (Some p) after)
@@ -230,9 +224,9 @@ replaced_settles : {T E : Type 0} (bytes : List ℕ) (result : Result T E) (p : 
 replaced_settles bytes result p None is = is
 replaced_settles bytes result p (Some q) is = on_ok_weaker result (λ r. inr r.settled) is
 
-replaced_whole : (p : FolderPast) (after : Option FolderPast) → HasWholeStore p → IfTold KeepsWhole (Some p) after → IfSome after HasWholeStore
-replaced_whole p None whole keeps = tt
-replaced_whole p (Some q) whole keeps = keeps whole
+replaced_usable : (p : FolderPast) (after : Option FolderPast) → HasUsableStore p → IfTold KeepsUsable (Some p) after → IfSome after HasUsableStore
+replaced_usable p None usable keeps = tt
+replaced_usable p (Some q) usable keeps = keeps usable
 
 replaced_filed : {T E : Type 0} (bytes : List ℕ) (result : Result T E) (p : FolderPast) (after : Option FolderPast) → bytes ≡ store_bytes (store_in (Some bytes)) → OnOk result (IfTold (HasReplaced bytes) (Some p) after)
     → OnOk result (IfSome after (λ q. IsFileOf (store_in (Some bytes)) (bytes_named Store q)))
@@ -240,26 +234,26 @@ replaced_filed bytes (Err e) p after own is = tt
 replaced_filed bytes (Ok x) p None own is = tt
 replaced_filed bytes (Ok x) p (Some q) own is = subst (IsFileOf (store_in (Some bytes))) (sym is.file) own
 
-wrote : {T E : Type 0} (had bytes : List ℕ) (result : Result T E) (p : FolderPast) (after : Option FolderPast) → store_in (Some had) ≡ (seen_now p).store → HasWholeStore p
+wrote : {T E : Type 0} (had bytes : List ℕ) (result : Result T E) (p : FolderPast) (after : Option FolderPast) → store_in (Some had) ≡ (seen_now p).store → HasUsableStore p
     → IsFileOf (store_in (Some had)) (bytes_named Store p) → bytes ≡ store_bytes (store_in (Some bytes)) → Writes had bytes result (Some p) after → Wrote (store_in (Some bytes)) result p after
-wrote {T = T} {E = E} had bytes result p after was whole filed own (inl had_them) =
+wrote {T = T} {E = E} had bytes result p after was usable filed own (inl had_them) =
     let store : store_in (Some bytes) ≡ (seen_now p).store = ap (λ (b : List ℕ). store_in (Some b)) had_them.same ∙ was in
     let seen : seen_now p ≡ with_store (store_in (Some bytes)) (seen_now p) = ap (λ (s : List Stored). with_store s (seen_now p)) (sym store) in
     subst (λ (o : Option FolderPast). Wrote {T = T} {E = E} (store_in (Some bytes)) result p o) (sym had_them.told) (record {
       ok = (had_ok result had_them.ok (seen_now p ≡ with_store (store_in (Some bytes)) (seen_now p)) ⊥ seen).0;
       err = (had_ok result had_them.ok (Unit {0}) ((seen_now p ≡ seen_now p) ⊎ (seen_now p ≡ with_store (store_in (Some bytes)) (seen_now p))) tt).1;
       files = λ file. same_file file p;
-      whole = whole;
+      usable = usable;
       filed = (had_ok result had_them.ok (IsFileOf (store_in (Some bytes)) (bytes_named Store p)) ⊥
           (subst (λ (b : List ℕ). IsFileOf (store_in (Some b)) (bytes_named Store p)) (sym had_them.same) filed)).0;
       stops = stands (InStore (Becomes (store_in (Some bytes)))) (clock_over (Some p)) (λ left. record { store = left.store; step = inl refl; rest = refl });
       saved = (had_ok result had_them.ok ((p ≡ p) ⊎ HasSettledStore p) ⊥ (inl refl)).0;
     })
-wrote had bytes result p after was whole filed own (inr replaces) = record {
+wrote had bytes result p after was usable filed own (inr replaces) = record {
   ok = replaced_sees bytes result p after replaces.ok;
   err = replaces.err;
   files = replaces.files;
-  whole = replaced_whole p after whole replaces.whole;
+  usable = replaced_usable p after usable replaces.usable;
   filed = replaced_filed bytes result p after own replaces.ok;
   stops = replaces.stops;
   saved = replaced_settles bytes result p after replaces.ok;
@@ -336,9 +330,9 @@ spared_here saved p q is bytes there none =
 -- a call that lost the device
 pub turned_lost : {T E : Type 0} (step : Device → Device) (saved : Saved) (before made : Device) (new : Kept) (e : E) (p : FolderPast) (after : Option FolderPast) → IsInStep (Here saved) p → before ≡ record saved.device { store = [] }
     → made ≡ step saved.device → IsDevice made → new ≡ Lost before made → IfTold (λ x y. (seen_now y ≡ seen_now x) ⊎ (seen_now y ≡ with_store made.store (seen_now x))) (Some p) after
-    → ((file : FileNo) → IfTold (KeepsFile file) (Some p) after) → IfSome after HasWholeStore → Passes (InStore (Becomes made.store)) (clock_over (Some p)) (clock_over after) → Turned {T = T} step (Here saved) new (Err e) (Some p) after
-turned_lost step saved before made new e p None is was same kept lost sees files whole stops = absurd sees
-turned_lost {T = T} {E = E} step saved before made new e p (Some q) is was same kept lost sees files whole stops =
+    → ((file : FileNo) → IfTold (KeepsFile file) (Some p) after) → IfSome after HasUsableStore → Passes (InStore (Becomes made.store)) (clock_over (Some p)) (clock_over after) → Turned {T = T} step (Here saved) new (Err e) (Some p) after
+turned_lost step saved before made new e p None is was same kept lost sees files usable stops = absurd sees
+turned_lost {T = T} {E = E} step saved before made new e p (Some q) is was same kept lost sees files usable stops =
     let taken : saved.device ≡ device_in (Here saved) p = ap (λ (s : List Stored). device_with s (volatile_of saved.device)) is.over in
     let made_is : made ≡ step (device_in (Here saved) p) = same ∙ ap step taken in
     let ends = lost_as step saved before made p q is was made_is kept sees files in
@@ -346,17 +340,17 @@ turned_lost {T = T} {E = E} step saved before made new e p (Some q) is was same 
       ok = tt;
       err = ends.turns;
       stops = subst (λ (d : Device). Passes (InStore (Becomes d.store)) (clock_over (Some p)) (clock_over (Some q))) made_is stops;
-      in_step = record { filed = tt; over = tt; device = ends.device; whole = whole };
+      in_step = record { filed = tt; over = tt; device = ends.device; usable = usable };
       saved = λ never. absurd never;
       spares = spared_here saved p q is;
     })
 
 -- a call that kept the device
 turned_put_back : {T E : Type 0} (step : Device → Device) (saved made : Saved) (new : Kept) (x : T) (p : FolderPast) (after : Option FolderPast) → IsInStep (Here saved) p → made.device ≡ step saved.device → IsDevice made.device → new ≡ Here made
-    → IfTold (λ x y. seen_now y ≡ with_store made.device.store (seen_now x)) (Some p) after → ((file : FileNo) → IfTold (KeepsFile file) (Some p) after) → IfSome after HasWholeStore → FiledAs made.device after
+    → IfTold (λ x y. seen_now y ≡ with_store made.device.store (seen_now x)) (Some p) after → ((file : FileNo) → IfTold (KeepsFile file) (Some p) after) → IfSome after HasUsableStore → FiledAs made.device after
     → Passes (InStore (Becomes made.device.store)) (clock_over (Some p)) (clock_over after) → IfTold (λ x y. (y ≡ x) ⊎ HasSettledStore y) (Some p) after → Turned {E = E} step (Here saved) new (Ok x) (Some p) after
-turned_put_back step saved made new x p None is same kept here sees files whole filed stops settled = absurd sees
-turned_put_back {T = T} {E = E} step saved made new x p (Some q) is same kept here sees files whole filed stops settled =
+turned_put_back step saved made new x p None is same kept here sees files usable filed stops settled = absurd sees
+turned_put_back {T = T} {E = E} step saved made new x p (Some q) is same kept here sees files usable filed stops settled =
     let taken : saved.device ≡ device_in (Here saved) p = ap (λ (s : List Stored). device_with s (volatile_of saved.device)) is.over in
     let made_is : made.device ≡ step (device_in (Here saved) p) = same ∙ ap step taken in
     let over : made.device.store ≡ (seen_now q).store = sym (ap (λ (l : Left). l.store) sees) in
@@ -368,7 +362,7 @@ turned_put_back {T = T} {E = E} step saved made new x p (Some q) is same kept he
       };
       err = tt;
       stops = subst (λ (d : Device). Passes (InStore (Becomes d.store)) (clock_over (Some p)) (clock_over (Some q))) made_is stops;
-      in_step = record { filed = filed; over = over; device = subst (λ (s : List Stored). IsDevice (device_with s (volatile_of made.device))) over kept; whole = whole };
+      in_step = record { filed = filed; over = over; device = subst (λ (s : List Stored). IsDevice (device_with s (volatile_of made.device))) over kept; usable = usable };
       saved = λ now. (tt, settled);
       spares = spared_here saved p q is;
     })
@@ -406,14 +400,14 @@ turned_wrote {T = T} {E = E} step saved made had before new result (Some p) afte
     let had_store : store_in (Some had) ≡ saved.device.store = bytes_again again had saved.device.store store (held ∙ saved.same) in
     let w : Wrote {T = T} {E = E} made.device.store result p after =
     subst (λ (s : List Stored). Wrote {T = T} {E = E} s result p after) (bytes_again again made.file made.device.store kept.store made.same)
-    (wrote had made.file result p after (had_store ∙ is.over) is.whole
+    (wrote had made.file result p after (had_store ∙ is.over) is.usable
     (subst (λ (s : List Stored). IsFileOf s (bytes_named Store p)) (sym had_store) is.filed)
     (made.same ∙ ap store_bytes (sym (bytes_again again made.file made.device.store kept.store made.same))) writes) in
     by result keeps w
   where
     by : (result : Result T E) → KeepsOrLoses result before made new → Wrote {T = T} {E = E} made.device.store result p after → Turned step (Here saved) new result (Some p) after
-    by (Ok x) keeps w = turned_put_back step saved made new x p after is same kept keeps w.ok w.files w.whole w.filed w.stops w.saved
-    by (Err e) keeps w = turned_lost step saved before made.device new e p after is was same kept keeps w.err w.files w.whole w.stops
+    by (Ok x) keeps w = turned_put_back step saved made new x p after is same kept keeps w.ok w.files w.usable w.filed w.stops w.saved
+    by (Err e) keeps w = turned_lost step saved before made.device new e p after is was same kept keeps w.err w.files w.usable w.stops
 
 -- the device was made, and its store didn't come to the file
 pub turned_unwritten : {T E : Type 0} (step : Device → Device) (saved : Saved) (before made : Device) (new : Kept) (e : E) (told after : Option FolderPast) → after ≡ told → IfSome told (IsInStep (Here saved)) → before ≡ record saved.device { store = [] }
@@ -421,7 +415,7 @@ pub turned_unwritten : {T E : Type 0} (step : Device → Device) (saved : Saved)
 turned_unwritten step saved before made new e None after same is was made_is kept lost = turned_untold step (Here saved) new (Err e) after same
 turned_unwritten {T = T} {E = E} step saved before made new e (Some p) after same is was made_is kept lost =
     subst (λ (o : Option FolderPast). Turned {T = T} {E = E} step (Here saved) new (Err e) (Some p) o) (sym same)
-    (turned_lost step saved before made new e p (Some p) is was made_is kept lost (inl refl) (λ file. same_file file p) is.whole
+    (turned_lost step saved before made new e p (Some p) is was made_is kept lost (inl refl) (λ file. same_file file p) is.usable
     (stands (InStore (Becomes made.store)) (clock_over (Some p)) (λ left. record { store = left.store; step = inl refl; rest = refl })))
 
 -- a change was to come into the file
@@ -433,12 +427,12 @@ turned_saved change new result told after again keeps writes step saved is in_st
 
 -- the file was replaced, or that failed
 pub replaces_ok : {T E F : Type 0} (bytes : List ℕ) (result : Result T E) (x : T) (old new : Option FolderPast) → is_err result ≡ false → Replaces bytes result old new → Replaces {E = F} bytes (Ok x) old new
-replaces_ok bytes (Ok y) x old new is r = record { whole = r.whole; files = r.files; ok = r.ok; err = tt; stops = r.stops }
+replaces_ok bytes (Ok y) x old new is r = record { usable = r.usable; files = r.files; ok = r.ok; err = tt; stops = r.stops }
 replaces_ok bytes (Err e) x old new is r = absurd cc
 
 pub replaces_err : {T U E F : Type 0} (bytes : List ℕ) (result : Result T E) (e : F) (old new : Option FolderPast) → is_err result ≡ true → Replaces bytes result old new → Replaces {T = U} bytes (Err e) old new
 replaces_err bytes (Ok y) e old new is r = absurd cc
-replaces_err bytes (Err f) e old new is r = record { whole = r.whole; files = r.files; ok = tt; err = r.err; stops = r.stops }
+replaces_err bytes (Err f) e old new is r = record { usable = r.usable; files = r.files; ok = tt; err = r.err; stops = r.stops }
 
 pub replaces_same : {T E : Type 0} (bytes same : List ℕ) (result : Result T E) (old new : Option FolderPast) → bytes ≡ same → Replaces bytes result old new → Replaces same result old new
 replaces_same bytes same result old new is r = subst (λ (b : List ℕ). Replaces b result old new) is r
@@ -478,12 +472,18 @@ in_step_taken saved old (Some p) is filed taken = record {
   filed = filed;
   over = ap (λ (d : Device). d.store) taken;
   device = subst IsDevice (sym (taken_is saved old p taken)) is.device;
-  whole = is.whole;
+  usable = is.usable;
 }
 
 pub turned_or : {T E F : Type 0} (step : Device → Device) (old new : Kept) (result : Result T E) (f : F) (before after : Option FolderPast) → Turned step old new result before after → Turned step old new (result_or result (Err f)) before after
 turned_or step old new (Ok x) f before after turned = record { ok = turned.ok; err = tt; stops = turned.stops; in_step = turned.in_step; saved = turned.saved; spares = turned.spares }
 turned_or step old new (Err e) f before after turned = record { ok = tt; err = turned.err; stops = turned.stops; in_step = turned.in_step; saved = turned.saved; spares = turned.spares }
+
+-- a put whose store came into the file, or didn't because a call of the system failed
+pub turned_put : {E : Type 0} (step : Device → Device) (old new : Kept) (result : Result (Unit {0}) E) (why : CallFailed) (before after : Option FolderPast) → Turned step old new result before after
+    → Turned step old new (put_answer (result_or result (Err (Call why)))) before after
+turned_put step old new (Ok x) why before after turned = record { ok = turned.ok; err = tt; stops = turned.stops; in_step = turned.in_step; saved = turned.saved; spares = turned.spares }
+turned_put step old new (Err e) why before after turned = record { ok = tt; err = turned.err; stops = turned.stops; in_step = turned.in_step; saved = turned.saved; spares = turned.spares }
 
 pub put_is : (id : ℕ) (bytes : List ℕ) (d made : Device) → made ≡ with_put id bytes d → refusal_of id bytes d.store ≡ None → made ≡ after_put id bytes d
 put_is id bytes d made is free = is ∙ ap (λ (r : Option PutRefused). unless_refused r (with_put id bytes d) d) (sym free)

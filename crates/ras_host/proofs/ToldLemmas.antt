@@ -254,7 +254,7 @@ settled_moved Sees Step f g kept None after moves in_step is = subst (λ (o : Op
 settled_moved Sees Step f g kept (Some p) None moves in_step is = tt
 settled_moved Sees Step f g kept (Some p) (Some q) moves in_step is = λ sound saved. elim (moves.settles sound) [
   | inl was ↦ moves.store.settled (is was saved)
-  | inr settles ↦ settles in_step.whole
+  | inr settles ↦ settles in_step.usable.whole
 ]
 
 pub settled_now : (files : JournalFiles) (kept : Kept) (told : Option FolderPast) → IfSome told (IsSettledBy files kept) → IsOneSound files → IsSaved kept → IfSome told HasSettledStore
@@ -267,14 +267,14 @@ in_step_store kept p q same file whole is = record {
   filed = subst (IsFiled kept) (sym file) is.filed;
   over = subst (λ (s : List Stored). IsOver kept s) (sym same) is.over;
   device = subst (λ (s : List Stored). IsDevice (device_with s (volatile_in kept s))) (sym same) is.device;
-  whole = whole;
+  usable = record { whole = whole; bytes = rw file is.usable.bytes };
 }
 
 pub in_step_moved : (Step : Left → Left → Type 0) (Sees : FolderPast → FolderPast → Type 0) (f g : JournalFiles) (kept : Kept) (before after : Option FolderPast) → Moves Sees Step f g before after
     → ((p q : FolderPast) → Sees p q → (seen_now q).store ≡ (seen_now p).store) → IfSome before (IsInStep kept) → IfSome after (IsInStep kept)
 in_step_moved Step Sees f g kept None after moves store is = subst (λ (o : Option FolderPast). IfSome o (IsInStep kept)) (sym moves.store) tt
 in_step_moved Step Sees f g kept (Some p) None moves store is = tt
-in_step_moved Step Sees f g kept (Some p) (Some q) moves store is = in_step_store kept p q (store p q moves.sees) moves.store.same (moves.store.whole is.whole) is
+in_step_moved Step Sees f g kept (Some p) (Some q) moves store is = in_step_store kept p q (store p q moves.sees) moves.store.same (moves.store.whole is.usable.whole) is
 
 -- ---- the folder as the board found it
 
@@ -349,7 +349,7 @@ held_printed files before after keeps is = held_seen files before after (told_fi
 pub in_step_printed : (kept : Kept) (before after : Option FolderPast) → IfTold KeepsAll before after → IfSome before (IsInStep kept) → IfSome after (IsInStep kept)
 in_step_printed kept None after keeps is = subst (λ (o : Option FolderPast). IfSome o (IsInStep kept)) (sym keeps) tt
 in_step_printed kept (Some p) None keeps is = tt
-in_step_printed kept (Some p) (Some q) keeps is = in_step_store kept p q keeps.same keeps.store.same (keeps.store.whole is.whole) is
+in_step_printed kept (Some p) (Some q) keeps is = in_step_store kept p q keeps.same keeps.store.same (keeps.store.whole is.usable.whole) is
 
 pub settled_printed : (files : JournalFiles) (kept : Kept) (before after : Option FolderPast) → IfTold KeepsAll before after → IfSome before (IsSettledBy files kept) → IfSome after (IsSettledBy files kept)
 settled_printed files kept None after keeps is = subst (λ (o : Option FolderPast). IfSome o (IsSettledBy files kept)) (sym keeps) tt
@@ -370,7 +370,7 @@ pub in_step_wrote : {T E : Type 0} (file : FileNo) (place : ℕ) (bytes : List �
     → IfSome before (IsInStep kept) → IfSome after (IsInStep kept)
 in_step_wrote file place bytes result kept None after w is = subst (λ (o : Option FolderPast). IfSome o (IsInStep kept)) (sym w.keeps) tt
 in_step_wrote file place bytes result kept (Some p) None w is = tt
-in_step_wrote file place bytes result kept (Some p) (Some q) w is = in_step_store kept p q (wrote_store file place bytes result p q w) w.keeps.same (w.keeps.whole is.whole) is
+in_step_wrote file place bytes result kept (Some p) (Some q) w is = in_step_store kept p q (wrote_store file place bytes result p q w) w.keeps.same (w.keeps.whole is.usable.whole) is
 
 pub settled_wrote : (file : FileNo) (files : JournalFiles) (kept : Kept) (before after : Option FolderPast) → IfTold (KeepsOthers file) before after → IfSome before (IsSettledBy files kept) → IfSome after (IsSettledBy files kept)
 settled_wrote file files kept None after keeps is = subst (λ (o : Option FolderPast). IfSome o (IsSettledBy files kept)) (sym keeps) tt

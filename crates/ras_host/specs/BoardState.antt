@@ -11,12 +11,14 @@ abbrev pub kept_for : ℕ → Kept
 kept_for how = if how == 1 then Unread else Unreadable
 
 -- what was done to the folder, if the system is modelled; the journal's files and the device as the board has
--- them; how often its calls have failed, and how often the system's; the calls that it lists, as numbers
+-- them; how often its calls have failed, how often the system's, and how often a call was refused; the calls that
+-- it lists, as numbers
 pub record BoardState : Type 0 where
   pub past : Option FolderPast
   pub files : JournalFiles
   pub kept : Kept
   pub faults : Faults
   pub count : ℕ
+  pub refused : ℕ
   pub disk_calls : List (List ℕ × List ℕ)
   pub accesses : List (List ℕ × List ℕ)

@@ -1,8 +1,8 @@
 -- What only proofs use: no public clause refers to it.
 pub mod BoardLaws
+pub mod Failures
 pub mod KeptDevice
 pub mod Listed
-pub mod Once
 pub mod OverKernel
 pub mod Settled
 pub mod Telling

@@ -4,16 +4,17 @@ ghost use Rattle.board_core.specs.Cause.{FailsAs, disk_call};
 ghost use Rattle.board_core.specs.Clock.{Passes};
 ghost use Rattle.board_core.specs.Stop.{Same};
 ghost use Rattle.board_core.specs.Told.{Steps, with_call};
+ghost use Rattle.host_system.specs.BoardFile.{AreOpenable};
 ghost use Rattle.host_system.specs.FolderPast.{GoesOnBy, PrintsOrSyncs};
 ghost use Rattle.host_system.specs.StoreFile.{SparesNoStore};
-ghost use Rattle.host_system.specs.View.{MayBegin};
+ghost use Rattle.host_system.specs.View.{HasUsableStore, MayBegin};
 ghost use Rattle.ras_host.specs.Steps.Telling.{clock_of, seen_of, told_of};
 ghost use Rattle.ras_host.specs.Blame.{AreCaused};
 ghost use Rattle.ras_host.specs.JournalFiles.{IsReady, files_for};
 ghost use Rattle.ras_host.specs.BoardState.{kept_for};
 ghost use Rattle.ras_host.specs.Steps.BoardLaws.{board_told_left, board_text_left, board_earlier_left};
 
-use crate::faults::count_put;
+use crate::faults::{CallFailed, Refusals, counted_by, counted_put};
 use crate::journal::JournalFiles;
 use crate::kept::Kept;
 use crate::listed::{list_access, list_disk_call};
@@ -39,6 +40,7 @@ pub struct FileBoard<S: System + Drop, U: Use, B: Found> {
     disk_faults: u64,
     register_faults: u64,
     print_faults: u64,
+    refusals: Refusals,
     disk_calls: Notes,
     accesses: Notes,
     used: PhantomData<U>,
@@ -66,6 +68,7 @@ impl<S: System + Drop, U: Use, B: Found> Model for FileBoard<S, U, B> {
         prints = b.print_faults;
       };
       count = S.faults b.system;
+      refused = b.refusals;
       disk_calls = b.disk_calls.calls;
       accesses = b.accesses.calls;
     } };
@@ -77,7 +80,7 @@ impl<S: System + Drop, U: Use, B: Found> Model for FileBoard<S, U, B> {
           disk = b.disk_faults;
           registers = b.register_faults;
           prints = b.print_faults;
-        }) (S.faults b.system)
+        }) (S.faults b.system) b.refusals
         × IfSome B.past (λ found. IsSomeAnd (S.told b.system) (SparesNoStore found))
         × (U.HOW ≡ 0 → IsReading b.kept B.past (S.told b.system)) };
 }
@@ -105,6 +108,7 @@ impl<S: System + Drop, U: Use, B: Found> FileBoard<S, U, B> {
             disk_faults: 0,
             register_faults: 0,
             print_faults: 0,
+            refusals: Refusals::none(),
             disk_calls: Notes::new(),
             accesses: Notes::new(),
             used: PhantomData,
@@ -112,16 +116,19 @@ impl<S: System + Drop, U: Use, B: Found> FileBoard<S, U, B> {
         }
     }
 
-    /// Returns the system that the board is over.
-    pub fn into_system(self) -> S
-        ensures past { S.told result ≡ self.past }
-        ensures count { S.faults result ≡ self.count }
-        ensures caused { AreCaused U.HOW self.files self.kept self.faults self.count }
+    /// Returns the system that the board is over, and how often a call was refused.
+    pub fn into_parts(self) -> (S, Refusals)
+        ensures past { S.told result.0 ≡ self.past }
+        ensures count { S.faults result.0 ≡ self.count }
+        ensures refused { result.1 ≡ self.refused }
+        ensures caused { AreCaused U.HOW self.files self.kept self.faults self.count self.refused }
+        ensures synced { self.faults.disk ≡ 0 → IfSome self.past AreOpenable }
+        ensures store { IfSome self.past HasUsableStore }
         ensures spares { IfSome B.past (λ found. IsSomeAnd self.past (SparesNoStore found)) }
         ensures reading { U.HOW ≡ 0 → IfSome B.past (λ found. IsSomeAnd self.past
             (GoesOnBy PrintsOrSyncs found)) }
     {
-        self.system
+        (self.system, self.refusals)
     }
 }
 
@@ -137,7 +144,7 @@ impl<S: System + Drop, U: Use, B: Found> FileBoard<S, U, B> {
     {
         list_disk_call(call, &mut self.disk_calls);
         let answer = self.files.ready(self.alloc, file, &mut self.system);
-        counted(answer, &mut self.disk_faults)
+        counted_by(answer, &mut self.disk_faults, &mut self.refusals)
     }
 }
 
@@ -159,13 +166,14 @@ impl<S: System + Drop, U: Use, B: Found> Board for FileBoard<S, U, B> {
     fn read_at(&mut self, file: FileNo, place: u64, buf: &mut [u8]) -> Result<usize, Failed> {
         self.begin(file, DiskCall::ReadAt(file, place, buf.len() as u64))?;
         let answer = self.files.read_at(file, place, buf, &mut self.system);
-        counted(answer, &mut self.disk_faults)
+        counted_by(answer, &mut self.disk_faults, &mut self.refusals)
     }
 
     fn write_at(&mut self, file: FileNo, place: u64, bytes: &[u8]) -> Result<(), Failed> {
         self.begin(file, DiskCall::WriteAt(file, place, bytes.len() as u64))?;
         if let JournalFiles::Seen(..) = self.files {
-            return counted(Err(Failed), &mut self.disk_faults);
+            let refused = Err(CallFailed::Refused);
+            return counted_by(refused, &mut self.disk_faults, &mut self.refusals);
         }
         let answer = self.system.write_at(FileName::Journal(file), place, bytes);
         counted(answer, &mut self.disk_faults)
@@ -175,17 +183,18 @@ impl<S: System + Drop, U: Use, B: Found> Board for FileBoard<S, U, B> {
     // the disk has. A sync that succeeds would say that it is.
     fn sync(&mut self, file: FileNo) -> Result<(), Failed> {
         if !self.kept.is_saved() {
-            return counted(Err(Failed), &mut self.disk_faults);
+            let refused = Err(CallFailed::Refused);
+            return counted_by(refused, &mut self.disk_faults, &mut self.refusals);
         }
         self.begin(file, DiskCall::Sync(file))?;
         let answer = self.files.sync(file, &mut self.system);
-        counted(answer, &mut self.disk_faults)
+        counted_by(answer, &mut self.disk_faults, &mut self.refusals)
     }
 
     fn reg_read(&mut self, reg: Reg) -> Result<u64, Failed> {
         let answer = self.kept.reg_read(self.alloc, reg, &mut self.system);
         list_access(Access::Read(reg, answer.unwrap_or(0)), &mut self.accesses);
-        counted(answer, &mut self.register_faults)
+        counted_by(answer, &mut self.register_faults, &mut self.refusals)
     }
 
     fn reg_write(&mut self, reg: Reg, value: u64) -> Result<(), Failed> {
@@ -193,7 +202,7 @@ impl<S: System + Drop, U: Use, B: Found> Board for FileBoard<S, U, B> {
             .kept
             .reg_write(self.alloc, reg, value, &mut self.system);
         list_access(Access::Write(reg, value), &mut self.accesses);
-        counted(answer, &mut self.register_faults)
+        counted_by(answer, &mut self.register_faults, &mut self.refusals)
     }
 
     fn range_read(&mut self, place: u32, buf: &mut [u8]) -> Result<(), Failed> {
@@ -202,7 +211,7 @@ impl<S: System + Drop, U: Use, B: Found> Board for FileBoard<S, U, B> {
             .kept
             .range_read(self.alloc, place, buf, &mut self.system);
         list_access(access, &mut self.accesses);
-        counted(answer, &mut self.register_faults)
+        counted_by(answer, &mut self.register_faults, &mut self.refusals)
     }
 
     fn range_write(&mut self, place: u32, bytes: &[u8]) -> Result<(), Failed> {
@@ -213,13 +222,12 @@ impl<S: System + Drop, U: Use, B: Found> Board for FileBoard<S, U, B> {
             Access::RangeWrite(place, bytes.len() as u32),
             &mut self.accesses,
         );
-        counted(answer, &mut self.register_faults)
+        counted_by(answer, &mut self.register_faults, &mut self.refusals)
     }
 
     fn put(&mut self, id: u64, bytes: &[u8]) -> Result<(), BoardPut> {
         let answer = self.kept.put(self.alloc, id, bytes, &mut self.system);
-        count_put(&answer, &mut self.register_faults);
-        answer
+        counted_put(answer, &mut self.register_faults, &mut self.refusals)
     }
 
     fn print(&mut self, bytes: &[u8]) -> Result<(), Failed> {

@@ -8,8 +8,9 @@ ghost use Rattle.host_system.specs.BoardFile.{SeesSame};
 ghost use Rattle.host_system.specs.View.{clock_over, seen_now};
 ghost use Rattle.ras_host.specs.Blame.{AreBlamed, AreReports, AreUsed, FilesCause};
 ghost use Rattle.ras_host.specs.JournalFiles.{AreHeld, IsOneSound, IsReady, Moves, files_for};
-ghost use Rattle.ras_host.specs.Steps.Once.{CountsOnce};
+ghost use Rattle.ras_host.specs.Steps.Failures.{system_failure};
 
+use crate::faults::CallFailed;
 use crate::reading::{Pair, ReadFile, read_journal};
 use board_core::{Failed, FileNo};
 use host_system::{FileName, System, open_files, read_file};
@@ -48,13 +49,13 @@ impl JournalFiles {
     ///
     /// # Errors
     ///
-    /// `Failed`: in a run, only if a call of the system failed, this time or before.
+    /// `System`: a call of the system failed. `Refused`: in a run, only if one failed before.
     pub fn ready<S: System>(
         &mut self,
         alloc: Global,
         file: FileNo,
         system: &mut S,
-    ) -> Result<(), Failed>
+    ) -> Result<(), CallFailed>
         requires held { IfSome (S.told system.old) (AreHeld self.old) }
         requires blamed { AreBlamed self.old (S.faults system.old) }
         ensures moves { Moves SeesSame Same self.old self.new (S.told system.old)
@@ -67,7 +68,7 @@ impl JournalFiles {
     {
         self.open(alloc, system)?;
         match self {
-            JournalFiles::Open(sound) if !*sound.of(file) => Err(Failed),
+            JournalFiles::Open(sound) if !*sound.of(file) => Err(CallFailed::Refused),
             _ => Ok(()),
         }
     }
@@ -97,27 +98,28 @@ impl JournalFiles {
     ///
     /// # Errors
     ///
-    /// `Failed`: in a run, only if a call of the system failed, which is counted. A report fails
-    /// past what it read of a file that is too long.
+    /// `System`: a call of the system failed. `Refused`: a report read only the first bytes of the
+    /// file, which is too long, and these aren't all among them.
     pub fn read_at<S: System>(
         &self,
         file: FileNo,
         place: u64,
         buf: &mut [u8],
         system: &mut S,
-    ) -> Result<usize, Failed>
+    ) -> Result<usize, CallFailed>
         requires held { IfSome (S.told system.old) (AreHeld self.now) }
         requires ready { IsReady file self.now }
         ensures within { IfOk result (λ n. n ≤ length buf.old) }
         ensures read { IfOk result (λ n. IfSome (S.told system.old)
             (λ p. ReadsBytes place n buf.new (file_in file (seen_now p)))) }
         ensures told { S.told system.new ≡ S.told system.old }
-        ensures once { CountsOnce (S.faults system.old) (S.faults system.new) result }
+        ensures counts { HasCause (S.faults system.old) (S.faults system.new)
+            (system_failure result) }
         ensures cause { OnErr result (AreReports self.now ⊎ (0 < S.faults system.new)) }
     {
         match self {
             JournalFiles::Seen(files, _) => files.of(file).read_at(place, buf),
-            _ => read_file(file, place, buf, system),
+            _ => read_file(file, place, buf, system).or(Err(CallFailed::System)),
         }
     }
 
@@ -125,9 +127,9 @@ impl JournalFiles {
     ///
     /// # Errors
     ///
-    /// `Failed`: in a run, only if a call of the system failed, which is counted. The file isn't
-    /// used again afterwards.
-    pub fn sync<S: System>(&mut self, file: FileNo, system: &mut S) -> Result<(), Failed>
+    /// `System`: a call of the system failed. `Refused`, in a report only: an earlier sync failed.
+    /// The file isn't used again afterwards.
+    pub fn sync<S: System>(&mut self, file: FileNo, system: &mut S) -> Result<(), CallFailed>
         requires held { IfSome (S.told system.old) (AreHeld self.old) }
         requires ready { IsReady file self.old }
         requires blamed { AreBlamed self.old (S.faults system.old) }
@@ -145,19 +147,19 @@ impl JournalFiles {
             JournalFiles::Open(sound) => {
                 let answer = system.sync(FileName::Journal(file));
                 sound.set(file, answer.is_ok());
-                answer
+                answer.or(Err(CallFailed::System))
             }
             JournalFiles::Seen(_, sound) if *sound.of(file) => {
                 let answer = system.sync_read(file);
                 sound.set(file, answer.is_ok());
-                answer
+                answer.or(Err(CallFailed::System))
             }
-            _ => Err(Failed),
+            _ => Err(CallFailed::Refused),
         }
     }
 
     // Opens or reads both files, unless that was done.
-    fn open<S: System>(&mut self, alloc: Global, system: &mut S) -> Result<(), Failed>
+    fn open<S: System>(&mut self, alloc: Global, system: &mut S) -> Result<(), CallFailed>
         requires held { IfSome (S.told system.old) (AreHeld self.old) }
         requires blamed { AreBlamed self.old (S.faults system.old) }
         ensures moves { Moves SeesSame Same self.old self.new (S.told system.old)
@@ -173,14 +175,14 @@ impl JournalFiles {
                 let answer = open_files(system);
                 let is_sound = answer.is_ok();
                 *self = JournalFiles::Open(both(is_sound));
-                answer
+                answer.or(Err(CallFailed::System))
             }
             JournalFiles::Unread => {
                 let files = read_journal(alloc, system)?;
                 let answer = system.sync_names();
                 let is_sound = answer.is_ok();
                 *self = JournalFiles::Seen(files, both(is_sound));
-                answer
+                answer.or(Err(CallFailed::System))
             }
             JournalFiles::Open(_) | JournalFiles::Seen(..) => Ok(()),
         }

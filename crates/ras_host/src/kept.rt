@@ -1,6 +1,6 @@
 //! The device of a board, over the record store of the working folder.
 ghost use Rattle.std.specs.Prelude.{◌≡◌, ◌+◌, ◌≤◌, [], false, length, take, drop, Some, IsOk, IsTrue, OnOk, OnErr, IfOk, IfSome, IsErr};
-ghost use Rattle.board_core.specs.Cause.{put_failure};
+ghost use Rattle.board_core.specs.Cause.{HasCause, put_failure};
 ghost use Rattle.board_core.specs.Told.{AnswersPut, after_put, after_range_write, after_reg_write, register_in};
 ghost use Rattle.erst_store.specs.declared.device.Command.TheVariants.{Clear};
 ghost use Rattle.erst_store.specs.Actions.{execute_operation, range_length};
@@ -11,11 +11,12 @@ ghost use Rattle.erst_store.specs.StoreFile.{store_bytes};
 ghost use Rattle.host_system.specs.View.{seen_now, IsFileOf};
 ghost use Rattle.host_system.specs.FolderPast.{bytes_named};
 ghost use Rattle.ras_host.specs.BoardState.{kept_for};
-ghost use Rattle.ras_host.specs.Steps.Once.{CountsOnce};
+ghost use Rattle.ras_host.specs.Steps.Failures.{call_answer, put_answer, system_failure};
 ghost use Rattle.ras_host.specs.Steps.KeptDevice.{Acts, Does, IfRefused, IsChange, IsHere, IsInStep, IsOff, IsSaved, IsThere, IsUsed, Keeps, Looks, Puts, Stays, StaysOff, StaysOrLoses, Turned, after_answer, device_in};
 
+use crate::faults::{CallFailed, PutFailed};
 use crate::saved::{RECORD_HEADING, Saved};
-use board_core::{BoardPut, Failed, Reg};
+use board_core::{Failed, Reg};
 use erst_store::{Dev, PutRefused, StoreFile, file_laws};
 use host_system::{FileName, System, replace_store};
 use std::alloc::Global;
@@ -58,7 +59,7 @@ impl Kept {
 
     // Takes the device out, reading it at its first use. The caller puts it back, or marks it as
     // lost.
-    fn take<S: System>(&mut self, alloc: Global, system: &mut S) -> Result<Saved, Failed>
+    fn take<S: System>(&mut self, alloc: Global, system: &mut S) -> Result<Saved, CallFailed>
         requires { IfSome (S.told system.old) (IsInStep self.old) }
         ensures taken { IfOk result (λ saved. IfSome (S.told system.old)
             (λ p. saved.device ≡ device_in self.old p)) }
@@ -70,14 +71,15 @@ impl Kept {
         ensures lost { OnErr result (IfSome (S.told system.old) (Keeps self.old self.new)) }
         ensures in_step { OnErr result (IfSome (S.told system.new) (IsInStep self.new)) }
         ensures off { IsOff self.old → IsErr result × IsOff self.new }
-        ensures once { CountsOnce (S.faults system.old) (S.faults system.new) result }
+        ensures cause { HasCause (S.faults system.old) (S.faults system.new)
+            (system_failure result) }
     {
         match replace(self, Kept::Unreadable) {
             Kept::Here(saved) => Ok(saved),
             Kept::Unread => Saved::read(alloc, system),
             lost => {
                 *self = lost;
-                Err(Failed)
+                Err(CallFailed::Refused)
             }
         }
     }
@@ -105,7 +107,7 @@ impl Kept {
         alloc: Global,
         reg: Reg,
         system: &mut S,
-    ) -> Result<u64, Failed>
+    ) -> Result<u64, CallFailed>
         requires { IfSome (S.told system.old) (IsInStep self.old) }
         ensures value { IfOk result (λ n. IfSome (S.told system.old)
             (λ p. n ≡ register_in reg (device_in self.old p))) }
@@ -113,7 +115,8 @@ impl Kept {
         ensures looks { Looks self.old self.new result (S.told system.old) (S.told system.new) }
         ensures off { IsOff self.old → StaysOff self.old self.new (S.told system.old)
             (S.told system.new) }
-        ensures once { CountsOnce (S.faults system.old) (S.faults system.new) result }
+        ensures cause { HasCause (S.faults system.old) (S.faults system.new)
+            (system_failure result) }
     {
         let saved = self.take(alloc, system)?;
         let number = register_of(reg, &saved.device);
@@ -129,20 +132,21 @@ impl Kept {
         reg: Reg,
         value: u64,
         system: &mut S,
-    ) -> Result<(), Failed>
+    ) -> Result<(), CallFailed>
         requires { IfSome (S.told system.old) (IsInStep self.old) }
         ensures turned { Turned (after_reg_write reg value) self.old self.new result
             (S.told system.old) (S.told system.new) }
         ensures does { OnOk result (Does (after_reg_write reg value) self.old self.new) }
         ensures off { IsOff self.old → StaysOff self.old self.new (S.told system.old)
             (S.told system.new) }
-        ensures once { CountsOnce (S.faults system.old) (S.faults system.new) result }
+        ensures cause { HasCause (S.faults system.old) (S.faults system.new)
+            (system_failure result) }
     {
         let saved = self.take(alloc, system)?;
         match reg {
             Reg::Action if saved.device.may_change(value) => {
                 let change = self.act(alloc, saved, value)?;
-                self.save(change, system)
+                self.save(change, system).or(Err(CallFailed::System))
             }
             Reg::Action => self.act_alone(saved, value),
             Reg::Value => {
@@ -161,24 +165,26 @@ impl Kept {
     }
 
     // Does an action that doesn't change the store.
-    fn act_alone(&mut self, mut saved: Saved, action: u64) -> Result<(), Failed>
+    fn act_alone(&mut self, mut saved: Saved, action: u64) -> Result<(), CallFailed>
         requires { ¬ MayChange action saved.device }
         ensures ok { OnOk result (Acts (after_reg_write Reg.Action action) saved.device self.new) }
         ensures err { OnErr result (Acts (λ d. d) saved.device self.new) }
+        ensures cause { IsOk (system_failure result) }
     {
         let answer = saved.device.write_action(action);
         self.put_back(saved);
-        answer.or(Err(Failed))
+        answer.or(Err(CallFailed::Refused))
     }
 
     // Does an action that may change the store, whose bytes may not be in the file then.
-    fn act(&mut self, alloc: Global, saved: Saved, action: u64) -> Result<Change, Failed>
+    fn act(&mut self, alloc: Global, saved: Saved, action: u64) -> Result<Change, CallFailed>
         ensures ok { IfOk result (λ change. IsChange (act action) saved change) }
         ensures err { OnErr result (StaysOrLoses (act action) saved self.new) }
+        ensures cause { IsOk (system_failure result) }
     {
         let Ok(before) = saved.device.without_store(alloc) else {
             self.put_back(saved);
-            return Err(Failed);
+            return Err(CallFailed::Refused);
         };
         if saved.device.clears(action) {
             return Ok(cleared(before, saved));
@@ -194,22 +200,23 @@ impl Kept {
         before: Dev,
         saved: Saved,
         action: u64,
-    ) -> Result<Change, Failed>
+    ) -> Result<Change, CallFailed>
         requires { before ≡ record saved.device { store = [] } }
         ensures ok { IfOk result (λ change. IsChange (act action) saved change) }
         ensures err { OnErr result (StaysOrLoses (act action) saved self.new) }
+        ensures cause { IsOk (system_failure result) }
     {
         let Saved { mut device, file } = saved;
         let Ok(()) = device.write_action(action) else {
             self.put_back(Saved { device, file });
-            return Err(Failed);
+            return Err(CallFailed::Refused);
         };
         let Ok(bytes) = device.store().to_bytes(alloc) else {
             *self = Kept::Lost {
                 before,
                 after: device,
             };
-            return Err(Failed);
+            return Err(CallFailed::Refused);
         };
         Ok(change_to(before, device, bytes, &file))
     }
@@ -222,7 +229,7 @@ impl Kept {
             → Turned step (Kept.Here saved) self.new result (S.told system.old)
             (S.told system.new) }
         ensures here { OnOk result (self.new ≡ Kept.Here change.made) }
-        ensures once { CountsOnce (S.faults system.old) (S.faults system.new) result }
+        ensures cause { HasCause (S.faults system.old) (S.faults system.new) result }
     {
         file_laws();
         let Change {
@@ -253,7 +260,7 @@ impl Kept {
         place: u32,
         buf: &mut [u8],
         system: &mut S,
-    ) -> Result<(), Failed>
+    ) -> Result<(), CallFailed>
         requires within { place + length buf.old ≤ range_length }
         requires in_step { IfSome (S.told system.old) (IsInStep self.old) }
         ensures read { OnOk result (IfSome (S.told system.old)
@@ -263,7 +270,8 @@ impl Kept {
         ensures looks { Looks self.old self.new result (S.told system.old) (S.told system.new) }
         ensures off { IsOff self.old → StaysOff self.old self.new (S.told system.old)
             (S.told system.new) }
-        ensures once { CountsOnce (S.faults system.old) (S.faults system.new) result }
+        ensures cause { HasCause (S.faults system.old) (S.faults system.new)
+            (system_failure result) }
     {
         let saved = self.take(alloc, system)?;
         saved.device.range_read(place, buf);
@@ -279,7 +287,7 @@ impl Kept {
         place: u32,
         bytes: &[u8],
         system: &mut S,
-    ) -> Result<(), Failed>
+    ) -> Result<(), CallFailed>
         requires within { place + length bytes.now ≤ range_length }
         requires in_step { IfSome (S.told system.old) (IsInStep self.old) }
         ensures turned { Turned (after_range_write place bytes.now) self.old self.new result
@@ -289,7 +297,8 @@ impl Kept {
         ensures told { S.told system.new ≡ S.told system.old }
         ensures off { IsOff self.old → StaysOff self.old self.new (S.told system.old)
             (S.told system.new) }
-        ensures once { CountsOnce (S.faults system.old) (S.faults system.new) result }
+        ensures cause { HasCause (S.faults system.old) (S.faults system.new)
+            (system_failure result) }
     {
         let mut saved = self.take(alloc, system)?;
         saved.device.range_write(place, bytes);
@@ -305,23 +314,24 @@ impl Kept {
         id: u64,
         bytes: &[u8],
         system: &mut S,
-    ) -> Result<(), BoardPut>
+    ) -> Result<(), PutFailed>
         requires { IfSome (S.told system.old) (IsInStep self.old) }
-        ensures turned { Turned (after_put id bytes.now) self.old self.new result
+        ensures turned { Turned (after_put id bytes.now) self.old self.new (put_answer result)
             (S.told system.old) (S.told system.new) }
-        ensures puts { OnOk (put_failure result)
-            (Puts id bytes.now result self.old self.new) }
+        ensures puts { OnOk (put_failure (put_answer result))
+            (Puts id bytes.now (put_answer result) self.old self.new) }
         ensures answers { IfSome (S.told system.old)
-            (λ p. AnswersPut result (refusal_of id bytes.now (seen_now p).store)) }
-        ensures refused { IfRefused result (Stays self.old self.new (S.told system.old)
-            (S.told system.new)) }
+            (λ p. AnswersPut (put_answer result) (refusal_of id bytes.now (seen_now p).store)) }
+        ensures refused { IfRefused (put_answer result) (Stays self.old self.new
+            (S.told system.old) (S.told system.new)) }
         ensures off { IsOff self.old → StaysOff self.old self.new (S.told system.old)
             (S.told system.new) }
-        ensures once { CountsOnce (S.faults system.old) (S.faults system.new) (put_failure result) }
+        ensures cause { HasCause (S.faults system.old) (S.faults system.new)
+            (system_failure (call_answer result)) }
     {
         match self.take(alloc, system) {
             Ok(saved) => self.put_into(alloc, saved, id, bytes, system),
-            Err(Failed) => Err(BoardPut::Failed),
+            Err(failed) => Err(PutFailed::Call(failed)),
         }
     }
 
@@ -333,23 +343,25 @@ impl Kept {
         id: u64,
         bytes: &[u8],
         system: &mut S,
-    ) -> Result<(), BoardPut>
+    ) -> Result<(), PutFailed>
         requires { IfSome (S.told system.old) (IsInStep (Kept.Here saved)) }
-        ensures turned { Turned (after_put id bytes.now) (Kept.Here saved) self.new result
-            (S.told system.old) (S.told system.new) }
-        ensures answers { AnswersPut result (refusal_of id bytes.now saved.device.store) }
-        ensures here { OnOk (put_failure result)
-            (IsHere self.new (after_answer id bytes.now result saved.device)) }
-        ensures refused { IfRefused result (Stays (Kept.Here saved) self.new (S.told system.old)
-            (S.told system.new)) }
-        ensures once { CountsOnce (S.faults system.old) (S.faults system.new) (put_failure result) }
+        ensures turned { Turned (after_put id bytes.now) (Kept.Here saved) self.new
+            (put_answer result) (S.told system.old) (S.told system.new) }
+        ensures answers { AnswersPut (put_answer result)
+            (refusal_of id bytes.now saved.device.store) }
+        ensures here { OnOk (put_failure (put_answer result))
+            (IsHere self.new (after_answer id bytes.now (put_answer result) saved.device)) }
+        ensures refused { IfRefused (put_answer result) (Stays (Kept.Here saved) self.new
+            (S.told system.old) (S.told system.new)) }
+        ensures cause { HasCause (S.faults system.old) (S.faults system.new)
+            (system_failure (call_answer result)) }
     {
         let Saved { mut device, file } = saved;
         let (before, mut new) = match put_alone(alloc, id, bytes, &mut device) {
             Ok(made) => made,
             Err(refused) => {
                 self.put_back(Saved { device, file });
-                return Err(BoardPut::Refused(refused));
+                return Err(PutFailed::Store(refused));
             }
         };
         let Ok(()) = device.store().push_bytes(&mut new) else {
@@ -357,10 +369,11 @@ impl Kept {
                 before,
                 after: device,
             };
-            return Err(BoardPut::Failed);
+            return Err(PutFailed::Call(CallFailed::Refused));
         };
         let change = change_to(before, device, new, &file);
-        self.save(change, system).or(Err(BoardPut::Failed))
+        self.save(change, system)
+            .or(Err(PutFailed::Call(CallFailed::System)))
     }
 }
 

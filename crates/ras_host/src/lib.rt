@@ -24,6 +24,7 @@ mod real_kernel;
 mod saved;
 mod uses;
 
+pub use faults::Refusals;
 pub use file_board::FileBoard;
 pub use file_source::FileSource;
 pub use over_input::OverInput;

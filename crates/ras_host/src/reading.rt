@@ -1,12 +1,14 @@
 //! The journal's files as a report reads them: both at one time, possibly while a run writes them.
-ghost use Rattle.std.specs.Prelude.{◌≡◌, ◌≤◌, ℕ, List, length, take, IfSome, IfOk};
+ghost use Rattle.std.specs.Prelude.{◌≡◌, ◌≤◌, ℕ, List, length, take, IfSome, IfOk, IsOk};
+ghost use Rattle.board_core.specs.Cause.{HasCause};
 ghost use Rattle.board_core.specs.Stop.{file_in};
 ghost use Rattle.board_core.specs.Told.{ReadsBytes};
 ghost use Rattle.host_system.specs.BoardFile.{AreOpenable, IsOpenable};
 ghost use Rattle.host_system.specs.View.{seen_now};
-ghost use Rattle.ras_host.specs.Steps.Once.{CountsOnce};
+ghost use Rattle.ras_host.specs.Steps.Failures.{system_failure};
 ghost use Rattle.ras_host.specs.JournalFiles.{AreRead, IsRead, most_read, part_of, with_part};
 
+use crate::faults::CallFailed;
 use board_core::{Failed, FileNo};
 use host_system::{FileName, System};
 use std::alloc::Global;
@@ -61,11 +63,12 @@ pub struct ReadFile {
 
 impl ReadFile {
     /// Copies bytes from the offset `place` on into a buffer, until it is full or the file ends,
-    /// and returns their number. Fails if not all of these bytes were read.
-    pub(crate) fn read_at(&self, place: u64, buf: &mut [u8]) -> Result<usize, Failed>
+    /// and returns their number. Refuses if not all of these bytes were read.
+    pub(crate) fn read_at(&self, place: u64, buf: &mut [u8]) -> Result<usize, CallFailed>
         ensures within { IfOk result (λ n. n ≤ length buf.old) }
         ensures read { IfOk result (λ n. (file : List ℕ) → IsRead self.now file
             → ReadsBytes place n buf.new file) }
+        ensures cause { IsOk (system_failure result) }
     {
         let left = self.length.saturating_sub(place);
         let count = left.min(buf.len() as u64) as usize;
@@ -73,7 +76,7 @@ impl ReadFile {
             return Ok(0);
         }
         let Some(found) = self.bytes.get(place as usize..place as usize + count) else {
-            return Err(Failed);
+            return Err(CallFailed::Refused);
         };
         buf[..count].copy_from_slice(found);
         Ok(count)
@@ -90,11 +93,11 @@ impl ReadFile {
 pub(crate) fn read_journal<S: System>(
     alloc: Global,
     system: &mut S,
-) -> Result<Pair<ReadFile>, Failed>
+) -> Result<Pair<ReadFile>, CallFailed>
     requires { IfSome (S.told system.old) AreOpenable }
     ensures read { IfOk result (λ files. IfSome (S.told system.old) (AreRead files)) }
     ensures told { S.told system.new ≡ S.told system.old }
-    ensures once { CountsOnce (S.faults system.old) (S.faults system.new) result }
+    ensures cause { HasCause (S.faults system.old) (S.faults system.new) (system_failure result) }
 {
     for _ in 0..MOST_READINGS {
         let zero = read_first(alloc, FileNo::Zero, MOST_READ, system)?;
@@ -107,7 +110,7 @@ pub(crate) fn read_journal<S: System>(
             return Ok(Pair { zero, one });
         }
     }
-    Err(Failed)
+    Err(CallFailed::Refused)
 }
 
 // Returns the first bytes of a file, which are none if it is missing.
@@ -121,7 +124,7 @@ fn read_first<S: System>(
     ensures read { IfOk result (λ bytes. IfSome (S.told system.old)
         (λ p. bytes.items ≡ take most (file_in file (seen_now p)))) }
     ensures told { S.told system.new ≡ S.told system.old }
-    ensures once { CountsOnce (S.faults system.old) (S.faults system.new) result }
+    ensures cause { HasCause (S.faults system.old) (S.faults system.new) result }
 {
     let found = system.read(FileName::Journal(file), most)?;
     Ok(found.unwrap_or(Vec::new(alloc)))
@@ -129,19 +132,23 @@ fn read_first<S: System>(
 
 // Returns the first bytes of a file with its length. The length is asked for only if the file may
 // have more bytes.
-fn with_length<S: System>(file: FileNo, bytes: Vec<u8>, system: &mut S) -> Result<ReadFile, Failed>
+fn with_length<S: System>(
+    file: FileNo,
+    bytes: Vec<u8>,
+    system: &mut S,
+) -> Result<ReadFile, CallFailed>
     requires { IfSome (S.told system.old)
         (λ p. bytes.items ≡ take most_read (file_in file (seen_now p))) }
     ensures read { IfOk result (λ read. IfSome (S.told system.old)
         (λ p. IsRead read (file_in file (seen_now p)))) }
     ensures told { S.told system.new ≡ S.told system.old }
-    ensures once { CountsOnce (S.faults system.old) (S.faults system.new) result }
+    ensures cause { HasCause (S.faults system.old) (S.faults system.new) (system_failure result) }
 {
     let length = bytes.len() as u64;
     if length < MOST_READ {
         return Ok(ReadFile { length, bytes });
     }
     let found = system.find(FileName::Journal(file))?;
-    let length = found.ok_or(Failed)?;
+    let length = found.ok_or(CallFailed::Refused)?;
     Ok(ReadFile { length, bytes })
 }

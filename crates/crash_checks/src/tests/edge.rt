@@ -86,7 +86,7 @@ fn call_over<U: Use>(
     let mut source = MemSource::new(script, 7, Vec::new(alloc));
     let mut board: FileBoard<MemSystem, U, Brand> = FileBoard::new(alloc, system);
     let exit = rasd(alloc, words, &mut source, &mut board);
-    Ok((exit, board.into_system()))
+    Ok((exit, board.into_parts().0))
 }
 
 // A run over a folder.

@@ -1,5 +1,5 @@
 -- The device that a board keeps, over the record store that the folder's store file holds.
-use Rattle.std.specs.Prelude.{◌≡◌, ℕ, ◌⊎◌, Bool, false, ◌&&◌, nat_eq, if◌then◌else◌, List, [], Option, None, Some, IfSome, Result, Ok, Err, IsOk, OnOk, OnErr, ◌==◌, IsSomeAnd}
+use Rattle.std.specs.Prelude.{◌≡◌, ℕ, ◌⊎◌, Bool, false, ◌&&◌, nat_eq, if◌then◌else◌, List, [], Option, None, Some, IfSome, Result, Ok, Err, IsOk, OnOk, OnErr, IsSomeAnd}
 use Rattle.std.specs.Cmp.Lexicographic.{pointwise}
 use Rattle.board_core.specs.Clock.{Passes}
 use Rattle.board_core.specs.Stop.{Becomes, InStore}
@@ -13,7 +13,7 @@ use Rattle.erst_store.specs.Store.{Stored, refusal_of}
 use Rattle.host_system.specs.BoardFile.{KeepsFile, HasSettledStore, with_store}
 use Rattle.host_system.specs.FolderPast.{FolderPast, GoesOnBy, IfTold, PrintsOrSyncs, bytes_named}
 use Rattle.host_system.specs.StoreFile.{SparesNoStore}
-use Rattle.host_system.specs.View.{HasWholeStore, IsFileOf, clock_over, seen_now}
+use Rattle.host_system.specs.View.{HasUsableStore, IsFileOf, clock_over, seen_now}
 use Rattle.host_system.specs.declared.system.FileName.TheVariants.{Store}
 use Rattle.ras_host.specs.declared.kept.Change.{Change}
 use Rattle.ras_host.specs.declared.kept.Kept.{Kept}
@@ -70,7 +70,7 @@ pub record IsInStep (kept : Kept) (past : FolderPast) : Type 0 where
   pub filed : IsFiled kept (bytes_named Store past)
   pub over : IsOver kept (seen_now past).store
   pub device : IsDevice (device_in kept past)
-  pub whole : HasWholeStore past
+  pub usable : HasUsableStore past
 
 -- Each change of the device came into the store's file.
 abbrev pub IsSaved : Kept → Type 0

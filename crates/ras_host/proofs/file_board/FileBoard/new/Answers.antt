@@ -12,7 +12,7 @@ invariant_of-result g c = (
   rw c.new.ensures (rw c.HOW.ensures (held_begun g.U.Use.HOW _ c.requires.begins)),
   rw c.new-2.ensures (rw c.HOW-2.ensures (in_step_begun (λ p may. store_kept _ c.file_laws.ensures.store (bytes_named Store p) may.bytes) g.U.Use.HOW _ c.requires.begins)),
   rw c.new.ensures (rw c.HOW.ensures (settled_begun g.U.Use.HOW _ _)),
-  rw c.new.ensures (rw c.new-2.ensures (rw c.HOW.ensures (rw c.HOW-2.ensures (caused_begun g.U.Use.HOW _ c.requires.quiet)))),
+  rw c.none.ensures (rw c.new.ensures (rw c.new-2.ensures (rw c.HOW.ensures (rw c.HOW-2.ensures (caused_begun g.U.Use.HOW _ c.requires.quiet))))),
   spared_begun g.B.Found.past _ c.requires.found,
   (λ is. rw c.new-2.ensures (rw c.HOW-2.ensures (reading_begun (kept_for g.U.Use.HOW) g.B.Found.past _ (off_begun g.U.Use.HOW is) c.requires.found))),
 )

@@ -15,7 +15,7 @@ invariant_of-self g c =
       held_printed b.files _ _ keeps c.self.invariant.0,
       in_step_printed b.kept _ _ keeps c.self.invariant.1,
       settled_printed b.files b.kept _ _ keeps c.self.invariant.2,
-      caused_print g.U.Use.HOW b.files b.kept _ _ _ _ c.print.result c.self.invariant.3 c.print.ensures.cause c.counted.ensures.counts,
+      caused_print g.U.Use.HOW b.files b.kept _ _ _ _ _ c.print.result c.self.invariant.3 c.print.ensures.cause c.counted.ensures.counts,
       spared_wrote Zero g.B.Found.past _ _ (print.keeps Zero) c.self.invariant.4,
       (λ is. reading_then b.kept g.B.Found.past _ _ (c.self.invariant.5 is) (goes_printed c.args.bytes.now c.print.result _ _ c.print.ensures.told c.print.ensures.failed)),
     )
@@ -29,6 +29,7 @@ returns g c =
       kept = b.kept;
       faults = record { disk = b.disk_faults; registers = b.register_faults; prints = b.print_faults };
       count = g.S.System.faults b.system;
+      refused = b.refusals;
       disk_calls = b.disk_calls.calls;
       accesses = b.accesses.calls;
     } in

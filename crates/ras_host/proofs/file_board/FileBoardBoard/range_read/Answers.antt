@@ -13,7 +13,7 @@ pub returns-clause-read : goal.returns-clause-read
 returns-clause-read g c =
     let b = c.self.inside in
     let r = c.range_read-answer in
-    rw (← c.self.view_is) (on_ok _ _ r.result c.counted.result c.counted.ensures.ok c.counted.ensures.err r.ensures.read
+    rw (← c.self.view_is) (on_ok _ _ r.result c.counted_by.result c.counted_by.ensures.ok c.counted_by.ensures.err r.ensures.read
     (λ is. of_device (λ d. r.new.buf ≡ take (length c.args.buf.now) (drop c.args.place d.range)) _ b.kept (disk_calls_noted b.disk_calls.calls) (accesses_noted b.accesses.calls) is))
 
 pub returns-clause-does : goal.returns-clause-does
@@ -24,11 +24,11 @@ returns-clause-does g c =
     let listed = kept_listed access _ _ b.kept r.new.self (disk_calls_noted b.disk_calls.calls) (accesses_noted b.accesses.calls) (accesses_noted c.list_access.new.accesses.calls)
     r.ensures.looks.told r.ensures.looks.same c.list_access.ensures in
     rw (← c.self.view_is) (record {
-      told = on_any_ok _ c.counted.result listed;
-      failed = on_any_err _ c.counted.result (relates_listed access _ _ listed);
+      told = on_any_ok _ c.counted_by.result listed;
+      failed = on_any_err _ c.counted_by.result (relates_listed access _ _ listed);
       stops = same_stops _ _ r.ensures.looks.told;
-      settles = on_any_ok _ c.counted.result tt;
-      cause = record { own = c.counted.ensures.cause; others = refl };
+      settles = on_any_ok _ c.counted_by.result tt;
+      cause = record { own = c.counted_by.ensures.cause; others = refl };
     })
 
 pub returns-clause-device : goal.returns-clause-device
@@ -43,7 +43,7 @@ invariant_of-self g c =
       held_same b.files _ _ r.ensures.looks.told c.self.invariant.0,
       r.ensures.looks.in_step,
       settled_same b.files b.kept r.new.self _ _ r.ensures.looks.told r.ensures.looks.same c.self.invariant.2,
-      caused_device g.U.Use.HOW b.files b.kept r.new.self _ _ _ _ r.result c.self.invariant.3 r.ensures.once (done_here (λ d. d) b.kept r.new.self r.result r.ensures.looks.does) c.counted.ensures.counts,
+      caused_device g.U.Use.HOW b.files b.kept r.new.self _ _ _ _ _ _ r.result c.self.invariant.3 r.ensures.cause (done_here (λ d. d) b.kept r.new.self r.result r.ensures.looks.does) c.counted_by.ensures.counts c.counted_by.ensures.refused,
       spared_same g.B.Found.past _ _ r.ensures.looks.told c.self.invariant.4,
       (λ is. reading_off b.kept r.new.self g.B.Found.past _ _ (c.self.invariant.5 is) r.ensures.off),
     )

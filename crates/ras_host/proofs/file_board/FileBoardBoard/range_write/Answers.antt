@@ -16,13 +16,13 @@ returns-clause-does g c =
     let step = after_range_write c.args.place c.args.bytes.now in
     let access = RangeWrite c.args.place (length c.args.bytes.now) in
     rw (← c.self.view_is) (record {
-      told = on_ok _ _ r.result c.counted.result c.counted.ensures.ok c.counted.ensures.err r.ensures.turned.ok
+      told = on_ok _ _ r.result c.counted_by.result c.counted_by.ensures.ok c.counted_by.ensures.err r.ensures.turned.ok
           (λ is. turned_listed step access _ _ b.kept r.new.self (disk_calls_noted b.disk_calls.calls) (accesses_noted b.accesses.calls) (accesses_noted c.list_access.new.accesses.calls) is c.list_access.ensures);
-      failed = on_err _ _ r.result c.counted.result c.counted.ensures.ok c.counted.ensures.err r.ensures.turned.err
+      failed = on_err _ _ r.result c.counted_by.result c.counted_by.ensures.ok c.counted_by.ensures.err r.ensures.turned.err
           (λ is. may_turn_listed step access _ _ b.kept r.new.self (disk_calls_noted b.disk_calls.calls) (accesses_noted b.accesses.calls) (accesses_noted c.list_access.new.accesses.calls) is c.list_access.ensures);
       stops = same_stops _ _ r.ensures.told;
-      settles = on_any_ok _ c.counted.result tt;
-      cause = record { own = c.counted.ensures.cause; others = refl };
+      settles = on_any_ok _ c.counted_by.result tt;
+      cause = record { own = c.counted_by.ensures.cause; others = refl };
     })
 
 pub returns-clause-device : goal.returns-clause-device
@@ -38,7 +38,7 @@ invariant_of-self g c =
       held_turned b.files (after_range_write c.args.place c.args.bytes.now) b.kept r.new.self r.result _ _ turned c.self.invariant.0,
       turned.in_step,
       settled_turned b.files b.kept r.new.self _ _ turned.saved c.self.invariant.2,
-      caused_device g.U.Use.HOW b.files b.kept r.new.self _ _ _ _ r.result c.self.invariant.3 r.ensures.once (done_here (after_range_write c.args.place c.args.bytes.now) b.kept r.new.self r.result r.ensures.does) c.counted.ensures.counts,
+      caused_device g.U.Use.HOW b.files b.kept r.new.self _ _ _ _ _ _ r.result c.self.invariant.3 r.ensures.cause (done_here (after_range_write c.args.place c.args.bytes.now) b.kept r.new.self r.result r.ensures.does) c.counted_by.ensures.counts c.counted_by.ensures.refused,
       spared_then g.B.Found.past _ _ c.self.invariant.4 turned.spares,
       (λ is. reading_off b.kept r.new.self g.B.Found.past _ _ (c.self.invariant.5 is) r.ensures.off),
     )

@@ -19,7 +19,7 @@ invariant_of-self-2 g c =
       r.ensures.held,
       in_step_moved Same SeesSame b.files r.new.self b.kept _ _ r.ensures.moves (λ p q same. ap (λ (l : Left). l.store) same) was.1,
       settled_moved SeesSame Same b.files r.new.self b.kept _ _ r.ensures.moves was.1 was.2,
-      caused_files g.U.Use.HOW b.files r.new.self b.kept _ _ _ _ r.result was.3 r.ensures.blamed r.ensures.cause c.counted-2.ensures.counts,
+      caused_files g.U.Use.HOW b.files r.new.self b.kept _ _ _ _ _ _ r.result was.3 r.ensures.blamed r.ensures.cause c.counted_by-2.ensures.counts c.counted_by-2.ensures.refused,
       spared_moved SeesSame Same b.files r.new.self g.B.Found.past _ _ r.ensures.moves was.4,
       (λ is. reading_then b.kept g.B.Found.past _ _ (was.5 is) (r.ensures.moves.reading (was.3.report is))),
     )
@@ -36,6 +36,7 @@ returns g c =
       kept = b.kept;
       faults = record { disk = b.disk_faults; registers = b.register_faults; prints = b.print_faults };
       count = g.S.System.faults b.system;
+      refused = b.refusals;
       disk_calls = b.disk_calls.calls;
       accesses = b.accesses.calls;
     } in
@@ -45,6 +46,6 @@ returns g c =
     let now = settled_moved SeesSame Same b.files r.new.self b.kept _ _ r.ensures.moves c.self-2.invariant.1 c.self-2.invariant.2 in
     let settled = on_ok_weaker r.result (λ sound. settled_now r.new.self b.kept _ now sound saved) r.ensures.sound in
     record {
-      does = made_synced c.args.file r.result c.counted-2.result c.counted-2.new.faults (g.S.System.faults r.new.system) c.args.self.now begins _ first
-          r.ensures.moves.sees r.ensures.moves.stops r.ensures.synced settled c.counted-2.ensures.ok c.counted-2.ensures.err c.counted-2.ensures.counts;
+      does = made_synced c.args.file r.result c.counted_by-2.result c.counted_by-2.new.faults (g.S.System.faults r.new.system) c.args.self.now begins _ first
+          r.ensures.moves.sees r.ensures.moves.stops r.ensures.synced settled c.counted_by-2.ensures.ok c.counted_by-2.ensures.err c.counted_by-2.ensures.cause;
     }

@@ -3,7 +3,7 @@ use Rattle.board_core.specs.declared.board.DiskCall.TheVariants.{WriteAt}
 use Rattle.host_system.proofs.CallLemmas.{writes}
 use Rattle.ras_host.specs.BoardState.{BoardState}
 use Rattle.ras_host.specs.JournalFiles.{IsReady}
-use Rattle.ras_host.proofs.BlameLemmas.{blamed_later, caused_files, files_asked}
+use Rattle.ras_host.proofs.BlameLemmas.{caused_asked}
 use Rattle.ras_host.proofs.DiskCallLemmas.{begun, begun_file, made_refused, made_wrote, write_unready}
 use Rattle.ras_host.proofs.JournalLemmas.{held_wrote, ready_open, reading_unwritten}
 use Rattle.ras_host.proofs.ToldLemmas.{in_step_wrote, settled_wrote, spared_wrote}
@@ -23,12 +23,13 @@ returns-in-Seen g c =
       kept = b.kept;
       faults = record { disk = b.disk_faults; registers = b.register_faults; prints = b.print_faults };
       count = g.S.System.faults b.system;
+      refused = b.refusals;
       disk_calls = b.disk_calls.calls;
       accesses = b.accesses.calls;
     } in
     let ready = c.in_ok-begin.ensures in
     let first = begun (WriteAt c.args.file c.args.place (length c.args.bytes.now)) _ c.args.self.now c.begin.new.self board c.self.view_is ready.told ready.stops ready.cause in
-    record { does = made_refused c.args.file c.args.place c.args.bytes.now c.counted.result _ c.counted.new.faults (g.S.System.faults b.system) c.args.self.now board first c.counted.ensures.err c.counted.ensures.counts }
+    record { does = made_refused c.args.file c.args.place c.args.bytes.now c.counted_by.result _ c.counted_by.new.faults (g.S.System.faults b.system) c.args.self.now board first c.counted_by.ensures.err c.counted_by.ensures.counts }
 
 pub invariant_of-self-2 : goal.invariant_of-self-2
 invariant_of-self-2 g c =
@@ -39,6 +40,7 @@ invariant_of-self-2 g c =
       kept = b.kept;
       faults = record { disk = b.disk_faults; registers = b.register_faults; prints = b.print_faults };
       count = g.S.System.faults b.system;
+      refused = b.refusals;
       disk_calls = b.disk_calls.calls;
       accesses = b.accesses.calls;
     } in
@@ -52,7 +54,7 @@ invariant_of-self-2 g c =
       held_wrote c.args.file b.files _ _ ready c.in_default.not-Seen c.self.invariant.0 wrote.keeps wrote.usable,
       in_step_wrote c.args.file c.args.place c.args.bytes.now r.result b.kept _ _ wrote c.self.invariant.1,
       settled_wrote c.args.file b.files b.kept _ _ wrote.keeps c.self.invariant.2,
-      caused_files g.U.Use.HOW b.files b.files b.kept _ _ _ _ r.result c.self.invariant.3 (blamed_later b.files _ _ r.ensures.cause.later c.self.invariant.3.blamed) (files_asked b.files _ _ r.result r.ensures.cause) c.counted-2.ensures.counts,
+      caused_asked g.U.Use.HOW b.files b.kept _ _ _ _ _ r.result c.self.invariant.3 r.ensures.cause c.counted.ensures.counts,
       spared_wrote c.args.file g.B.Found.past _ _ wrote.keeps c.self.invariant.4,
       (λ is. absurd (reading_unwritten c.args.file b.files ready c.in_default.not-Seen (c.self.invariant.3.report is))),
     )
@@ -66,6 +68,7 @@ returns g c =
       kept = b.kept;
       faults = record { disk = b.disk_faults; registers = b.register_faults; prints = b.print_faults };
       count = g.S.System.faults b.system;
+      refused = b.refusals;
       disk_calls = b.disk_calls.calls;
       accesses = b.accesses.calls;
     } in
@@ -77,6 +80,6 @@ returns g c =
     let r = c.write_at-answer in
     let wrote = writes c.args.file c.args.place c.args.bytes.now r.result _ _ usable within r.ensures.told r.ensures.failed in
     record {
-      does = made_wrote c.args.file c.args.place c.args.bytes.now r.result c.counted-2.result c.counted-2.new.faults (g.S.System.faults r.new.self) c.args.self.now board _ first wrote
-          c.counted-2.ensures.ok c.counted-2.ensures.err c.counted-2.ensures.counts;
+      does = made_wrote c.args.file c.args.place c.args.bytes.now r.result c.counted.result c.counted.new.faults (g.S.System.faults r.new.self) c.args.self.now board _ first wrote
+          c.counted.ensures.ok c.counted.ensures.err c.counted.ensures.counts;
     }

@@ -3,7 +3,7 @@ use Rattle.board_core.specs.Stop.{Same}
 use Rattle.host_system.proofs.CallLemmas.{syncs, syncs_read}
 use Rattle.ras_host.specs.Blame.{AreReports}
 use Rattle.ras_host.proofs.ReadingLemmas.{goes_synced}
-use Rattle.ras_host.proofs.JournalLemmas.{moves_open, ready_sound, ready_usable, seen_held, seen_readable, seen_sound, sync_held}
+use Rattle.ras_host.proofs.JournalLemmas.{moves_open, ok_or, ready_sound, ready_usable, seen_held, seen_readable, seen_sound, sync_held}
 use Rattle.ras_host.proofs.journal.JournalFiles.sync.Goals as goal
 
 pub returns-in-Open-clause-moves : goal.returns-in-Open-clause-moves
@@ -22,7 +22,7 @@ returns-in-Open-clause-held g c =
 pub returns-in-Open-clause-synced : goal.returns-in-Open-clause-synced
 returns-in-Open-clause-synced g c =
     let usable = ready_usable c.args.file _ c.in-Open.sound _ c.in-Open.is c.requires.held c.requires.ready in
-    (syncs c.args.file c.sync-answer.result _ _ usable c.sync-answer.ensures.told c.sync-answer.ensures.failed).synced
+    rw c.or.ensures (ok_or _ c.sync-answer.result _ (syncs c.args.file c.sync-answer.result _ _ usable c.sync-answer.ensures.told c.sync-answer.ensures.failed).synced)
 
 pub returns-in-Seen-clause-moves : goal.returns-in-Seen-clause-moves
 returns-in-Seen-clause-moves g c =
@@ -44,4 +44,4 @@ pub returns-in-Seen-clause-synced : goal.returns-in-Seen-clause-synced
 returns-in-Seen-clause-synced g c =
     let flag = sym c.of.ensures ∙ c.if-of.true in
     let readable = seen_readable c.args.file _ c.in-Seen.field-0 c.in-Seen.sound _ c.in-Seen.is c.requires.held flag in
-    (syncs_read c.args.file c.sync_read-answer.result _ _ readable c.sync_read-answer.ensures.told c.sync_read-answer.ensures.failed).synced
+    rw c.or-in-Seen.ensures (ok_or _ c.sync_read-answer.result _ (syncs_read c.args.file c.sync_read-answer.result _ _ readable c.sync_read-answer.ensures.told c.sync_read-answer.ensures.failed).synced)
