@@ -1,4 +1,5 @@
 pub mod SystemCall
 pub mod MemSystem
+pub mod MemKernel
 pub mod Transcript
 pub mod Steps

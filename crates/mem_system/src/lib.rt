@@ -11,4 +11,4 @@ mod mem_system;
 
 pub use laws::transcript_laws;
 pub use left_folder::{LeftFolder, NamePick, StopPick, WriteLeft};
-pub use mem_system::{Effect, MemSystem};
+pub use mem_system::{Effect, MemKernel, MemSystem};

@@ -9,11 +9,14 @@ ghost use Rattle.mem_system.specs.Steps.Kept.{IsCopied};
 ghost use Rattle.mem_system.specs.Steps.MemFiles.{number_of};
 
 mod calls;
+mod mem_kernel;
+mod reads;
 
 use crate::left_folder::{LeftFolder, StopPick, left_of_folder};
 use crate::mem_files::{MemEntry, MemFile, MemFiles};
 use board_core::{Failed, FileNo};
 use host_system::{FileName, Notes};
+pub use mem_kernel::MemKernel;
 use ras_base::NoMemory;
 use std::alloc::Global;
 use std::marker::Model;
@@ -108,7 +111,8 @@ fn kept_folder(alloc: Global, files: &MemFiles, out: &[u8]) -> Kept
 }
 
 fn number(name: FileName) -> u64
-    ensures { result ≡ number_of name }
+    ensures is { result ≡ number_of name }
+    ensures below { result < 4 }
 {
     match name {
         FileName::Journal(FileNo::Zero) => 0,

@@ -18,7 +18,7 @@ impl System for MemSystem {
         ensures performs { Performs (to_find name) (found_or_failed result) self.old self.new }
     {
         self.look()?;
-        Ok(self.files.get(name).length())
+        Ok(self.length(name))
     }
 
     fn open(&mut self, name: FileName) -> Result<(), Failed>
@@ -53,7 +53,7 @@ impl System for MemSystem {
         ensures performs { Performs (to_read name most) (gave_or_failed result) self.old self.new }
     {
         self.look()?;
-        match self.files.get(name).front(self.alloc, most) {
+        match self.front(name, most) {
             Ok(found) => Ok(found),
             Err(NoMemory) => Err(self.starve()),
         }
@@ -65,9 +65,7 @@ impl System for MemSystem {
             (filled_or_failed buf.new result) self.old self.new }
     {
         self.look()?;
-        let bytes = self.files.get(name).bytes();
-        let start = place.min(bytes.len() as u64) as usize;
-        buf.copy_from_slice(&bytes[start..start + buf.len()]);
+        self.fill(name, place, buf);
         Ok(())
     }
 
