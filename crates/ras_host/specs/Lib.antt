@@ -1,5 +1,6 @@
 pub mod Blame
 pub mod BoardState
+pub mod FolderLeft
 pub mod JournalFiles
 pub mod SourceState
 pub mod Steps

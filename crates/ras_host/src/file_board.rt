@@ -1,15 +1,13 @@
 //! The working folder's files and standard output as a board.
-ghost use Rattle.std.specs.Prelude.{◌≡◌, [], IfSome, IsSomeAnd, Some, OnOk};
+ghost use Rattle.std.specs.Prelude.{◌≡◌, [], IfSome, Some, OnOk};
 ghost use Rattle.board_core.specs.Cause.{FailsAs, disk_call};
 ghost use Rattle.board_core.specs.Clock.{Passes};
 ghost use Rattle.board_core.specs.Stop.{Same};
 ghost use Rattle.board_core.specs.Told.{Steps, with_call};
-ghost use Rattle.host_system.specs.BoardFile.{AreOpenable};
-ghost use Rattle.host_system.specs.FolderPast.{GoesOnBy, PrintsOrSyncs};
-ghost use Rattle.host_system.specs.StoreFile.{SparesNoStore};
-ghost use Rattle.host_system.specs.View.{HasUsableStore, MayBegin};
+ghost use Rattle.host_system.specs.View.{MayBegin};
 ghost use Rattle.ras_host.specs.Steps.Telling.{clock_of, seen_of, told_of};
 ghost use Rattle.ras_host.specs.Blame.{AreCaused};
+ghost use Rattle.ras_host.specs.FolderLeft.{FolderLeft};
 ghost use Rattle.ras_host.specs.JournalFiles.{IsReady, files_for};
 ghost use Rattle.ras_host.specs.BoardState.{kept_for};
 ghost use Rattle.ras_host.specs.Steps.BoardLaws.{board_told_left, board_text_left, board_earlier_left};
@@ -122,11 +120,7 @@ impl<S: System + Drop, U: Use, B: Found> FileBoard<S, U, B> {
         ensures count { S.faults result.0 ≡ self.count }
         ensures refused { result.1 ≡ self.refused }
         ensures caused { AreCaused U.HOW self.files self.kept self.faults self.count self.refused }
-        ensures synced { self.faults.disk ≡ 0 → IfSome self.past AreOpenable }
-        ensures store { IfSome self.past HasUsableStore }
-        ensures spares { IfSome B.past (λ found. IsSomeAnd self.past (SparesNoStore found)) }
-        ensures reading { U.HOW ≡ 0 → IfSome B.past (λ found. IsSomeAnd self.past
-            (GoesOnBy PrintsOrSyncs found)) }
+        ensures leaves { FolderLeft U.HOW self.faults.disk B.past self.past }
     {
         (self.system, self.refusals)
     }

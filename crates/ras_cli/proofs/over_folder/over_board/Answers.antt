@@ -29,10 +29,10 @@ returns g c =
           ends exit _ task _ _ past now c.new-board.result c.rasd-exit.new.board begun same c.rasd-exit.ensures.ran c.rasd-exit.ensures.stops account script p asked (c.new-source.ensures.left ∙ is_left) is_past recovers);
       refused = refused exit _ task past now c.new-board.result c.rasd-exit.new.board begun same c.rasd-exit.ensures.refused;
       reported = reports exit task _ _ past now c.new-board.result c.rasd-exit.new.board begun same c.rasd-exit.ensures.commands
-          (λ listing asked. rw (← c.requires.found) (rw c.into_parts-system.ensures.past (c.into_parts-system.ensures.reading (c.requires.reads listing asked))));
+          (λ listing asked. rw (← c.requires.found) (rw c.into_parts-system.ensures.past (c.into_parts-system.ensures.leaves.reading (c.requires.reads listing asked))));
       commands = commands exit task _ _ past now c.new-board.result c.rasd-exit.new.board begun same c.rasd-exit.ensures.commands (g.I.Input.left c.args.input) (g.I.Input.left c.into_input-input.result) c.new-source.ensures.left c.into_input-input.ensures.left;
-      leaves = leaves exit past now (rw (← c.requires.found) (rw c.into_parts-system.ensures.past c.into_parts-system.ensures.spares))
-          (goes_on exit _ _ now c.rasd-exit.ensures.causes.board c.new-board.ensures.faults (rw c.into_parts-system.ensures.past c.into_parts-system.ensures.synced) (rw c.into_parts-system.ensures.past c.into_parts-system.ensures.store));
+      leaves = leaves exit past now (rw (← c.requires.found) (rw c.into_parts-system.ensures.past c.into_parts-system.ensures.leaves.spares))
+          (goes_on exit _ _ now c.rasd-exit.ensures.causes.board c.new-board.ensures.faults (rw c.into_parts-system.ensures.past c.into_parts-system.ensures.leaves.synced) (rw c.into_parts-system.ensures.past c.into_parts-system.ensures.leaves.store));
       answers = record {
         causes = over_caused task exit _ _ _ _ _ _ _ _ _ c.rasd-exit.ensures.causes c.new-board.ensures.faults c.requires.alone c.into_parts-system.ensures.caused _ _ _ _ c.new-source.ensures.faults c.into_input-input.ensures.faults c.into_parts-system.ensures.count c.into_parts-system.ensures.refused;
         exits = c.rasd-exit.ensures.exits;
