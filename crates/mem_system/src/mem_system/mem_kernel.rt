@@ -6,15 +6,17 @@ ghost use Rattle.host_system.specs.Kernel.{IsFound, name_of};
 ghost use Rattle.mem_system.specs.MemKernel.{change_prepared};
 
 use super::{MemSystem, number};
-use host_system::{FileName, Held, Kernel, Note, Place, Refusal, Way};
+use board_core::Failed;
+use host_system::{FileName, Held, Kernel, Note, Place, Refusal, System, Way};
 use ras_base::NoMemory;
 use std::fs::{Metadata, Permissions};
 
 /// A kernel in memory over the files of a system in memory, which is modelled.
 ///
-/// It shows that the clauses of `Kernel` can be met by calls that succeed: a call fails if memory
-/// runs out, if it opens a file that is missing, or if it asks for a file that isn't kept. The
-/// failures that were chosen for the system don't count here.
+/// It shows that the clauses of `Kernel` can be met, by calls that succeed and by calls that fail. A
+/// call that makes a file, writes, syncs, removes, renames or prints is the system's: it fails where
+/// a failure was chosen or memory runs out. The other calls make no call of the system. They fail if
+/// the file is missing or isn't kept, or if memory runs out.
 ///
 /// rasd can't run over it. Its metadata have the file's type and length, but of every file the same
 /// inode and no links, and rasd's checks refuse such files.
@@ -130,11 +132,13 @@ impl Kernel for MemKernel {
 
     fn create(&mut self, name: FileName, _mode: u32) -> Result<(), Refusal> {
         self.prepared = Prepared::Nothing;
-        if let Err(NoMemory) = self.system.make_file(name) {
-            return Err(Refusal::Other);
+        match self.system.make(name) {
+            Ok(()) => {
+                self.set_kept(name, true);
+                Ok(())
+            }
+            Err(Failed) => Err(Refusal::Other),
         }
-        self.set_kept(name, true);
-        Ok(())
     }
 
     fn fchown(&self, _name: FileName, _owner: u32, _group: u32) -> Result<(), Refusal> {
@@ -187,16 +191,18 @@ impl Kernel for MemKernel {
 
     fn pwrite(&mut self, name: FileName, place: u64, bytes: &[u8]) -> Result<(), Refusal> {
         self.prepared = Prepared::Nothing;
-        match self.system.write(name, place, bytes, 0) {
+        match self.system.write_at(name, place, bytes) {
             Ok(()) => Ok(()),
-            Err(NoMemory) => Err(Refusal::Other),
+            Err(Failed) => Err(Refusal::Other),
         }
     }
 
     fn fsync(&mut self, held: Held) -> Result<(), Refusal> {
         self.prepared = Prepared::Nothing;
-        self.system.sync_file(name_of(held));
-        Ok(())
+        match self.system.sync(name_of(held)) {
+            Ok(()) => Ok(()),
+            Err(Failed) => Err(Refusal::Other),
+        }
     }
 
     fn fdatasync(&mut self, held: Held) -> Result<(), Refusal> {
@@ -206,9 +212,9 @@ impl Kernel for MemKernel {
     fn unlink(&mut self, name: FileName) -> Result<(), Refusal> {
         self.prepared = Prepared::Nothing;
         self.set_kept(name, false);
-        match self.system.remove_file(name) {
+        match self.system.remove(name) {
             Ok(()) => Ok(()),
-            Err(NoMemory) => Err(Refusal::Other),
+            Err(Failed) => Err(Refusal::Other),
         }
     }
 
@@ -216,9 +222,9 @@ impl Kernel for MemKernel {
         self.prepared = Prepared::Nothing;
         self.set_kept(FileName::New, false);
         self.set_kept(FileName::Store, false);
-        match self.system.rename_file() {
+        match self.system.rename() {
             Ok(()) => Ok(()),
-            Err(NoMemory) => Err(Refusal::Other),
+            Err(Failed) => Err(Refusal::Other),
         }
     }
 
@@ -229,15 +235,17 @@ impl Kernel for MemKernel {
 
     fn fsync_folders(&mut self) -> Result<(), Refusal> {
         self.prepared = Prepared::Nothing;
-        self.system.settle();
-        Ok(())
+        match self.system.sync_names() {
+            Ok(()) => Ok(()),
+            Err(Failed) => Err(Refusal::Other),
+        }
     }
 
     fn write(&mut self, bytes: &[u8]) -> Result<(), Refusal> {
         self.prepared = Prepared::Nothing;
-        match self.system.append(bytes) {
+        match self.system.print(bytes) {
             Ok(()) => Ok(()),
-            Err(NoMemory) => Err(Refusal::Other),
+            Err(Failed) => Err(Refusal::Other),
         }
     }
 }
