@@ -1,9 +1,8 @@
 -- What a system in memory notes, and what it then holds.
-use Rattle.std.proofs.Common.{◌≡◌, ℕ, ◌+◌, ◌-◌, ◌≤◌, ◌++◌, ◌∷◌, [], List, length, take, drop, min, refl, ap, sym, ◌∙◌, subst, arith, append-nil, length-drop, if◌then◌else◌}
+use Rattle.std.proofs.Common.{◌≡◌, ℕ, ◌++◌, ◌∷◌, [], List, refl, ap, sym, ◌∙◌, subst, arith, append-nil, if◌then◌else◌}
 use Rattle.std.specs.Prelude.{true, false, Option, Vec, Result, Ok, Err, IfOk}
 use Rattle.std.specs.Result.{is_ok, is_err}
 use Rattle.std.specs.declared.alloc.Global.{Global}
-use Rattle.std.proofs.lemmas.List.{drop_min}
 use Rattle.board_core.specs.declared.board.FileNo.TheVariants.{Zero, One}
 use Rattle.mem_system.specs.declared.left_folder.LeftFolder.{LeftFolder}
 use Rattle.mem_system.specs.declared.mem_files.MemFiles.{MemFiles}
@@ -11,12 +10,12 @@ use Rattle.mem_system.specs.declared.mem_system.Kept.{Kept}
 use Rattle.mem_system.specs.declared.mem_system.Kept.TheVariants.{Nothing, Folder as AFolder, NoMemory}
 use Rattle.host_system.specs.declared.system.FileName.{FileName}
 use Rattle.host_system.specs.declared.system.FileName.TheVariants.{Journal, Store, New}
-use Rattle.host_system.specs.Folder.{Folder, NameEntry, FolderChange, folder_after, change_name, entry_named, Stopped, FileUse, FolderFile, bytes_now, renewed, used, MayLeaveFolder, settled_folder}
-use Rattle.host_system.specs.FolderPast.{FolderPast, changed_by, folder_of, bytes_or, file_bytes, MayLeaveFolderSince}
+use Rattle.host_system.specs.Folder.{Folder, NameEntry, FolderChange, folder_after, change_name, Stopped, FileUse, FolderFile, renewed, used, MayLeaveFolder, settled_folder}
+use Rattle.host_system.specs.FolderPast.{FolderPast, changed_by, folder_of, MayLeaveFolderSince}
 use Rattle.host_system.specs.Steps.FolderPastLemmas.{folder_of-more, since_kept, now_counts}
 use Rattle.mem_system.specs.Steps.Kept.{IsCopied, IsOfPast, Holds}
 use Rattle.mem_system.specs.MemSystem.{Choice, MemState, with_change, as_stopped, name_numbered, change_numbered, change_noted, changes_noted, past_noted}
-use Rattle.mem_system.specs.Steps.MemFiles.{Uses, number_of, entry_seen, mem_entry, held_in, uses_of, with_use, IsChanged, IsRenewed, AreHeld}
+use Rattle.mem_system.specs.Steps.MemFiles.{Uses, number_of, held_in, uses_of, with_use, IsChanged, IsRenewed, AreHeld}
 
 named_again : (name : FileName) → name_numbered (number_of name) ≡ name
 named_again (Journal Zero) = refl
@@ -104,29 +103,6 @@ used_held New how files out uses = refl
 -- nothing was printed
 pub no_text : (files : MemFiles) (out : List ℕ) (uses : Uses) → held_in files out uses ≡ record (held_in files out uses) { out = out ++ [] }
 no_text files out uses = ap (λ (o : List ℕ). held_in files o uses) (sym (append-nil out))
-
--- ---- what is read
-
--- a name's part of what is held
-pub entry_held : (name : FileName) (past : FolderPast) (files : MemFiles) (out : List ℕ) → AreHeld past files out → bytes_now (entry_seen (mem_entry name files)) ≡ bytes_now (entry_named name (folder_of past))
-entry_held (Journal Zero) past files out held = ap (λ (f : Folder). bytes_now f.zero) held
-entry_held (Journal One) past files out held = ap (λ (f : Folder). bytes_now f.one) held
-entry_held Store past files out held = ap (λ (f : Folder). bytes_now f.store) held
-entry_held New past files out held = ap (λ (f : Folder). bytes_now f.new) held
-
-pub bytes_held : (name : FileName) (past now : FolderPast) (files : MemFiles) (out : List ℕ) → past ≡ now → AreHeld past files out → bytes_or (bytes_now (entry_seen (mem_entry name files))) ≡ file_bytes name now
-bytes_held name past now files out is held = ap bytes_or (entry_held name past files out held) ∙ ap (file_bytes name) is
-
-pub read_part : (n place start len : ℕ) (bytes given whole : List ℕ) → given ≡ take ((start + n) - start) (drop start bytes) → start ≡ min place len → len ≡ length bytes → bytes ≡ whole → given ≡ take n (drop place whole)
-read_part n place start len bytes given whole is begun long same =
-    let count : (start + n) - start ≡ n = omega arith in
-    is ∙ (ap (λ (m : ℕ). take m (drop start bytes)) count ∙ (ap (λ (s : ℕ). take n (drop s bytes)) (begun ∙ ap (min place) long)
-    ∙ (ap (take n) (drop_min place bytes) ∙ ap (λ (b : List ℕ). take n (drop place b)) same)))
-
-pub part_within : (n place start len : ℕ) (bytes whole : List ℕ) → start ≡ min place len → len ≡ length bytes → bytes ≡ whole → n ≤ length (drop place whole) → start + n ≤ length bytes
-part_within n place start len bytes whole begun long same within =
-    let size : length bytes ≡ length whole = ap length same in
-    omega (arith, length-drop place whole)
 
 -- ---- what a stop leaves
 

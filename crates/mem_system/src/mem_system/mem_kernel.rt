@@ -1,20 +1,23 @@
 //! A kernel in memory.
-ghost use Rattle.std.specs.Prelude.{◌≡◌, ◌<◌, Some, IfSome};
+ghost use Rattle.std.specs.Prelude.{◌≡◌, ◌<◌, ◌≤◌, length, Some, IfSome};
 ghost use Rattle.std.specs.List.{list_any};
-ghost use Rattle.host_system.specs.FolderPast.{FolderPast};
+ghost use Rattle.host_system.specs.FolderPast.{FolderPast, HasFile, file_bytes};
 ghost use Rattle.host_system.specs.Kernel.{IsFound, name_of};
-ghost use Rattle.mem_system.specs.MemKernel.{change_prepared};
+ghost use Rattle.mem_system.specs.MemKernel.{change_prepared, Serves};
+ghost use Rattle.mem_system.specs.SystemCall.{to_make, to_write_at, to_sync, to_remove, to_rename, to_sync_names, to_print};
 
 use super::{MemSystem, number};
-use host_system::{FileName, Held, Kernel, Note, Place, Refusal, Way};
+use board_core::Failed;
+use host_system::{FileName, Held, Kernel, Note, Place, Refusal, System, Way};
 use ras_base::NoMemory;
 use std::fs::{Metadata, Permissions};
 
 /// A kernel in memory over the files of a system in memory, which is modelled.
 ///
-/// It shows that the clauses of `Kernel` can be met by calls that succeed: a call fails if memory
-/// runs out, if it opens a file that is missing, or if it asks for a file that isn't kept. The
-/// failures that were chosen for the system don't count here.
+/// It shows that the clauses of `Kernel` can be met, by calls that succeed and by calls that fail. A
+/// call that makes a file, writes, syncs, removes, renames or prints is the system's: it fails, as
+/// `Refusal::Other`, where a failure was chosen or memory runs out. The other calls make no call of
+/// the system. They fail if the file is missing or isn't kept, or if memory runs out.
 ///
 /// rasd can't run over it. Its metadata have the file's type and length, but of every file the same
 /// inode and no links, and rasd's checks refuse such files.
@@ -86,7 +89,7 @@ impl Kernel for MemKernel {
         match place {
             Place::Name(name) => Ok(self.metadata(name)),
             Place::Left => Ok(None),
-            Place::Output => Ok(Some(Metadata::of_file(0))),
+            Place::Output => Ok(Some(Metadata::of_file(self.system.out.len() as u64))),
             Place::Process | Place::Folder => Ok(Some(Metadata::of_dir())),
         }
     }
@@ -128,13 +131,17 @@ impl Kernel for MemKernel {
         self.prepared = Prepared::Nothing;
     }
 
-    fn create(&mut self, name: FileName, _mode: u32) -> Result<(), Refusal> {
+    fn create(&mut self, name: FileName, _mode: u32) -> Result<(), Refusal>
+        ensures serves { Serves (to_make name) result self.old.system self.new.system }
+    {
         self.prepared = Prepared::Nothing;
-        if let Err(NoMemory) = self.system.make_file(name) {
-            return Err(Refusal::Other);
+        match self.system.make(name) {
+            Ok(()) => {
+                self.set_kept(name, true);
+                Ok(())
+            }
+            Err(Failed) => Err(Refusal::Other),
         }
-        self.set_kept(name, true);
-        Ok(())
     }
 
     fn fchown(&self, _name: FileName, _owner: u32, _group: u32) -> Result<(), Refusal> {
@@ -185,59 +192,82 @@ impl Kernel for MemKernel {
         Ok(())
     }
 
-    fn pwrite(&mut self, name: FileName, place: u64, bytes: &[u8]) -> Result<(), Refusal> {
+    fn pwrite(&mut self, name: FileName, place: u64, bytes: &[u8]) -> Result<(), Refusal>
+        requires there { HasFile name self.old.system.past }
+        requires within { place ≤ length (file_bytes name self.old.system.past) }
+        ensures serves { Serves (to_write_at name place bytes.now) result self.old.system
+            self.new.system }
+    {
         self.prepared = Prepared::Nothing;
-        match self.system.write(name, place, bytes, 0) {
+        match self.system.write_at(name, place, bytes) {
             Ok(()) => Ok(()),
-            Err(NoMemory) => Err(Refusal::Other),
+            Err(Failed) => Err(Refusal::Other),
         }
     }
 
-    fn fsync(&mut self, held: Held) -> Result<(), Refusal> {
+    fn fsync(&mut self, held: Held) -> Result<(), Refusal>
+        ensures serves { Serves (to_sync (name_of held)) result self.old.system self.new.system }
+    {
         self.prepared = Prepared::Nothing;
-        self.system.sync_file(name_of(held));
-        Ok(())
+        match self.system.sync(name_of(held)) {
+            Ok(()) => Ok(()),
+            Err(Failed) => Err(Refusal::Other),
+        }
     }
 
-    fn fdatasync(&mut self, held: Held) -> Result<(), Refusal> {
+    fn fdatasync(&mut self, held: Held) -> Result<(), Refusal>
+        ensures serves { Serves (to_sync (name_of held)) result self.old.system self.new.system }
+    {
         self.fsync(held)
     }
 
-    fn unlink(&mut self, name: FileName) -> Result<(), Refusal> {
+    fn unlink(&mut self, name: FileName) -> Result<(), Refusal>
+        ensures serves { Serves (to_remove name) result self.old.system self.new.system }
+    {
         self.prepared = Prepared::Nothing;
         self.set_kept(name, false);
-        match self.system.remove_file(name) {
+        match self.system.remove(name) {
             Ok(()) => Ok(()),
-            Err(NoMemory) => Err(Refusal::Other),
+            Err(Failed) => Err(Refusal::Other),
         }
     }
 
-    fn rename(&mut self) -> Result<(), Refusal> {
+    fn rename(&mut self) -> Result<(), Refusal>
+        ensures serves { Serves to_rename result self.old.system self.new.system }
+    {
         self.prepared = Prepared::Nothing;
         self.set_kept(FileName::New, false);
         self.set_kept(FileName::Store, false);
-        match self.system.rename_file() {
+        match self.system.rename() {
             Ok(()) => Ok(()),
-            Err(NoMemory) => Err(Refusal::Other),
+            Err(Failed) => Err(Refusal::Other),
         }
     }
 
     // Nothing reads `rasd.left`, so the file is only removed.
-    fn leave(&mut self) -> Result<(), Refusal> {
+    fn leave(&mut self) -> Result<(), Refusal>
+        ensures serves { Serves (to_remove FileName.New) result self.old.system self.new.system }
+    {
         self.unlink(FileName::New)
     }
 
-    fn fsync_folders(&mut self) -> Result<(), Refusal> {
+    fn fsync_folders(&mut self) -> Result<(), Refusal>
+        ensures serves { Serves to_sync_names result self.old.system self.new.system }
+    {
         self.prepared = Prepared::Nothing;
-        self.system.settle();
-        Ok(())
+        match self.system.sync_names() {
+            Ok(()) => Ok(()),
+            Err(Failed) => Err(Refusal::Other),
+        }
     }
 
-    fn write(&mut self, bytes: &[u8]) -> Result<(), Refusal> {
+    fn write(&mut self, bytes: &[u8]) -> Result<(), Refusal>
+        ensures serves { Serves (to_print bytes.now) result self.old.system self.new.system }
+    {
         self.prepared = Prepared::Nothing;
-        match self.system.append(bytes) {
+        match self.system.print(bytes) {
             Ok(()) => Ok(()),
-            Err(NoMemory) => Err(Refusal::Other),
+            Err(Failed) => Err(Refusal::Other),
         }
     }
 }
