@@ -271,10 +271,6 @@ pub tells_same : {T : Type 0} (o : Option T) → IfSome o (λ _. (x : T) × (o �
 tells_same None = tt
 tells_same (Some x) = (x, refl)
 
-left_nil : {A : Type 0} (xs ys : List A) → xs ++ ys ≡ [] → xs ≡ []
-left_nil [] ys is = refl
-left_nil (x ∷ xs) ys is = absurd cc
-
 module _ {X : Type 0} (see : X → Seen) (start : Start) (script : List ℕ) (t : Told) (before rest : List NumberedLine) (read : NumberedLine) (splits : before ++ read ∷ rest ≡ reads_of script) (accepted : AreAccepted start before)
     (acts line : List Act) (along : AreDoneAlong start (places before) t acts) (old mid new : X) (well : GoesWell acts (see old) (see mid)) where
   abbrev first_here : AreFirst start script before

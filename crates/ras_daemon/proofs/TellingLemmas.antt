@@ -29,10 +29,6 @@ module _ (exit : Exit) (text : List ℕ) where
   only_told result (Some t) None printed = printed
   only_told result (Some t) (Some now) printed = told_so result t now printed
 
-  -- if memory runs out before anything is printed
-  pub none_told : (told : Option Told) → Relates (OnlyTells exit text NoMemory) told told
-  none_told told = only_told NoMemory told told (none_printed exit NoMemory text told told tt refl)
-
 -- what a command tells that only prints a text
 pub printed_commands : (exit result : Exit) (text : List ℕ) (before now : Option Told) (old new : Clock)
     → Relates (Printed exit result text) before now → Adds (PrintMoment old text) old new → LeavesDevice before now old new
