@@ -1,29 +1,23 @@
 -- What a report says, and what it leaves.
 use Rattle.std.proofs.Common.{◌≡◌, ℕ, List, [], ◌++◌, Option, None, Some, IfSome, option_map, Result, Ok, Err, refl, sym, ap, subst, ◌∙◌, inl, inr, append-nil}
-use Rattle.board_core.specs.Cause.{Faults, FailsAs, disk_call}
 use Rattle.board_core.specs.Clock.{Clock, Adds, LeftNow, Rests}
 use Rattle.board_core.specs.Steps.ClockLemmas.{adds_both, adds_weaker}
 use Rattle.board_core.specs.Stop.{Left, Begins, InOut}
 use Rattle.board_core.specs.Told.{FailsPrint, Relates, Steps, Told, after_print}
-use Rattle.board_core.proofs.DoingLemmas.{broke_faults, well_faults}
-use Rattle.ras_account.specs.Account.{State}
-use Rattle.ras_journal.specs.Recovered.{Refusal, damaged, recovered, too_long}
+use Rattle.ras_journal.specs.Recovered.{recovered}
 use Rattle.ras_recover.specs.OpeningCalls.{AfterRecovery}
-use Rattle.ras_recover.specs.Recovering.{KeepsTold, RefusesHeld, RestsHere, UnlessDisk, file_number, open_failure}
+use Rattle.ras_recover.specs.Recovering.{KeepsTold, RestsHere, UnlessDisk, open_failure}
 use Rattle.ras_recover.specs.declared.refused.OpenRefused.{OpenRefused}
 use Rattle.ras_recover.specs.declared.refused.OpenRefused.TheVariants as opening
 use Rattle.listing_texts.specs.declared.listing.Listing.{Listing}
-use Rattle.listing_texts.specs.declared.listing.Listing.TheVariants.{Counts, Pages, Names, Modules, Metrics}
 use Rattle.ras_exit.specs.declared.exit.Exit.{Exit}
-use Rattle.ras_exit.specs.declared.exit.Exit.TheVariants.{Damaged, DiskFault, Done, NoMemory, PrintFault, TooLong}
-use Rattle.ras_exit.specs.Causes.{BoardCause}
+use Rattle.ras_exit.specs.declared.exit.Exit.TheVariants.{PrintFault}
 use Rattle.board_core.specs.Device.{KeepsDevice, LeavesDevice}
 use Rattle.ras_exit.specs.Endings.{IsCut}
-use Rattle.ras_exit.specs.StopLine.{stop_line}
 use Rattle.ras_exit.proofs.DeviceLemmas.{device_by}
 use Rattle.ras_exit.proofs.EndingLemmas.{on_answer, on_cut}
-use Rattle.ras_daemon.specs.Steps.Answering.{IsCutBy, IsReportAnswer, IsSaid, stop_mark, unrecovered, whole_listing}
-use Rattle.ras_daemon.specs.Reporting.{ReportMoment, Reports, exit_by, report_exit, report_output}
+use Rattle.ras_daemon.specs.Steps.Answering.{IsCutBy, IsSaid}
+use Rattle.ras_daemon.specs.Reporting.{ReportMoment, Reports, report_exit, report_output}
 
 -- ---- a report that is cut short
 

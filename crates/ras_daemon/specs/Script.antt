@@ -1,10 +1,9 @@
 -- The lines of a script that a run takes, and its events.
-use Rattle.std.specs.Prelude.{ℕ, Bool, true, false, List, [], ◌∷◌, map, Option, None, Some, Ok, filter, drop}
+use Rattle.std.specs.Prelude.{ℕ, Bool, true, false, List, [], ◌∷◌, map, Option, None, Some, Ok, filter}
 use Rattle.std.specs.List.{enumerate_from}
 use Rattle.ras_base.specs.Places.{places}
 use Rattle.ras_script.specs.Line.{line_of}
 use Rattle.ras_script.specs.Lines.{script_lines}
-use Rattle.ras_script.specs.declared.line.Line.{Line}
 use Rattle.ras_script.specs.declared.line.Line.TheVariants as asks
 use Rattle.ras_events.specs.Reports.{NumberedLine, Place}
 use Rattle.ras_exit.specs.declared.exit.Exit.{Exit}
@@ -43,11 +42,3 @@ places_begun start (place ∷ places) = begun_with (refusal_at start place) plac
 
 abbrev pub begun_of : Start → List ℕ → List Place
 begun_of start script = filter is_event (places_begun start (places (reads_of script)))
-
--- the line of the event that is begun once n events are done, if there is one
-abbrev pub first_line : List Place → Option Line
-first_line ((before, (number, Ok line)) ∷ places) = Some line
-first_line places = None
-
-abbrev pub line_after : Start → List ℕ → ℕ → Option Line
-line_after start script n = first_line (drop n (begun_of start script))

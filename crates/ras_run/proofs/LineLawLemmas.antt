@@ -20,11 +20,10 @@ use Rattle.ras_records.proofs.ClearingLemmas.{calls_keep}
 use Rattle.ras_events.specs.declared.event.Event.{Event}
 use Rattle.ras_events.specs.declared.event.LineRefusal.{LineRefusal}
 use Rattle.ras_events.specs.declared.made.Piece.{Piece}
-use Rattle.ras_events.specs.Events.{event_of}
 use Rattle.ras_events.specs.Making.{entries_in}
-use Rattle.ras_events.specs.Reports.{NumberedLine, Place, event_at, settings_told}
+use Rattle.ras_events.specs.Reports.{NumberedLine, Place, event_at}
 use Rattle.ras_events.specs.Sizes.{IsFit}
-use Rattle.ras_events.specs.Stores.{store_after, store_by, store_with}
+use Rattle.ras_events.specs.Stores.{store_with}
 use Rattle.ras_exit.specs.declared.exit.Exit.{Exit}
 use Rattle.ras_exit.specs.declared.exit.Exit.TheVariants.{ErstBusy, ErstStatus}
 use Rattle.ras_run.specs.Deeds.{Asking, Deed, deed_of, deed_pieces, nothing, puts, saves, store_asked}
@@ -42,7 +41,7 @@ use Rattle.ras_run.proofs.DeviceActLemmas.{device_calls_none}
 use Rattle.ras_run.proofs.DrivesLemmas.{place_drives}
 use Rattle.ras_run.proofs.PlaceLemmas.{account-snoc, standing-snoc, store-snoc}
 use Rattle.ras_run.proofs.PrintActLemmas.{calls_both}
-use Rattle.ras_run.proofs.StoreLemmas.{full_with, left_in, line_store, refused_with}
+use Rattle.ras_run.proofs.StoreLemmas.{full_with, refused_with, taken_store}
 
 -- ---- whatever the board tells
 
@@ -121,7 +120,7 @@ left_asked site number room exit (saves r) some = by (is_free_in_time site.slow)
     by false full is busy = inr cc
 left_asked site number room exit asks some = inl refl
 
-refused_is : (start : Start) (place : Place) (exit : Exit) (event : Result Event LineRefusal) → event_refusal start place event ≡ Some exit → stored_by event (store_at start place.0) ≡ refused_store exit event (store_at start place.0)
+pub refused_is : (start : Start) (place : Place) (exit : Exit) (event : Result Event LineRefusal) → event_refusal start place event ≡ Some exit → stored_by event (store_at start place.0) ≡ refused_store exit event (store_at start place.0)
 refused_is start place exit (Ok event) some = elim (left_asked (site_at start place.0) place.1.0 _ exit (deed_of (Ok event)).asks some) [
   | inl same ↦ left_refused exit (Ok event) (store_at start place.0) same
   | inr busy ↦ subst (λ (e : Exit). stored_by (Ok event) (store_at start place.0) ≡ refused_store e (Ok event) (store_at start place.0)) (sym busy) refl
@@ -158,16 +157,7 @@ module _ (start : Start) (before : List NumberedLine) (number : ℕ) (line : Res
   abbrev made : List Piece
   made = deed_pieces (site_at start before) (deed_of event)
 
-  -- it leaves the store so
-  store_then : (read : Result Line LineRefused) → event_refusal start place (event_at (before, (number, read))) ≡ None → left_in (event_at (before, (number, read))) store ≡ store_after store (number, read)
-  store_then (Err why) none = absurd cc
-  store_then (Ok asks) none = by (event_of (settings_told before) asks) refl none
-    where
-      by : (e : Result Event LineRefusal) → event_of (settings_told before) asks ≡ e → event_refusal start place e ≡ None → left_in e store ≡ store_by store asks
-      by (Ok e) is none = sym (line_store store (settings_told before) asks e is)
-      by (Err why) is none = absurd cc
-
-  -- and the account and its standing are those after the line
+  -- the account and its standing are those after the line
   account_then : account_after_all a (entries_in made) ≡ account_at start (before ++ (number, line) ∷ [])
   account_then = ap (λ (pieces : List Piece). account_after_all a (entries_in pieces)) (sym (pieces_are (site_at start before) event)) ∙ sym (account-snoc start before (number, line))
 
@@ -198,7 +188,7 @@ module _ (start : Start) (before : List NumberedLine) (number : ℕ) (line : Res
             account = subst IsAccount account_then done.account;
             at = subst (λ (b : State). IsAt (standing_at start (before ++ (number, line) ∷ [])) b (after_acts are.rest u).here) account_then
                 (subst (λ (n : Standing). IsAt n (account_after_all a (entries_in made)) (after_acts are.rest u).here) standing_then done.at);
-            board = record { store = done.store ∙ (store_then line accepted.taken ∙ sym (store-snoc start before (number, line))); slow = done.slow };
+            board = record { store = done.store ∙ (taken_store start place store accepted.taken ∙ sym (store-snoc start before (number, line))); slow = done.slow };
           })
 
       pub line_moment : (left : Left) → Moment acts t left → LineMoment start place t.here left

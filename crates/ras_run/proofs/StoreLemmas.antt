@@ -1,5 +1,5 @@
 -- What a put and a saving do to the record store, and what a line does.
-use Rattle.std.proofs.Common.{◌≡◌, ℕ, Bool, true, false, nat_lt, if◌then◌else◌, List, length, Option, None, Some, Result, Ok, Err, IfOk, refl, ap, subst}
+use Rattle.std.proofs.Common.{◌≡◌, ℕ, Bool, true, false, nat_lt, if◌then◌else◌, List, length, Option, None, Some, Result, Ok, Err, IfOk, refl, sym, ap}
 use Rattle.std.specs.Option.{option_map_or}
 use Rattle.ras_base.specs.Chaining.{◌>>=◌}
 use Rattle.erst_store.specs.Device.{with_put}
@@ -29,8 +29,11 @@ use Rattle.ras_events.specs.declared.event.LineRefusal.{LineRefusal}
 use Rattle.ras_events.specs.declared.event.LineRefusal.TheVariants.{Bad, NoTable}
 use Rattle.ras_events.specs.declared.settings.Settings.{Settings}
 use Rattle.ras_events.specs.Events.{Lists, block_event, event_of, has_source, or_reason, panic_refusal, report_event, with_table}
-use Rattle.ras_events.specs.Stores.{store_by, store_with, unreadable}
+use Rattle.ras_events.specs.Reports.{Place, event_at, settings_told}
+use Rattle.ras_events.specs.Stores.{store_after, store_by, store_with, unreadable}
 use Rattle.ras_run.specs.Moments.{clears_store, stored_by}
+use Rattle.ras_run.specs.Places.{Start}
+use Rattle.ras_run.specs.Status.{event_refusal, refusal_at}
 
 -- ---- a put, by the store's refusal
 
@@ -111,5 +114,11 @@ module _ (store : List Stored) where
   line_leaves settings asks.Restart = refl
   line_leaves settings asks.Nothing = refl
 
-  pub line_store : (settings : Settings) (line : Line) (event : Event) → event_of settings line ≡ Ok event → store_by store line ≡ left_in (Ok event) store
-  line_store settings line event is = subst (λ (e : Result Event LineRefusal). IfOk e (Leaves (store_by store line))) is (line_leaves settings line)
+-- the store that a line leaves which isn't refused
+pub taken_store : (start : Start) (place : Place) (store : List Stored) → refusal_at start place ≡ None → left_in (event_at place) store ≡ store_after store place.1
+taken_store start (before, (number, Err why)) store none = absurd cc
+taken_store start (before, (number, Ok line)) store none = by (event_of (settings_told before) line) (line_leaves store (settings_told before) line) none
+  where
+    by : (event : Result Event LineRefusal) → IfOk event (Leaves store (store_by store line)) → event_refusal start (before, (number, Ok line)) event ≡ None → left_in event store ≡ store_by store line
+    by (Ok event) leaves none = sym leaves
+    by (Err why) leaves none = absurd cc
