@@ -54,7 +54,7 @@ use Rattle.ras_daemon.specs.RunStatus.{run_exit}
 use Rattle.ras_daemon.specs.Runs.{event_count, facts_of, logged}
 use Rattle.ras_daemon.specs.Script.{events_of, is_event, reads_of}
 use Rattle.ras_daemon.proofs.AgainLemmas.{facts_of-append}
-use Rattle.ras_daemon.proofs.EventLemmas.{of-line, of-panic, tabled}
+use Rattle.ras_daemon.proofs.EventLemmas.{place-done}
 use Rattle.ras_daemon.proofs.ListLemmas.{take-whole}
 use Rattle.ras_daemon.proofs.MachineLemmas.{text-same}
 use Rattle.ras_daemon.proofs.RunLawLemmas.{events-front, reports-none}
@@ -207,27 +207,6 @@ keeps-prints text told has = subst (λ (printed : List ℕ). KeepsDone printed) 
 -- an event has a done line
 abbrev IsDone : Place → Type 0
 IsDone p = event_done p.1.0 (event_at p) ≡ done_line p.1.0
-
-abbrev DoneUnlessRefused : ℕ → Result Event LineRefusal → Type 0
-DoneUnlessRefused number (Err why) = Unit {0}
-DoneUnlessRefused number (Ok event) = event_done number (Ok event) ≡ done_line number
-
-line-done : (number : ℕ) (settings : Settings) (line : Line) → (line ≡ asks.Nothing → ⊥) → DoneUnlessRefused number (event_of settings line)
-line-done number settings asks.Nothing not = absurd (not refl)
-line-done number settings (asks.Put id bytes) not = refl
-line-done number settings (asks.Panic id bank) not = of-panic (DoneUnlessRefused number) (λ why. tt) settings id bank refl
-line-done number settings (asks.Poll seconds) not = tabled (DoneUnlessRefused number) (λ why. tt) settings.driver (Polled seconds) refl
-line-done number settings asks.Restart not = refl
-line-done number settings line not = of-line (DoneUnlessRefused number) (λ why. tt) refl (λ made. refl) settings line tt
-
-place-done : (start : Start) (p : Place) → refusal_at start p ≡ None → is_event p ≡ true → IsDone p
-place-done start (before, (number, Err why)) taken is = let refused : Some (BadLine number (reason.Line why)) ≡ None = taken in absurd cc
-place-done start (before, (number, Ok asks.Nothing)) taken is = absurd cc
-place-done start (before, (number, Ok line)) taken is = by (event_of (settings_told before) line) taken (line-done number (settings_told before) line (λ same. absurd cc))
-  where
-    by : (event : Result Event LineRefusal) → event_refusal start (before, (number, Ok line)) event ≡ None → DoneUnlessRefused number event → event_done number event ≡ done_line number
-    by (Err why) taken done = absurd cc
-    by (Ok event) taken done = done
 
 events-done : (start : Start) (ps : List Place) → AllByRecursion IsDone (filter is_event (places_before_refusal start ps))
 events-done start [] = tt

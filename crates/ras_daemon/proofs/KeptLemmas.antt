@@ -40,15 +40,14 @@ use Rattle.ras_script.specs.declared.line.Line.TheVariants as asks
 use Rattle.ras_events.specs.declared.event.Event.{Event}
 use Rattle.ras_events.specs.declared.event.Event.TheVariants.{Polled, Put, Saved}
 use Rattle.ras_events.specs.declared.event.LineRefusal.{LineRefusal}
-use Rattle.ras_events.specs.declared.event.LineRefusal.TheVariants.{Bad}
 use Rattle.ras_events.specs.declared.made.Piece.{Piece}
 use Rattle.ras_events.specs.declared.settings.Settings.{Settings}
 use Rattle.ras_exit.specs.declared.exit.Exit.TheVariants.{ErstBusy, ErstStatus}
-use Rattle.ras_exit.specs.declared.reason.Reason.TheVariants as reason
-use Rattle.ras_events.specs.Events.{event_of, with_table}
+use Rattle.ras_events.specs.Events.{event_of, panic_refusal}
 use Rattle.ras_events.specs.Making.{entries_in, entry_in, piece_of, polled}
 use Rattle.ras_events.specs.Reports.{NumberedLine, entries_at, event_at, made_in, settings_told}
 use Rattle.ras_events.specs.Stores.{read_stored, store_with, unreadable}
+use Rattle.ras_events.proofs.AskedLemmas.{Asks, of-line}
 use Rattle.ras_run.specs.Deeds.{deed_of}
 use Rattle.ras_run.specs.Places.{Start, account_at, store_at}
 use Rattle.ras_run.specs.Status.{event_refusal, put_refusal}
@@ -59,7 +58,6 @@ use Rattle.ras_daemon.specs.RunOf.{change_at, change_by, run_of}
 use Rattle.ras_daemon.specs.Steps.Running.{AreFirst}
 use Rattle.ras_daemon.specs.StoreDuring.{ClearsFirst, KeepsRecords, KnownBy, KnowsReadable, PutsUnder, StoreDuring}
 use Rattle.ras_daemon.proofs.CountLemmas.{events_among}
-use Rattle.ras_daemon.proofs.EventLemmas.{of-line, tabled}
 use Rattle.ras_daemon.proofs.MachineLemmas.{IsTaken, change-taken}
 use Rattle.ras_daemon.proofs.StoreLemmas.{last-first, store-first}
 
@@ -193,19 +191,21 @@ panic-fits id bank store free room =
     ∙ ap (λ (n : ℕ). if nat_lt most_bytes n then Some TooLong else (if is_full_for id store then Some StoreFull else None)) (has_length id bank)
     ∙ ap (λ (b : Bool). if b then Some StoreFull else None) room
 
-event-fits : (settings : Settings) (line : Line) → IfOk (event_of settings line) Fits
-event-fits settings asks.Nothing = tt
-event-fits settings (asks.Put id bytes) = tt
-event-fits settings (asks.Panic id bank) = by (is_reserved_identifier id) (valid (status_in bank)) refl
+panic-free : (id : ℕ) (bank : BankReport) → panic_refusal id bank ≡ None → is_reserved id ≡ false
+panic-free id bank = by (is_reserved_identifier id) refl
   where
-    by : (reserved good : Bool) → is_reserved_identifier id ≡ reserved
-        → IfOk (option_map_or (λ why. Err (Bad (reason.Panic why))) (if reserved then Some ReservedBy else (if good then None else Some NotValid)) (with_table settings.driver (Saved id (panic_bytes id bank)))) Fits
-    by true good is = tt
-    by false false is = tt
-    by false true is = tabled (λ (event : Result Event LineRefusal). IfOk event Fits) (λ why. tt) settings.driver (Saved id (panic_bytes id bank)) (λ store room. panic-fits id bank store is room)
-event-fits settings (asks.Poll seconds) = tabled (λ (event : Result Event LineRefusal). IfOk event Fits) (λ why. tt) settings.driver (Polled seconds) tt
-event-fits settings asks.Restart = tt
-event-fits settings line = of-line (λ (event : Result Event LineRefusal). IfOk event Fits) (λ why. tt) tt (λ made. tt) settings line tt
+    by : (b : Bool) → is_reserved_identifier id ≡ b → (if b then Some ReservedBy else (if valid (status_in bank) then None else Some NotValid)) ≡ None → is_reserved id ≡ false
+    by false is none = is
+    by true is none = absurd cc
+
+event-fits : (settings : Settings) (line : Line) → IfOk (event_of settings line) Fits
+event-fits settings line = of-line (λ event. IfOk event Fits) (λ why. tt) settings line (by line)
+  where
+    by : (line : Line) → Asks (λ event. IfOk event Fits) settings line
+    by (asks.Report report) = λ made. tt
+    by (asks.Panic id bank) = λ lists is none store room. panic-fits id bank store (panic-free id bank none) room
+    by (asks.Poll seconds) = λ lists is. tt
+    by line = tt
 
 place-fits : (before : List NumberedLine) (read : NumberedLine) → IfOk (event_at (before, read)) Fits
 place-fits before (number, Ok line) = event-fits (settings_told before) line
