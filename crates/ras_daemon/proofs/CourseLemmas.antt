@@ -18,7 +18,7 @@ use Rattle.ras_events.specs.Stores.{is_readable, unreadable, without_first}
 use Rattle.ras_exit.specs.ScriptEnd.{ending_exit, script_exit}
 use Rattle.ras_exit.specs.declared.exit.Exit.{Exit}
 use Rattle.ras_exit.specs.declared.exit.Exit.TheVariants.{ErstBusy}
-use Rattle.ras_run.specs.Deeds.{deed_of}
+use Rattle.ras_events.specs.Deeds.{deed_of}
 use Rattle.ras_run.specs.Moments.{Course, CourseMoment, IsBegun, clears_store, course_at, refused_store, store_cleared, store_left, stored_by}
 use Rattle.ras_run.specs.Output.{event_done, output_at}
 use Rattle.ras_run.specs.Places.{Start, account_at, store_at}

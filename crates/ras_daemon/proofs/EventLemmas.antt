@@ -1,24 +1,19 @@
 -- What an accepted line prints and reports: an event prints quiet lines and then its done line, and
 -- a line that is no event neither prints nor reports anything.
-use Rattle.std.proofs.Common.{◌≡◌, ℕ, Bool, true, false, ◌||◌, List, [], ◌∷◌, ◌++◌, Option, Some, None, Result, Ok, Err, refl, sym, ap, subst, inl, inr}
-use Rattle.std.specs.Prelude.{◌⊎◌, if◌then◌else◌, IfOk}
+use Rattle.std.proofs.Common.{◌≡◌, ℕ, Bool, true, false, List, [], ◌∷◌, ◌++◌, Option, Some, None, Result, Ok, Err, refl, ap, inl, inr}
+use Rattle.std.specs.Prelude.{◌⊎◌, if◌then◌else◌, IfOk, unwrap_or}
 use Rattle.std.specs.List.{AllByRecursion}
 use Rattle.ras_base.specs.Places.{places, places_behind}
 use Rattle.dimm_topology.specs.declared.row.Row.{Row}
 use Rattle.erst_store.specs.Store.{Stored}
 use Rattle.ras_account.specs.Account.{State}
 use Rattle.ras_account.specs.Accounts.{IsAccount}
-use Rattle.ras_account.specs.Continued.{account_after_all}
-use Rattle.ras_account.specs.Numbers.{are_past, fresh_entries_in, numbers_with}
-use Rattle.ras_account.proofs.LawLemmas.{entries-sound}
-use Rattle.ras_account.proofs.NumberLemmas.{past-within, stays-within}
-use Rattle.ras_records.specs.Polls.{is_busy_for_reads}
 use Rattle.ras_script.specs.declared.line.Line.{Line}
 use Rattle.ras_script.specs.declared.line.Line.TheVariants as asks
 use Rattle.ras_script.specs.declared.line.LineRefused.{LineRefused}
 use Rattle.ras_texts.specs.Text.{done_line}
 use Rattle.ras_events.specs.declared.event.Event.{Event}
-use Rattle.ras_events.specs.declared.event.Event.TheVariants.{Nothing, Settled, Counted, Put, Saved, Polled, Reopened}
+use Rattle.ras_events.specs.declared.event.Event.TheVariants.{Polled}
 use Rattle.ras_events.specs.declared.event.LineRefusal.{LineRefusal}
 use Rattle.ras_exit.specs.declared.reason.Reason.TheVariants as reason
 use Rattle.ras_events.specs.declared.settings.Settings.{Settings}
@@ -29,12 +24,13 @@ use Rattle.ras_events.specs.Reports.{NumberedLine, Place, entries_at, event_at, 
 use Rattle.ras_events.specs.Sizes.{IsFit}
 use Rattle.ras_events.specs.Stores.{laid}
 use Rattle.ras_events.specs.QuietLines.{AreQuietLines}
-use Rattle.ras_exit.specs.declared.exit.Exit.{Exit}
-use Rattle.ras_exit.specs.declared.exit.Exit.TheVariants.{BadLine, ErstBusy, Full}
-use Rattle.ras_run.specs.Output.{event_done, event_text_at, output_at, text_at}
-use Rattle.ras_run.specs.Places.{Start, account_at, lacks_room_for, polled_at, standing_at, store_at}
-use Rattle.ras_run.specs.Deeds.{deed_of}
-use Rattle.ras_run.specs.Status.{counting_refusal, event_refusal, refusal_at}
+use Rattle.ras_exit.specs.declared.exit.Exit.TheVariants.{BadLine}
+use Rattle.ras_run.specs.Output.{event_done, output_at, text_at}
+use Rattle.ras_run.specs.Places.{Start, account_at}
+use Rattle.ras_events.specs.Deeds.{Asking, Deed, deed_of, reopens}
+use Rattle.ras_run.specs.Deeds.{deed_counts, text_by}
+use Rattle.ras_run.specs.Step.{site_at}
+use Rattle.ras_run.specs.Status.{event_refusal, refusal_at}
 use Rattle.ras_run.specs.Taking.{IsAccepted}
 use Rattle.ras_daemon.specs.Steps.Running.{AreFirst}
 use Rattle.ras_daemon.specs.Runs.{IsNoPoll}
@@ -43,48 +39,7 @@ use Rattle.ras_events.proofs.AskedLemmas.{Asks, of-line}
 use Rattle.ras_events.proofs.DoneLemmas.{no_lines_quiet}
 use Rattle.ras_events.proofs.EventLemmas.{event_quiet_in}
 use Rattle.ras_events.proofs.WholeLineLemmas.{standing_quiet}
-use Rattle.ras_run.proofs.PlaceLemmas.{account-snoc}
-
--- ---- the account along accepted lines
-
-full-past : (b : Bool) (rest : Bool) → (if b || rest then Some Full else None) ≡ None → b ≡ false
-full-past true rest is = absurd cc
-full-past false rest is = refl
-
--- a poll that isn't refused finds room for what it makes
-not-busy : (busy : Bool) (counting : Option Exit) → (if busy then Some ErstBusy else counting) ≡ None → counting ≡ None
-not-busy true counting is = absurd cc
-not-busy false counting is = is
-
-module _ (start : Start) (before : List NumberedLine) (read : NumberedLine) where
-  -- what is made of a line is counted, where there is room for it
-  made-counts : (made : List Piece) → counting_refusal (account_at start before) (standing_at start before) (entries_in made) ≡ None → IsFit made → IsAccount (account_at start before)
-      → IsAccount (account_after_all (account_at start before) (entries_in made))
-  made-counts made taken fit account =
-      let a : State = account_at start before in
-      let within = full-past (are_past (numbers_with a (entries_in made)))
-      (lacks_room_for a (standing_at start before) (fresh_entries_in a (entries_in made))) taken in
-      entries-sound a (entries_in made) account fit.valid
-      (stays-within a (entries_in made) ((past-within (numbers_with a (entries_in made))).0 within))
-
-  along : (event : Result Event LineRefusal) → event_refusal start (before, read) event ≡ None → IsFit (made_in (settings_told before).topology (store_at start before) event)
-      → IsAccount (account_at start before)
-      → IsAccount (account_after_all (account_at start before) (entries_in (made_in (settings_told before).topology (store_at start before) event)))
-  along (Err why) taken fit account = account
-  along (Ok Nothing) taken fit account = account
-  along (Ok Settled) taken fit account = account
-  along (Ok Reopened) taken fit account = account
-  along (Ok (Put id bytes)) taken fit account = account
-  along (Ok (Saved id bytes)) taken fit account = account
-  along (Ok (Polled seconds)) taken fit account =
-      let made : List Piece = polled_at start before seconds in
-      made-counts made
-      (not-busy (is_busy_for_reads start.slow (store_at start before))
-      (counting_refusal (account_at start before) (standing_at start before) (entries_in made)) taken) fit account
-  along (Ok (Counted made)) taken fit account = made-counts made taken fit account
-
-  pub account-next : IsAccepted start (before, read) → IsAccount (account_at start before) → IsAccount (account_at start (before ++ read ∷ []))
-  account-next accepted account = subst IsAccount (sym (account-snoc start before read)) (along (event_at (before, read)) accepted.taken accepted.fit account)
+use Rattle.ras_run.proofs.LineLawLemmas.{taken_account}
 
 -- ---- what a line asks for
 
@@ -155,27 +110,20 @@ pub record PrintsNothing (start : Start) (place : Place) : Type 0 where
 abbrev pub Tells : Start → Place → Type 0
 Tells start place = PrintsEvent start place ⊎ PrintsNothing start place
 
+text-quiet : (account : State) (asks : Asking) (counted : Option (List Piece)) → IsFit (unwrap_or counted []) → IsAccount account → AreQuietLines (text_by account asks counted)
+text-quiet account reopens counted fit is = standing_quiet account is
+text-quiet account asks (Some made) fit is = event_quiet_in account made is fit
+text-quiet account asks None fit is = no_lines_quiet
+
 -- an accepted line
 module _ (start : Start) (before : List NumberedLine) (number : ℕ) where
-  -- its text, by its event
-  text-quiet : (event : Result Event LineRefusal) → IsFit (made_in (settings_told before).topology (store_at start before) event) → IsAccount (account_at start before)
-      → AreQuietLines (event_text_at start before event)
-  text-quiet (Ok (Counted made)) fit account = event_quiet_in (account_at start before) made account fit
-  text-quiet (Ok (Polled seconds)) fit account = event_quiet_in (account_at start before) (polled_at start before seconds) account fit
-  text-quiet (Ok Reopened) fit account = standing_quiet (account_at start before) account
-  text-quiet (Ok Nothing) fit account = no_lines_quiet
-  text-quiet (Ok Settled) fit account = no_lines_quiet
-  text-quiet (Ok (Put id bytes)) fit account = no_lines_quiet
-  text-quiet (Ok (Saved id bytes)) fit account = no_lines_quiet
-  text-quiet (Err why) fit account = no_lines_quiet
-
   pub tells : (read : Result Line LineRefused) → IsAccepted start (before, (number, read)) → IsAccount (account_at start before) → Tells start (before, (number, read))
   tells (Ok asks.Nothing) accepted account = inr (record { event = refl; silent = refl; reports = refl })
   tells (Err why) accepted account = absurd (let refused : Some (BadLine number (reason.Line why)) ≡ None = accepted.taken in cc)
   tells (Ok line) accepted account = inl (record {
     event = refl;
     text = text_at start (before, (number, Ok line));
-    quiet = text-quiet (event_of (settings_told before) line) accepted.fit account;
+    quiet = (let deed : Deed = deed_of (event_of (settings_told before) line) in text-quiet (account_at start before) deed.asks (deed_counts (site_at start before) deed) accepted.fit account);
     printed = ap (λ (done : List ℕ). text_at start (before, (number, Ok line)) ++ done) (place-done start (before, (number, Ok line)) accepted.taken refl);
   })
 
@@ -186,7 +134,7 @@ pub tells-behind : (start : Start) (before reads : List NumberedLine) → AllByR
 tells-behind start before [] accepted account = tt
 tells-behind start before (read ∷ reads) accepted account = (
   tells start before read.0 read.1 accepted.0 account,
-  tells-behind start (before ++ read ∷ []) reads accepted.1 (account-next start before read accepted.0 account),
+  tells-behind start (before ++ read ∷ []) reads accepted.1 (taken_account start before read.0 read.1 accepted.0 account),
 )
 
 -- the first lines of a script

@@ -48,7 +48,7 @@ use Rattle.ras_events.specs.Making.{entries_in, entry_in, piece_of, polled}
 use Rattle.ras_events.specs.Reports.{NumberedLine, entries_at, event_at, made_in, settings_told}
 use Rattle.ras_events.specs.Stores.{read_stored, store_with, unreadable}
 use Rattle.ras_events.proofs.AskedLemmas.{Asks, of-line}
-use Rattle.ras_run.specs.Deeds.{deed_of}
+use Rattle.ras_events.specs.Deeds.{deed_of}
 use Rattle.ras_run.specs.Places.{Start, account_at, store_at}
 use Rattle.ras_run.specs.Status.{event_refusal, put_refusal}
 use Rattle.ras_run.specs.Taking.{IsAccepted}

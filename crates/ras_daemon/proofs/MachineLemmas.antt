@@ -11,8 +11,9 @@ use Rattle.ras_facts.specs.declared.entry.Entry.{Entry}
 use Rattle.ras_events.specs.Reports.{Place, event_at}
 use Rattle.ras_events.specs.Stores.{laid, store_after, unreadable}
 use Rattle.ras_exit.specs.declared.exit.Exit.{Exit}
-use Rattle.ras_run.specs.Deeds.{Asking, clears_by, deed_of, store_asked}
-use Rattle.ras_run.specs.Deeds as asking
+use Rattle.ras_events.specs.Deeds.{Asking, deed_of}
+use Rattle.ras_run.specs.Deeds.{clears_by, store_asked}
+use Rattle.ras_events.specs.Deeds as asking
 use Rattle.ras_run.specs.Output.{output_at}
 use Rattle.ras_run.specs.Places.{Start, account_at}
 use Rattle.ras_run.specs.Status.{places_before_refusal, refusal_at}

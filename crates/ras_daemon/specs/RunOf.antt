@@ -2,8 +2,8 @@
 use Rattle.std.specs.Prelude.{List, ℕ, map}
 use Rattle.ras_events.specs.Reports.{Place, entries_at, event_at}
 use Rattle.ras_texts.specs.Orders.{standing_lines}
-use Rattle.ras_run.specs.Deeds.{Asking, deed_of}
-use Rattle.ras_run.specs.Deeds as asking
+use Rattle.ras_events.specs.Deeds.{Asking, deed_of}
+use Rattle.ras_events.specs.Deeds as asking
 use Rattle.ras_run.specs.Output.{output_at}
 use Rattle.ras_run.specs.Places.{Start, account_at}
 use Rattle.ras_daemon.specs.Machine.{Run, RunEvent, StoreChange, clears, keeps, puts}

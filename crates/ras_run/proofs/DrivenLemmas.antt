@@ -7,7 +7,7 @@ use Rattle.ras_events.specs.declared.event.LineRefusal.{LineRefusal}
 use Rattle.ras_events.specs.declared.settings.Settings.{Settings}
 use Rattle.ras_events.specs.Events.{Lists, event_of, settings_after}
 use Rattle.ras_events.proofs.AskedLemmas.{Asks, of-line}
-use Rattle.ras_run.specs.Deeds.{Asking, deed_of, polls, saves}
+use Rattle.ras_events.specs.Deeds.{Asking, deed_of, polls, saves}
 
 -- what is asked for is done by the driver
 abbrev pub IsByDriver : Asking → Type 0

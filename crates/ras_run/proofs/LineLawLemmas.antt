@@ -22,11 +22,11 @@ use Rattle.ras_events.specs.declared.event.LineRefusal.{LineRefusal}
 use Rattle.ras_events.specs.declared.made.Piece.{Piece}
 use Rattle.ras_events.specs.Making.{entries_in}
 use Rattle.ras_events.specs.Reports.{NumberedLine, Place, event_at}
-use Rattle.ras_events.specs.Sizes.{IsFit}
 use Rattle.ras_events.specs.Stores.{store_with}
 use Rattle.ras_exit.specs.declared.exit.Exit.{Exit}
 use Rattle.ras_exit.specs.declared.exit.Exit.TheVariants.{ErstBusy, ErstStatus}
-use Rattle.ras_run.specs.Deeds.{Asking, Deed, deed_of, deed_pieces, nothing, puts, saves, store_asked}
+use Rattle.ras_events.specs.Deeds.{Asking, Deed, deed_of, nothing, puts, saves}
+use Rattle.ras_run.specs.Deeds.{deed_pieces, store_asked}
 use Rattle.ras_run.specs.LineActs.{AreFollowing, AreLineActs, AreUnlessRefused, CanAsk, HoldsAfter, asking_acts, asking_calls, lists_after}
 use Rattle.ras_run.specs.LineCalls.{AreCallsAt}
 use Rattle.ras_run.specs.Moments.{CourseMoment, course_to, refused_store, stored_by}
@@ -36,9 +36,10 @@ use Rattle.ras_run.specs.Status.{asking_refusal, deed_refusal, event_refusal, pu
 use Rattle.ras_run.specs.Step.{Site, site_at}
 use Rattle.ras_run.specs.Taking.{IsAccepted, LineMoment}
 use Rattle.ras_run.proofs.AskedLemmas.{HasAsked, asked_here, asking_begun, has_asked}
-use Rattle.ras_run.proofs.DeedLemmas.{IsDone, follow_calls, follow_done, follow_moment, follow_out, pieces_are}
+use Rattle.ras_run.proofs.DeedLemmas.{IsDone, follow_calls, follow_done, follow_moment, follow_out, has_room}
 use Rattle.ras_run.proofs.DeviceActLemmas.{device_calls_none}
 use Rattle.ras_run.proofs.DrivesLemmas.{place_drives}
+use Rattle.ras_run.proofs.MadeLemmas.{account_made}
 use Rattle.ras_run.proofs.PlaceLemmas.{account-snoc, standing-snoc, store-snoc}
 use Rattle.ras_run.proofs.PrintActLemmas.{calls_both}
 use Rattle.ras_run.proofs.StoreLemmas.{full_with, refused_with, taken_store}
@@ -159,15 +160,16 @@ module _ (start : Start) (before : List NumberedLine) (number : ℕ) (line : Res
 
   -- the account and its standing are those after the line
   account_then : account_after_all a (entries_in made) ≡ account_at start (before ++ (number, line) ∷ [])
-  account_then = ap (λ (pieces : List Piece). account_after_all a (entries_in pieces)) (sym (pieces_are (site_at start before) event)) ∙ sym (account-snoc start before (number, line))
+  account_then = sym (account-snoc start before (number, line))
 
   standing_then : standing_with_news a (standing_at start before) (fresh_entries_in a (entries_in made)) ≡ standing_at start (before ++ (number, line) ∷ [])
-  standing_then =
-      ap (λ (pieces : List Piece). standing_with_news a (standing_at start before) (fresh_entries_in a (entries_in pieces))) (sym (pieces_are (site_at start before) event))
-      ∙ sym (standing-snoc start before (number, line))
+  standing_then = sym (standing-snoc start before (number, line))
 
-  pub deed_fit : IsAccepted start place → IsFit made
-  deed_fit accepted = subst IsFit (pieces_are (site_at start before) event) accepted.fit
+  pub taken_account : IsAccepted start place → IsAccount a → IsAccount (account_at start (before ++ (number, line) ∷ []))
+  taken_account accepted account =
+      let deed : Deed = deed_of event in
+      subst IsAccount account_then (account_made a (standing_at start before) account made
+      (has_room (site_at start before) number deed.asks deed.reported account (deed_taken (site_at start before) number event accepted.taken)) accepted.fit)
 
   module _ (t : Told) (holds : HoldsAfter start before t) (can : CanAsk (event_at place) t) where
     pub line_asked : HasAsked (site_at start before) (deed_of event).asks (after_asked before event t)
@@ -183,7 +185,7 @@ module _ (start : Start) (before : List NumberedLine) (number : ℕ) (line : Res
       pub line_holds : HoldsAfter start (before ++ (number, line) ∷ []) (after_acts acts t)
       line_holds =
           let u : Told = after_asked before event t in
-          let done : IsDone (site_at start before) number (deed_of event) (after_acts are.rest u) = follow_done (site_at start before) number (deed_of event) u line_asked (deed_taken (site_at start before) number event accepted.taken) (deed_fit accepted) are.rest follow in
+          let done : IsDone (site_at start before) number (deed_of event) (after_acts are.rest u) = follow_done (site_at start before) number (deed_of event) u line_asked (deed_taken (site_at start before) number event accepted.taken) accepted.fit are.rest follow in
           subst (HoldsAfter start (before ++ (number, line) ∷ [])) (sym (acts_then start place t acts are)) (record {
             account = subst IsAccount account_then done.account;
             at = subst (λ (b : State). IsAt (standing_at start (before ++ (number, line) ∷ [])) b (after_acts are.rest u).here) account_then
@@ -196,6 +198,6 @@ module _ (start : Start) (before : List NumberedLine) (number : ℕ) (line : Res
         | inl asking ↦ asking_moment left asking
         | inr later ↦
             subst (λ (after : State). CourseMoment (IsAccepted start place) (course_to (site_at start before) number (deed_of event) after) t.here.out left) account_then
-            (follow_moment (site_at start before) number (deed_of event) (after_asked before event t) line_asked (deed_taken (site_at start before) number event accepted.taken) (deed_fit accepted) are.rest follow
+            (follow_moment (site_at start before) number (deed_of event) (after_asked before event t) line_asked (deed_taken (site_at start before) number event accepted.taken) accepted.fit are.rest follow
             (IsAccepted start place) accepted t.here.out (ap (λ (l : Left). l.out) (calls_keep (asking_calls (lists_after before) (deed_of event).asks t) t).here) left later)
       ]
