@@ -19,11 +19,11 @@ use Rattle.ras_run.specs.Taking.{IsAccepted, LineMoment}
 use Rattle.ras_run.proofs.LineLawLemmas.{line_holds, line_moment, line_out, refused_rest}
 use Rattle.ras_run.proofs.SomeActLemmas.{some_acts}
 use Rattle.ras_daemon.specs.Steps.Doing.{AreLinesActs}
-use Rattle.ras_daemon.specs.RunActs.{AreActsAlong, AreDoneAlong, script_asked}
+use Rattle.ras_daemon.specs.RunActs.{AreActsAlong, AreDoneAlong, refused_acts, script_asked}
 use Rattle.ras_daemon.specs.Steps.Running.{AreAccepted, AreFirst, LinesMoment, outputs}
 use Rattle.ras_daemon.specs.Script.{reads_of}
 use Rattle.ras_daemon.proofs.FirstLinesLemmas.{first-before}
-use Rattle.ras_daemon.proofs.PlaceLemmas.{accepted-snoc, line_refused, outputs-snoc, script-asked}
+use Rattle.ras_daemon.proofs.PlaceLemmas.{accepted-snoc, line_refused, outputs-snoc, script-refused}
 
 -- ---- lists of them
 
@@ -172,6 +172,6 @@ module _ (start : Start) (script : List ℕ) (t : Told) (before rest : List Numb
           along = acts;
           lines = subst (λ (ps : List Place). AreActsAlong start ps t acts) (sym (line_refused start script before rest read exit splits accepted refused).all) along;
           is = append_assoc acts done later
-              ∙ ap (λ more. acts ++ more) (is ∙ asks_alone start (before, read) exit then line refused are ∙ sym (script-asked start script before rest read exit then splits accepted refused));
+              ∙ ap (λ more. acts ++ more) (is ∙ asks_alone start (before, read) exit then line refused are ∙ sym (ap (λ found. refused_acts found then) (script-refused start script before rest read exit splits accepted refused)));
         },
       )

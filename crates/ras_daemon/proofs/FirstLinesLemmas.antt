@@ -1,7 +1,8 @@
 -- The first lines of a script, each accepted, among all of its lines.
 use Rattle.std.proofs.Common.{◌≡◌, ℕ, Bool, true, false, List, [], ◌∷◌, ◌++◌, Option, Some, None, Result, Ok, Err, refl, sym, ap, ◌∙◌, subst, append_assoc}
-use Rattle.std.specs.Prelude.{if◌then◌else◌, unwrap_or}
-use Rattle.std.specs.List.{AllByRecursion, cons_option, filter_map, flat_map}
+use Rattle.std.specs.Prelude.{if◌then◌else◌}
+use Rattle.std.specs.List.{AllByRecursion, flat_map}
+use Rattle.std.specs.Option.{option_map_or}
 use Rattle.ras_base.specs.Places.{places, places_behind}
 use Rattle.ras_base.specs.Steps.PlacesLemmas.{places_behind-append, places-snoc}
 use Rattle.ras_account.specs.Continued.{account_after_all}
@@ -25,7 +26,7 @@ use Rattle.ras_run.specs.Status.{asking_refusal, event_refusal, places_before_re
 use Rattle.ras_run.specs.Step.{Site, site_at}
 use Rattle.ras_run.specs.Taking.{IsAccepted}
 use Rattle.ras_daemon.specs.RunOutput.{closing_line}
-use Rattle.ras_daemon.specs.RunStatus.{first_among, refusal_among, run_exit}
+use Rattle.ras_daemon.specs.RunStatus.{first_refused, refused_or, run_exit}
 use Rattle.ras_daemon.specs.Steps.Running.{AreAccepted, AreAll, AreFirst}
 use Rattle.ras_exit.specs.ScriptEnd.{script_exit}
 use Rattle.ras_daemon.specs.Script.{reads_of}
@@ -98,36 +99,21 @@ refused-not start place (Ok event) =
     let counted : Option (List Piece) = deed_counts site (deed_of (Ok event)) in
     asking-not site place.1.0 (deed_of (Ok event)).asks (room_refusal site counted) (room-not site counted)
 
-first-not : (o : Option Exit) (rest : List Exit) → IsNotDone o → IsNotDone (first_among rest) → IsNotDone (first_among (cons_option o rest))
-first-not None rest one others = others
-first-not (Some exit) rest one others = one
-
-among-not : (start : Start) (ps : List Place) → IsNotDone (first_among (filter_map (refusal_at start) ps))
-among-not start [] = tt
-among-not start (p ∷ ps) = first-not (refusal_at start p) (filter_map (refusal_at start) ps) (refused-not start p (event_at p)) (among-not start ps)
-
-done-none : (o : Option Exit) (exit : Exit) → IsNotDone o → unwrap_or o exit ≡ Done → o ≡ None
-done-none None exit other is = refl
-done-none (Some found) exit other is = absurd (subst (λ (e : Exit). IsNotDone (Some e)) is other)
-
 -- where no line is refused all stand before the first refused one
-all-before : (start : Start) (ps : List Place) → first_among (filter_map (refusal_at start) ps) ≡ None → places_before_refusal start ps ≡ ps
-all-before start [] is = refl
-all-before start (p ∷ ps) is = by (refusal_at start p) refl (λ rest. all-before start ps rest) is
+all-before : (start : Start) (ps : List Place) (exit : Exit) → option_map_or (λ (r : Place × Exit). r.1) (first_refused start ps) exit ≡ Done → places_before_refusal start ps ≡ ps
+all-before start [] exit is = refl
+all-before start (p ∷ ps) exit is = by (refusal_at start p) refl (refused-not start p (event_at p)) (all-before start ps exit) is
   where
-    by : (found : Option Exit) → refusal_at start p ≡ found
-        → (first_among (filter_map (refusal_at start) ps) ≡ None → places_before_refusal start ps ≡ ps)
-        → first_among (cons_option found (filter_map (refusal_at start) ps)) ≡ None
-        → places_before_refusal start (p ∷ ps) ≡ p ∷ ps
-    by None there rest none = rw there (ap (λ (qs : List Place). p ∷ qs) (rest none))
-    by (Some exit) there rest none = cc
+    by : (found : Option Exit) → refusal_at start p ≡ found → IsNotDone found
+        → (option_map_or (λ (r : Place × Exit). r.1) (first_refused start ps) exit ≡ Done → places_before_refusal start ps ≡ ps)
+        → option_map_or (λ (r : Place × Exit). r.1) (refused_or found p (first_refused start ps)) exit ≡ Done → places_before_refusal start (p ∷ ps) ≡ p ∷ ps
+    by None there not rest is = rw there (ap (λ (qs : List Place). p ∷ qs) (rest is))
+    by (Some why) there not rest is = absurd (subst (λ (e : Exit). IsNotDone (Some e)) is not)
 
 -- what stands at the end of a run that is done is all of the script
 pub done-all : (start : Start) (script : List ℕ) → run_exit start script ≡ Done
     → places_before_refusal start (places (reads_of script)) ≡ places (reads_of script)
-done-all start script is =
-    let ps = places (reads_of script) in
-    all-before start ps (done-none (refusal_among start ps) (script_exit script) (among-not start ps) is)
+done-all start script is = all-before start (places (reads_of script)) (script_exit script) is
 
 -- the last line of a run
 pub closing-same : (start : Start) (script : List ℕ) (exit : Exit) (before : List NumberedLine) → AreAll start script exit before

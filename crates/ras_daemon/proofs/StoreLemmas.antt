@@ -1,11 +1,10 @@
 -- The record store along the events of a run, and what the next event does to it.
-use Rattle.std.proofs.Common.{◌≡◌, ℕ, true, cond, List, [], ◌∷◌, ◌++◌, length, map, Option, None, Some, Ok, refl, sym, ap, ◌∙◌}
-use Rattle.std.specs.Prelude.{filter, get_or}
-use Rattle.std.specs.List.{AllByRecursion, fold}
+use Rattle.std.proofs.Common.{◌≡◌, ℕ, true, cond, List, [], ◌∷◌, ◌++◌, length, map, Option, None, Some, Ok, refl, sym, ap, ◌∙◌, append_assoc}
+use Rattle.std.specs.Prelude.{filter, get_or, is_some}
+use Rattle.std.specs.List.{fold}
 use Rattle.std.proofs.lemmas.List.Elements.{filter-append}
 use Rattle.erst_store.specs.Store.{bytes_under}
 use Rattle.ras_base.specs.Places.{places, places_behind}
-use Rattle.ras_base.specs.Steps.PlacesLemmas.{places_behind-append}
 use Rattle.ras_account.specs.Accounts.{IsAccount}
 use Rattle.ras_script.specs.declared.line.Line.TheVariants as asks
 use Rattle.ras_events.specs.Reports.{NumberedLine, Place}
@@ -13,13 +12,16 @@ use Rattle.ras_events.specs.Stores.{laid}
 use Rattle.ras_exit.specs.declared.exit.Exit.{Exit}
 use Rattle.ras_exit.specs.declared.exit.Exit.TheVariants.{ErstBusy}
 use Rattle.ras_run.specs.Places.{Start, store_at}
-use Rattle.ras_run.specs.Status.{refusal_at}
+use Rattle.ras_run.specs.Status.{places_before_refusal, refusal_at}
 use Rattle.ras_run.specs.Taking.{IsAccepted}
 use Rattle.ras_daemon.specs.Machine.{RunEvent, StoreChange, change_next, changes_upto, keeps, last_changed, last_upto, store_changed, store_upto}
-use Rattle.ras_daemon.specs.RunOf.{change_at, run_event_at, run_of}
-use Rattle.ras_daemon.specs.Script.{begun_of, begun_with, is_event, places_begun, reads_of}
+use Rattle.ras_daemon.specs.RunOf.{begun_by, change_at, run_event_at, run_of}
+use Rattle.ras_daemon.specs.RunStatus.{script_refused}
+use Rattle.ras_daemon.specs.Script.{is_event, reads_of}
 use Rattle.ras_daemon.specs.Steps.Running.{AreAccepted, AreFirst}
 use Rattle.ras_daemon.proofs.CountLemmas.{events_among, first-events}
+use Rattle.ras_daemon.proofs.FirstLinesLemmas.{first-before}
+use Rattle.ras_daemon.proofs.PlaceLemmas.{line_refused, script-refused}
 use Rattle.ras_daemon.proofs.ListLemmas.{all-weaker}
 use Rattle.ras_daemon.proofs.MachineLemmas.{IsTaken, changes-laid, changes-same}
 
@@ -53,11 +55,6 @@ module _ (start : Start) (script : List ℕ) (before : List NumberedLine) (first
 
 -- ---- the event that is begun behind the first lines
 
-begun-front : (start : Start) (ps qs : List Place) → AllByRecursion (IsAccepted start) ps → places_begun start (ps ++ qs) ≡ ps ++ places_begun start qs
-begun-front start [] qs all = refl
-begun-front start (p ∷ ps) qs all =
-    ap (λ r. begun_with r p (places_begun start (ps ++ qs))) all.0.taken ∙ ap (λ rest. p ∷ rest) (begun-front start ps qs all.1)
-
 change-behind : (start : Start) (ps qs : List Place) (p : Place) → get_or (map (λ (event : RunEvent). event.change) (map (run_event_at start) (ps ++ p ∷ qs))) (length ps) keeps ≡ change_at p
 change-behind start [] qs p = refl
 change-behind start (q ∷ ps) qs p = change-behind start ps qs p
@@ -68,20 +65,28 @@ IsBegunWith None = Unit {0}
 IsBegunWith (Some ErstBusy) = Unit {0}
 IsBegunWith refusal = ⊥
 
-begun-more : (refusal : Option Exit) (place : Place) (behind : List Place) → IsBegunWith refusal → (more : List Place) × (begun_with refusal place behind ≡ place ∷ more)
-begun-more None place behind begun = (behind, refl)
-begun-more (Some ErstBusy) place behind begun = ([], refl)
-begun-more (Some exit) place behind begun = absurd begun
+module _ (start : Start) (script : List ℕ) (before rest : List NumberedLine) (read : NumberedLine) (splits : before ++ read ∷ rest ≡ reads_of script) (accepted : AreAccepted start before) where
+  -- all that it begins: these, the line, and others
+  begun-more : (refusal : Option Exit) → refusal_at start (before, read) ≡ refusal → IsBegunWith refusal
+      → (more : List Place) × (places_before_refusal start (places (reads_of script)) ++ begun_by (script_refused start script) ≡ places before ++ (before, read) ∷ more)
+  begun-more None taken begun =
+      let behind : List Place = places_before_refusal start (places_behind (before ++ read ∷ []) rest) in
+      let last : List Place = begun_by (script_refused start script) in (
+        behind ++ last,
+        ap (λ ps. ps ++ last)
+            (first-before start script before (record { rest = read ∷ rest; splits = splits; accepted = accepted })
+            ∙ ap (λ (o : Option Exit). places before ++ cond (is_some o) [] ((before, read) ∷ behind)) taken)
+            ∙ append_assoc (places before) ((before, read) ∷ behind) last,
+      )
+  begun-more (Some ErstBusy) refused begun =
+      ([], λ i. (line_refused start script before rest read ErstBusy splits accepted refused).all i ++ begun_by (script-refused start script before rest read ErstBusy splits accepted refused i))
+  begun-more (Some exit) refused begun = absurd begun
 
-pub line-next : (start : Start) (script : List ℕ) (before rest : List NumberedLine) (read : NumberedLine) → before ++ read ∷ rest ≡ reads_of script → AreAccepted start before
-    → is_event (before, read) ≡ true → IsBegunWith (refusal_at start (before, read)) → change_next (run_of start script) (events_among (places before)) ≡ change_at (before, read)
-line-next start script before rest read splits accepted event begun =
-    let (more, is) = begun-more (refusal_at start (before, read)) (before, read) (places_begun start (places_behind (before ++ read ∷ []) rest)) begun in
-    let begun_is : begun_of start script ≡ filter is_event (places before) ++ (before, read) ∷ filter is_event more =
-    ap (λ reads. filter is_event (places_begun start (places reads))) (sym splits)
-    ∙ ap (λ ps. filter is_event (places_begun start ps)) (places_behind-append [] before (read ∷ rest))
-    ∙ ap (filter is_event) (begun-front start (places before) (places_behind before (read ∷ rest)) accepted ∙ ap (λ ps. places before ++ ps) is)
-    ∙ filter-append is_event (places before) ((before, read) ∷ more)
-    ∙ ap (λ b. filter is_event (places before) ++ cond b ((before, read) ∷ filter is_event more) (filter is_event more)) event in
-    ap (λ ps. get_or (map (λ (event : RunEvent). event.change) (map (run_event_at start) ps)) (events_among (places before)) keeps) begun_is
-    ∙ change-behind start (filter is_event (places before)) (filter is_event more) (before, read)
+  pub line-next : is_event (before, read) ≡ true → IsBegunWith (refusal_at start (before, read)) → change_next (run_of start script) (events_among (places before)) ≡ change_at (before, read)
+  line-next event begun =
+      let (more, is) = begun-more (refusal_at start (before, read)) refl begun in
+      ap (λ ps. get_or (map (λ (event : RunEvent). event.change) (map (run_event_at start) ps)) (events_among (places before)) keeps)
+      (ap (filter is_event) is
+      ∙ filter-append is_event (places before) ((before, read) ∷ more)
+      ∙ ap (λ b. filter is_event (places before) ++ cond b ((before, read) ∷ filter is_event more) (filter is_event more)) event)
+      ∙ change-behind start (filter is_event (places before)) (filter is_event more) (before, read)

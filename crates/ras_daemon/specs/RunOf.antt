@@ -1,15 +1,19 @@
 -- The run of a script from where it starts, as events.
-use Rattle.std.specs.Prelude.{List, ℕ, map}
+use Rattle.std.specs.Prelude.{List, [], ◌∷◌, ◌++◌, ℕ, map, filter, Option, None, Some}
+use Rattle.ras_base.specs.Places.{places}
+use Rattle.ras_exit.specs.declared.exit.Exit.{Exit}
+use Rattle.ras_exit.specs.declared.exit.Exit.TheVariants.{BadLine, ErstRefused}
 use Rattle.ras_events.specs.Reports.{Place, entries_at, event_at}
 use Rattle.ras_texts.specs.Orders.{standing_lines}
 use Rattle.ras_events.specs.Deeds.{Asking, deed_of}
 use Rattle.ras_events.specs.Deeds as asking
 use Rattle.ras_run.specs.Output.{output_at}
 use Rattle.ras_run.specs.Places.{Start, account_at}
+use Rattle.ras_run.specs.Status.{places_before_refusal}
 use Rattle.ras_daemon.specs.Machine.{Run, RunEvent, StoreChange, clears, keeps, puts}
 use Rattle.ras_daemon.specs.RunOutput.{closing_line}
-use Rattle.ras_daemon.specs.RunStatus.{run_exit}
-use Rattle.ras_daemon.specs.Script.{begun_of, events_of, reads_of}
+use Rattle.ras_daemon.specs.RunStatus.{run_exit, script_refused}
+use Rattle.ras_daemon.specs.Script.{events_of, is_event, reads_of}
 
 -- what an event does to the record store, by what it asks for: a poll clears the store
 abbrev pub change_by : Asking → StoreChange
@@ -28,6 +32,18 @@ run_event_at start place = record {
   change = change_at place;
   prints = output_at start place;
 }
+
+-- The events that a run begins: all before the first refused line, and then the refused one, unless it is
+-- refused for what it asks for.
+abbrev pub begun_by : Option (Place × Exit) → List Place
+begun_by (Some (place, BadLine number why)) = []
+begun_by (Some (place, ErstRefused number)) = []
+begun_by (Some (place, exit)) = place ∷ []
+begun_by None = []
+
+abbrev pub begun_of : Start → List ℕ → List Place
+begun_of start script =
+    filter is_event (places_before_refusal start (places (reads_of script)) ++ begun_by (script_refused start script))
 
 -- The run prints the outstanding orders first, then what the events of the script print, and then the last
 -- line.
