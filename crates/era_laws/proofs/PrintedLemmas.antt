@@ -24,8 +24,6 @@ use Rattle.ras_facts.specs.declared.items.Item.{Item}
 use Rattle.ras_facts.specs.declared.name.Name.{Name}
 use Rattle.ras_facts.specs.Names.{same_name}
 use Rattle.ras_journal.specs.Recovered.{Recovers}
-use Rattle.ras_script.specs.declared.line.Line.{Line}
-use Rattle.ras_script.specs.declared.line.Line.TheVariants as asks
 use Rattle.ras_script.specs.Lines.{without_last}
 use Rattle.ras_script.proofs.LineAndWordLemmas.{some_part, split_between}
 use Rattle.ras_texts.specs.Orders.{standing_lines}
@@ -34,19 +32,15 @@ use Rattle.ras_texts.specs.Text.{done_line, item_head, item_line, label_text, na
 use Rattle.ras_events.specs.declared.event.Event.{Event}
 use Rattle.ras_events.specs.declared.event.Event.TheVariants.{Nothing, Settled, Counted, Put, Saved, Polled, Reopened}
 use Rattle.ras_events.specs.declared.event.LineRefusal.{LineRefusal}
-use Rattle.ras_events.specs.declared.settings.Settings.{Settings}
 use Rattle.ras_events.specs.DoneLines.{done_count, ended_lines, is_done_line}
-use Rattle.ras_events.specs.Events.{event_of}
 use Rattle.ras_events.specs.Making.{entries_in}
 use Rattle.ras_events.specs.Reports.{NumberedLine, Place, entries_at, event_at, made_in, settings_told}
 use Rattle.ras_events.specs.Stores.{laid}
 use Rattle.ras_events.proofs.DoneLemmas.{done_counts}
 use Rattle.ras_exit.specs.declared.exit.Exit.{Exit}
-use Rattle.ras_exit.specs.declared.exit.Exit.TheVariants.{BadLine}
-use Rattle.ras_exit.specs.declared.reason.Reason.TheVariants as reason
 use Rattle.ras_run.specs.Output.{event_done, event_text_at, output_at}
 use Rattle.ras_run.specs.Places.{Start, account_at, polled_at}
-use Rattle.ras_run.specs.Status.{event_refusal, places_before_refusal, refusal_at}
+use Rattle.ras_run.specs.Status.{places_before_refusal, refusal_at}
 use Rattle.ras_run.proofs.PlaceLemmas.{account-snoc}
 use Rattle.ras_daemon.specs.Machine.{Run, RunEvent, text_of, text_upto}
 use Rattle.ras_daemon.specs.RunOutput.{output_upto}

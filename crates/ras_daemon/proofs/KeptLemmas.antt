@@ -1,9 +1,8 @@
 -- The record store while the event of a line is taken, and which of its records are kept.
-use Rattle.std.proofs.Common.{◌≡◌, ℕ, Bool, true, false, nat_eq, nat_lt, if◌then◌else◌, List, [], ◌∷◌, ◌++◌, length, map, Option, None, Some, Result, Ok, Err, refl, sym, ap, subst, ◌∙◌, inl, inr, append_assoc, append-nil, arith}
+use Rattle.std.proofs.Common.{◌≡◌, ℕ, Bool, true, false, nat_eq, nat_lt, if◌then◌else◌, List, [], ◌∷◌, ◌++◌, length, map, Option, None, Some, Result, Ok, Err, refl, sym, ap, subst, ◌∙◌, inl, inr, append_assoc, append-nil}
 use Rattle.std.specs.Prelude.{◌⊎◌, IfOk, unwrap_or}
 use Rattle.std.specs.List.{AllByRecursion, cons_option, fold}
 use Rattle.std.specs.Option.{option_and_then, option_map, option_map_or}
-use Rattle.std.proofs.lemmas.Bool.Decides.{nat_tests}
 use Rattle.std.proofs.lemmas.List.{map-append}
 use Rattle.std.proofs.lemmas.List.Sums.{fold-append}
 use Rattle.cper_records.specs.Readable.{filled, read_under}
@@ -58,8 +57,10 @@ use Rattle.ras_daemon.specs.RunOf.{change_at, change_by, run_of}
 use Rattle.ras_daemon.specs.Steps.Running.{AreFirst}
 use Rattle.ras_daemon.specs.StoreDuring.{ClearsFirst, KeepsRecords, KnownBy, KnowsReadable, PutsUnder, StoreDuring}
 use Rattle.ras_daemon.proofs.CountLemmas.{events_among}
+use Rattle.ras_daemon.proofs.ListLemmas.{all-weaker}
 use Rattle.ras_daemon.proofs.MachineLemmas.{IsTaken, change-taken}
 use Rattle.ras_daemon.proofs.StoreLemmas.{last-first, store-first}
+use Rattle.ras_events.proofs.StoreLemmas.{same_bytes, same_id}
 
 -- ---- while an event changes the store
 
@@ -92,15 +93,12 @@ module _ (Known : Name → Type 0) (laid store : List Stored) where
 
 -- ---- what stands under other identifiers
 
-eq_of : (a b : ℕ) → nat_eq a b ≡ true → a ≡ b
-eq_of a b is = grind (arith, nat_tests)
-
 apart_of : (a b : ℕ) → (a ≡ b → ⊥) → nat_eq a b ≡ false
 apart_of a b apart = by (nat_eq a b) refl
   where
     by : (t : Bool) → nat_eq a b ≡ t → t ≡ false
     by false is = refl
-    by true is = absurd (apart (eq_of a b is))
+    by true is = absurd (apart (same_id a b is))
 
 others-put : (id : ℕ) (bytes : List ℕ) (k : ℕ) (laid : List Stored) → (id ≡ k → ⊥) → bytes_under k (store_with id bytes laid) ≡ bytes_under k laid
 others-put id bytes k laid apart = by (refusal_of id bytes laid)
@@ -121,9 +119,6 @@ kept-during change last Known laid store now held id bytes own there reads apart
     by clears (inr (first, known)) apart stands = inr (known id bytes own stands reads)
 
 -- ---- a poll's account knows the name of each record that can be read
-
-same_bytes : (xs ys : List ℕ) → Some xs ≡ Some ys → xs ≡ ys
-same_bytes xs ys is = cc
 
 module _ (rows : List Row) (seconds : ℕ) (own : List ℕ) where
   abbrev pub told : FactOf
@@ -172,7 +167,7 @@ module _ (rows : List Row) (seconds : ℕ) (own : List ℕ) where
             → (bytes_under id rs ≡ Some bytes → (b : State) → Knows (account_after_all b (entries_in (polled rows seconds rs))))
             → Knows (account_after_all a (entries_in (polled rows seconds (r ∷ rs))))
         by true is here later =
-            own-known a (read_stored r) r.id (polled rows seconds rs) ((λ i. read_under (eq_of r.id id is i) (filled (same_bytes r.bytes bytes here i))) ∙ reads)
+            own-known a (read_stored r) r.id (polled rows seconds rs) ((λ i. read_under (same_id r.id id is i) (filled (same_bytes r.bytes bytes here i))) ∙ reads)
         by false is there later = later-known a (piece_of rows seconds r.id (read_stored r)) (polled rows seconds rs) (later there)
 
 pub poll-knows : (a : State) (rows : List Row) (seconds : ℕ) (store : List Stored) → KnowsReadable store (KnownBy (account_after_all a (entries_in (polled rows seconds store))))
@@ -221,6 +216,20 @@ put-taken : (number : ℕ) (refusal : Option PutRefused) → put_refusal number 
 put-taken number None is = refl
 put-taken number (Some why) is = absurd cc
 
+-- the store takes the record that a change puts
+abbrev pub HasRoom : StoreChange → List Stored → Type 0
+HasRoom (puts r) store = refusal_of r.id r.bytes store ≡ None
+HasRoom change store = Unit {0}
+
+pub change-room : (start : Start) (before : List NumberedLine) (read : NumberedLine) → IsTaken start (before, read) → HasRoom (change_at (before, read)) (store_at start before)
+change-room start before read = by (event_at (before, read)) (place-fits before read)
+  where
+    by : (event : Result Event LineRefusal) → IfOk event Fits → event_refusal start (before, read) event ≡ None → HasRoom (change_by (deed_of event).asks) (store_at start before)
+    by (Ok (Put id bytes)) fits taken = put-taken read.0 (refusal_of id bytes (store_at start before)) taken
+    by (Ok (Saved id bytes)) fits taken = fits (store_at start before) (saved-room (is_full_for id (store_at start before)) (is_free_in_time start.slow) taken)
+    by (Ok event) fits taken = tt
+    by (Err why) fits taken = tt
+
 -- ---- what is kept along lines
 
 put-kept : (id : ℕ) (put : List ℕ) (last : ℕ → Option (List ℕ)) (Known : Name → Type 0) (store : List Stored) → refusal_of id put store ≡ None → KeepsRecords last Known store
@@ -229,7 +238,7 @@ put-kept id put last Known store taken held k bytes own there reads =
     rw (ap (λ (o : Option PutRefused). option_map_or (λ why. store) o (with_record id put store)) taken) (by (nat_eq id k) refl there)
   where
     by : (b : Bool) → nat_eq id k ≡ b → (if b then Some put else last k) ≡ Some bytes → (bytes_under k (with_record id put store) ≡ Some bytes) ⊎ Known (stored_name own)
-    by true is here = inl (subst (λ i. bytes_under i (with_record id put store) ≡ Some bytes) (eq_of id k is) (found-with_record id put store ∙ here))
+    by true is here = inl (subst (λ i. bytes_under i (with_record id put store) ≡ Some bytes) (same_id id k is) (found-with_record id put store ∙ here))
     by false is there =
         elim (held k bytes own there reads) [
           | inl stands ↦ inl (under-with_record id k put is store ∙ stands)
@@ -244,6 +253,12 @@ kept-weaker last Known Now store grows held id bytes own there reads =
 poll-kept : (last : ℕ → Option (List ℕ)) (Known : Name → Type 0) (store : List Stored) → KnowsReadable store Known → KeepsRecords last Known store → KeepsRecords last Known (unreadable store)
 poll-kept last Known store knows held id bytes own there reads =
     elim (held id bytes own there reads) [ inl stands ↦ inr (knows id bytes own stands reads) | inr known ↦ inr known ]
+
+pub last-snoc : (id : ℕ) (found : Option (List ℕ)) (before : List NumberedLine) (read : NumberedLine)
+    → fold (last_changed id) found (map change_at (places (before ++ read ∷ []))) ≡ last_changed id (fold (last_changed id) found (map change_at (places before))) (change_at (before, read))
+last-snoc id found before read =
+    ap (fold (last_changed id) found) (ap (map change_at) (places-snoc before read) ∙ map-append change_at (places before) ((before, read) ∷ []))
+    ∙ fold-append (last_changed id) found (map change_at (places before)) (change_at (before, read) ∷ [])
 
 module _ (start : Start) where
   abbrev KnownAt : List NumberedLine → Name → Type 0
@@ -265,46 +280,37 @@ module _ (start : Start) where
   abbrev Last : List NumberedLine → ℕ → Option (List ℕ)
   Last before id = fold (last_changed id) (bytes_under id start.store) (map change_at (places before))
 
-  abbrev KeepsAt : List NumberedLine → Type 0
+  abbrev pub KeepsAt : List NumberedLine → Type 0
   KeepsAt before = KeepsRecords (Last before) (KnownAt before) (store_at start before)
 
   module _ (before : List NumberedLine) (read : NumberedLine) where
-    event-kept : (event : Result Event LineRefusal) → event_at (before, read) ≡ event → IfOk event Fits → event_refusal start (before, read) event ≡ None
+    event-kept : (event : Result Event LineRefusal) → event_at (before, read) ≡ event → HasRoom (change_by (deed_of event).asks) (store_at start before)
         → KeepsRecords (Last before) (KnownAt (before ++ read ∷ [])) (store_at start before)
         → KeepsRecords (λ id. last_changed id (Last before id) (change_by (deed_of event).asks)) (KnownAt (before ++ read ∷ [])) (store_changed (store_at start before) (change_by (deed_of event).asks))
-    event-kept (Ok (Put id bytes)) is fits taken held =
-        put-kept id bytes (Last before) (KnownAt (before ++ read ∷ [])) (store_at start before) (put-taken read.0 (refusal_of id bytes (store_at start before)) taken) held
-    event-kept (Ok (Saved id bytes)) is fits taken held =
-        put-kept id bytes (Last before) (KnownAt (before ++ read ∷ [])) (store_at start before)
-        (fits (store_at start before) (saved-room (is_full_for id (store_at start before)) (is_free_in_time start.slow) taken)) held
-    event-kept (Ok (Polled seconds)) is fits taken held =
-        poll-kept (Last before) (KnownAt (before ++ read ∷ [])) (store_at start before) (known-polled before read seconds is) held
-    event-kept (Ok event) is fits taken held = held
-    event-kept (Err why) is fits taken held = held
-
-    last-snoc : (id : ℕ) → Last (before ++ read ∷ []) id ≡ last_changed id (Last before id) (change_at (before, read))
-    last-snoc id =
-        ap (fold (last_changed id) (bytes_under id start.store)) (ap (map change_at) (places-snoc before read) ∙ map-append change_at (places before) ((before, read) ∷ []))
-        ∙ fold-append (last_changed id) (bytes_under id start.store) (map change_at (places before)) (change_at (before, read) ∷ [])
+    event-kept (Ok (Put id bytes)) is room held = put-kept id bytes (Last before) (KnownAt (before ++ read ∷ [])) (store_at start before) room held
+    event-kept (Ok (Saved id bytes)) is room held = put-kept id bytes (Last before) (KnownAt (before ++ read ∷ [])) (store_at start before) room held
+    event-kept (Ok (Polled seconds)) is room held = poll-kept (Last before) (KnownAt (before ++ read ∷ [])) (store_at start before) (known-polled before read seconds is) held
+    event-kept (Ok event) is room held = held
+    event-kept (Err why) is room held = held
 
     line-kept : IsTaken start (before, read) → KeepsAt before → KeepsAt (before ++ read ∷ [])
     line-kept taken held = λ id bytes own there reads.
         subst (λ (store : List Stored). (bytes_under id store ≡ Some bytes) ⊎ KnownAt (before ++ read ∷ []) (stored_name own))
         (change-taken start (before, read) (store_at start before) taken ∙ sym (store-snoc start before read))
-        (event-kept (event_at (before, read)) refl (place-fits before read) taken
+        (event-kept (event_at (before, read)) refl (change-room start before read taken)
         (kept-weaker (Last before) (KnownAt before) (KnownAt (before ++ read ∷ [])) (store_at start before) (known-next before read) held)
-        id bytes own (sym (last-snoc id) ∙ there) reads)
+        id bytes own (sym (last-snoc id (bytes_under id start.store) before read) ∙ there) reads)
 
-  lines-kept : (before reads : List NumberedLine) → AllByRecursion (IsAccepted start) (places_behind before reads) → KeepsAt before → KeepsAt (before ++ reads)
-  lines-kept before [] accepted held = rw (append-nil before) held
-  lines-kept before (read ∷ reads) accepted held =
-      subst KeepsAt (append_assoc before (read ∷ []) reads) (lines-kept (before ++ read ∷ []) reads accepted.1 (line-kept before read accepted.0.taken held))
+  pub lines-kept : (before reads : List NumberedLine) → AllByRecursion (IsTaken start) (places_behind before reads) → KeepsAt before → KeepsAt (before ++ reads)
+  lines-kept before [] taken held = rw (append-nil before) held
+  lines-kept before (read ∷ reads) taken held =
+      subst KeepsAt (append_assoc before (read ∷ []) reads) (lines-kept (before ++ read ∷ []) reads taken.1 (line-kept before read taken.0 held))
 
   pub first-kept : (script : List ℕ) (before : List NumberedLine) (first : AreFirst start script before) → IsAccount start.account
       → KeepsRecords (last_upto (run_of start script) (events_among (places before))) (KnownAt before) (store_upto (run_of start script) (events_among (places before)))
   first-kept script before first account = λ id bytes own there reads.
       rw (store-first start script before first account)
-      (lines-kept [] before first.accepted (λ id bytes own there reads. inl there) id bytes own (sym (last-first start script before first account id) ∙ there) reads)
+      (lines-kept [] before (all-weaker (IsAccepted start) (IsTaken start) (λ place accepted. accepted.taken) (places before) first.accepted) (λ id bytes own there reads. inl there) id bytes own (sym (last-first start script before first account id) ∙ there) reads)
 
 -- at the start
 pub none-kept : (start : Start) (script : List ℕ) (Known : Name → Type 0) → KeepsRecords (last_upto (run_of start script) 0) Known (store_upto (run_of start script) 0)
