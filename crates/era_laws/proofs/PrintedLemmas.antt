@@ -30,16 +30,16 @@ use Rattle.ras_texts.specs.Orders.{standing_lines}
 use Rattle.ras_texts.specs.Reports.{detail_text, empty_line, told_line}
 use Rattle.ras_texts.specs.Text.{done_line, item_head, item_line, label_text, name_text, page_text}
 use Rattle.ras_events.specs.declared.event.Event.{Event}
-use Rattle.ras_events.specs.declared.event.Event.TheVariants.{Nothing, Settled, Counted, Put, Saved, Polled, Reopened}
+use Rattle.ras_events.specs.declared.event.Event.TheVariants.{Nothing, Counted, Polled, Reopened}
 use Rattle.ras_events.specs.declared.event.LineRefusal.{LineRefusal}
 use Rattle.ras_events.specs.DoneLines.{done_count, ended_lines, is_done_line}
-use Rattle.ras_events.specs.Making.{entries_in}
+use Rattle.ras_events.specs.Making.{entries_in, polled}
 use Rattle.ras_events.specs.Reports.{NumberedLine, Place, entries_at, event_at, made_in, settings_told}
 use Rattle.ras_events.specs.Stores.{laid}
 use Rattle.ras_events.proofs.DoneLemmas.{done_counts}
 use Rattle.ras_exit.specs.declared.exit.Exit.{Exit}
 use Rattle.ras_run.specs.Output.{event_done, event_text_at, output_at}
-use Rattle.ras_run.specs.Places.{Start, account_at, polled_at}
+use Rattle.ras_run.specs.Places.{Start, account_at}
 use Rattle.ras_run.specs.Status.{places_before_refusal, refusal_at}
 use Rattle.ras_run.proofs.PlaceLemmas.{account-snoc}
 use Rattle.ras_daemon.specs.Machine.{Run, RunEvent, text_of, text_upto}
@@ -106,12 +106,9 @@ module _ (start : Start) (before : List NumberedLine) (number : ℕ) where
 
   text-prints : (event : Result Event LineRefusal) → HasPrints (event_text_at start before event) (told-by event)
   text-prints (Ok (Counted made)) = prints-event (account_at start before) made
-  text-prints (Ok (Polled seconds)) = prints-event (account_at start before) (polled_at start before seconds)
+  text-prints (Ok (Polled seconds)) = prints-event (account_at start before) (polled (settings_told before).topology seconds (laid start.store before))
   text-prints (Ok Reopened) = prints-standing (account_at start before)
-  text-prints (Ok Nothing) = prints-none
-  text-prints (Ok Settled) = prints-none
-  text-prints (Ok (Put id bytes)) = prints-none
-  text-prints (Ok (Saved id bytes)) = prints-none
+  text-prints (Ok event) = prints-none
   text-prints (Err why) = prints-none
 
   done-prints : (event : Result Event LineRefusal) → HasPrints (event_done number event) []
