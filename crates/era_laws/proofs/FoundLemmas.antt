@@ -1,12 +1,8 @@
--- What is laid under an identifier by lines, or by changes of the store, doesn't hang on what was laid
--- there before, or it is that.
-use Rattle.std.proofs.Common.{◌≡◌, ℕ, nat_eq, Bool, true, false, if◌then◌else◌, List, [], ◌∷◌, Option, None, Some, Ok, Err, refl, sym, ◌∙◌, inl, inr}
+-- What changes of the store last put under an identifier doesn't hang on what was there before, or it is that.
+use Rattle.std.proofs.Common.{◌≡◌, ℕ, nat_eq, Bool, true, false, if◌then◌else◌, List, [], ◌∷◌, Option, Some, refl, sym, ◌∙◌, inl, inr}
 use Rattle.std.specs.Prelude.{◌⊎◌}
 use Rattle.std.specs.List.{fold}
-use Rattle.std.specs.Option.{option_map_or}
 use Rattle.erst_store.specs.Store.{Stored}
-use Rattle.ras_events.specs.Reports.{NumberedLine}
-use Rattle.ras_events.specs.Stores.{found_after, put_by}
 use Rattle.ras_daemon.specs.Machine.{StoreChange, clears, keeps, last_changed, puts}
 
 abbrev Found : Type 0
@@ -29,17 +25,6 @@ module _ (id : ℕ) where
   put-stays : (r : Stored) (b : Bool) → Stays (λ a. if b then Some r.bytes else a)
   put-stays r true = inl (λ a b. refl)
   put-stays r false = inr (λ a. refl)
-
-  one-found : (line : NumberedLine) → Stays (λ a. found_after id a line)
-  one-found (number, Err why) = inr (λ a. refl)
-  one-found (number, Ok line) = by (put_by line)
-    where
-      by : (o : Option Stored) → Stays (λ a. option_map_or (λ (r : Stored). if nat_eq r.id id then Some r.bytes else a) o a)
-      by None = inr (λ a. refl)
-      by (Some r) = put-stays r (nat_eq r.id id)
-
-  pub all-found : (lines : List NumberedLine) → Stays (λ a. fold (found_after id) a lines)
-  all-found lines = all-stay (found_after id) one-found lines
 
   one-changed : (change : StoreChange) → Stays (λ a. last_changed id a change)
   one-changed keeps = inr (λ a. refl)

@@ -21,33 +21,32 @@ use Rattle.ras_account.proofs.KnownLemmas.{knows-after, knows-after_all, knows-o
 use Rattle.ras_facts.specs.declared.entry.Entry.{Entry}
 use Rattle.ras_facts.specs.declared.entry.Entry.TheVariants.{Fact, Limit as PageLimit, Retire, ModuleLimit}
 use Rattle.ras_facts.specs.declared.name.Name.{Name}
-use Rattle.ras_panic.specs.Panics.{panic_bytes}
 use Rattle.ras_panic.specs.Reading.{stored_name}
-use Rattle.ras_script.specs.declared.line.Line.{Line}
-use Rattle.ras_script.specs.declared.line.Line.TheVariants as asks
 use Rattle.ras_events.specs.declared.event.Event.{Event}
 use Rattle.ras_events.specs.declared.event.Event.TheVariants.{Counted, Polled}
 use Rattle.ras_events.specs.declared.event.LineRefusal.{LineRefusal}
 use Rattle.ras_events.specs.Making.{entries_in, piece_of, polled}
 use Rattle.ras_events.specs.Reports.{NumberedLine, Place, entries_at, event_at, made_in, reports, settings_told}
-use Rattle.ras_events.specs.Stores.{found_after, is_readable, laid, read_stored, store_after}
+use Rattle.ras_events.specs.Stores.{is_readable, laid, read_stored}
 use Rattle.ras_events.proofs.ReportLemmas.{reports-cut}
 use Rattle.ras_exit.specs.declared.exit.Exit.{Exit}
 use Rattle.ras_run.specs.Places.{Start, account_at, store_at}
 use Rattle.ras_run.specs.Status.{places_before_refusal, refusal_at}
 use Rattle.ras_daemon.specs.Headline.{account_with, reported}
-use Rattle.ras_daemon.specs.Machine.{account_upto}
+use Rattle.ras_daemon.specs.Machine.{StoreChange, account_upto, clears, keeps, last_changed, puts, store_changed}
 use Rattle.ras_daemon.specs.Runs.{IsTakenWhole, event_count, logged}
 use Rattle.ras_daemon.specs.Script.{events_of, is_event, reads_of}
 use Rattle.ras_daemon.specs.StoreDuring.{KnownBy}
 use Rattle.ras_daemon.proofs.FirstLinesLemmas.{done-all}
-use Rattle.ras_daemon.proofs.KeptLemmas.{KeepsAt, lines-kept, panic-taken, poll-knows, told, told-name}
-use Rattle.ras_daemon.proofs.ListLemmas.{all-front, all-weaker, take-whole}
-use Rattle.ras_daemon.proofs.RunLawLemmas.{all-filter, by-events, prefix-flat_map, prefix-take, reports-none, taken-events}
-use Rattle.ras_daemon.proofs.StoreLemmas.{put-taken}
+use Rattle.ras_daemon.proofs.KeptLemmas.{HasRoom, KeepsAt, change-room, last-snoc, lines-kept, poll-knows, told, told-name}
+use Rattle.ras_daemon.proofs.MachineLemmas.{change-taken}
+use Rattle.ras_daemon.specs.RunOf.{change_at}
+use Rattle.ras_run.proofs.PlaceLemmas.{store-snoc}
+use Rattle.ras_daemon.proofs.ListLemmas.{all-filter, all-front, all-weaker, take-whole}
+use Rattle.ras_daemon.proofs.RunLawLemmas.{by-events, prefix-flat_map, prefix-take, reports-none, taken-events}
 use Rattle.era_laws.specs.Eras.{AreEras, Counts, Era, IsReadableIn, TakesScript, left_after, logs_upto}
 use Rattle.era_laws.proofs.EraLemmas.{KnowsAllOf, knows-along, store-along}
-use Rattle.era_laws.proofs.FoundLemmas.{all-found}
+use Rattle.era_laws.proofs.FoundLemmas.{all-changed}
 use Rattle.era_laws.proofs.TakesLemmas.{takes-account, takes-count, takes-logs, takes-start, takes-store}
 
 -- ---- lists
@@ -116,7 +115,7 @@ module _ (P : Name → Type 0) where
 
 -- what lines lay under an identifier, if nothing was laid before
 abbrev put_last : List NumberedLine → ℕ → Option (List ℕ)
-put_last before id = fold (found_after id) None before
+put_last before id = fold (last_changed id) None (map change_at (places before))
 
 -- a record of the first store, or one that was laid so
 abbrev IsFrom : List Stored → (ℕ → Option (List ℕ)) → Stored → Type 0
@@ -168,7 +167,7 @@ module _ (first : List Stored) (last : ℕ → Option (List ℕ)) (id : ℕ) (by
           eq-self : (n : ℕ) → nat_eq n n ≡ true
           eq-self n = grind (arith, nat_tests)
 
-module _ (next : Start) (before : List NumberedLine) (number : ℕ) (from : AllByRecursion (IsFrom next.store (put_last before)) (store_at next before)) where
+module _ (next : Start) (before : List NumberedLine) (from : AllByRecursion (IsFrom next.store (put_last before)) (store_at next before)) where
   -- a put that is taken
   taken-from : (id : ℕ) (bytes : List ℕ) → refusal_of id bytes (store_at next before) ≡ None
       → AllByRecursion (IsFrom next.store (λ k. if nat_eq id k then Some bytes else put_last before k))
@@ -177,25 +176,22 @@ module _ (next : Start) (before : List NumberedLine) (number : ℕ) (from : AllB
       subst (λ (o : Option PutRefused). AllByRecursion (IsFrom next.store (λ k. if nat_eq id k then Some bytes else put_last before k)) (option_map_or (λ why. store_at next before) o (with_record id bytes (store_at next before))))
       (sym taken) (put-from next.store (put_last before) id bytes (store_at next before) from)
 
-  line-from : (line : Line) → refusal_at next (before, (number, Ok line)) ≡ None
-      → AllByRecursion (IsFrom next.store (λ k. found_after k (put_last before k) (number, Ok line))) (store_after (store_at next before) (number, Ok line))
-  line-from (asks.Put id bytes) taken = taken-from id bytes (put-taken number (refusal_of id bytes (store_at next before)) taken)
-  line-from (asks.Panic id bank) taken = taken-from id (panic_bytes id bank) (panic-taken next before number id bank taken)
-  line-from (asks.Poll seconds) taken = all-filter (IsFrom next.store (put_last before)) (λ r. not (is_readable r)) (store_at next before) from
-  line-from line taken = from
+  change-from : (change : StoreChange) → HasRoom change (store_at next before) → AllByRecursion (IsFrom next.store (λ k. last_changed k (put_last before k) change)) (store_changed (store_at next before) change)
+  change-from keeps room = from
+  change-from (puts r) room = taken-from r.id r.bytes room
+  change-from clears room = all-filter (IsFrom next.store (put_last before)) (λ r. not (is_readable r)) (store_at next before) from
 
 read-from : (next : Start) (before : List NumberedLine) (read : NumberedLine) → AllByRecursion (IsFrom next.store (put_last before)) (store_at next before)
     → refusal_at next (before, read) ≡ None
     → AllByRecursion (IsFrom next.store (put_last (before ++ read ∷ []))) (store_at next (before ++ read ∷ []))
-read-from next before (number, Err why) from taken = absurd cc
-read-from next before (number, Ok line) from taken =
-    subst (AllByRecursion (IsFrom next.store (put_last (before ++ (number, Ok line) ∷ [])))) (sym (fold-append store_after next.store before ((number, Ok line) ∷ [])))
-    (all-weaker (IsFrom next.store (λ k. found_after k (put_last before k) (number, Ok line))) (IsFrom next.store (put_last (before ++ (number, Ok line) ∷ []))) same
-    (store_after (store_at next before) (number, Ok line)) (line-from next before number from line taken))
+read-from next before read from taken =
+    subst (AllByRecursion (IsFrom next.store (put_last (before ++ read ∷ [])))) (change-taken next (before, read) (store_at next before) taken ∙ sym (store-snoc next before read))
+    (all-weaker (IsFrom next.store (λ k. last_changed k (put_last before k) (change_at (before, read)))) (IsFrom next.store (put_last (before ++ read ∷ []))) same
+    (store_changed (store_at next before) (change_at (before, read))) (change-from next before from (change_at (before, read)) (change-room next before read taken)))
   where
-    same : (r : Stored) → IsFrom next.store (λ k. found_after k (put_last before k) (number, Ok line)) r → IsFrom next.store (put_last (before ++ (number, Ok line) ∷ [])) r
+    same : (r : Stored) → IsFrom next.store (λ k. last_changed k (put_last before k) (change_at (before, read))) r → IsFrom next.store (put_last (before ++ read ∷ [])) r
     same r (inl there) = inl there
-    same r (inr laid) = inr (fold-append (found_after r.id) None before ((number, Ok line) ∷ []) ∙ laid)
+    same r (inr laid) = inr (last-snoc r.id None before read ∙ laid)
 
 -- ---- the lines of the first events of a run
 
@@ -313,7 +309,7 @@ module _ (start next : Start) (lines : List NumberedLine) (taken : AllByRecursio
 
       -- a record that was laid before the poll is known behind it
       laid-known : (r : Stored) (own : List ℕ) → read_stored r ≡ Ok own → put_last before r.id ≡ Some r.bytes → knows (knowing polled-then) (stored_name own) ≡ true
-      laid-known r own reads laid = by (all-found r.id before)
+      laid-known r own reads laid = by (all-changed r.id (map change_at (places before)))
         where
           of : (bytes_under r.id (store_at start before) ≡ Some r.bytes) ⊎ KnownBy (account_at start before) (stored_name own) → knows (knowing polled-then) (stored_name own) ≡ true
           of (inl stands) =
@@ -322,7 +318,7 @@ module _ (start next : Start) (lines : List NumberedLine) (taken : AllByRecursio
               (poll-knows (account_at start before) rows seconds (store_at start before) r.id r.bytes own stands reads))
           of (inr known) = knows-after_all (account_at start before) (polled-then ++ later) (stored_name own) known
 
-          by : (((a b : Option (List ℕ)) → fold (found_after r.id) a before ≡ fold (found_after r.id) b before) ⊎ ((a : Option (List ℕ)) → fold (found_after r.id) a before ≡ a))
+          by : (((a b : Option (List ℕ)) → fold (last_changed r.id) a (map change_at (places before)) ≡ fold (last_changed r.id) b (map change_at (places before))) ⊎ ((a : Option (List ℕ)) → fold (last_changed r.id) a (map change_at (places before)) ≡ a))
               → knows (knowing polled-then) (stored_name own) ≡ true
           by (inl any) = of (kept-at before (read ∷ rest) splits r.id r.bytes own (any (bytes_under r.id start.store) None ∙ laid) reads)
           by (inr stays) = absurd (none-some (sym (stays None) ∙ laid))

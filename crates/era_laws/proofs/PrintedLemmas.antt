@@ -24,29 +24,23 @@ use Rattle.ras_facts.specs.declared.items.Item.{Item}
 use Rattle.ras_facts.specs.declared.name.Name.{Name}
 use Rattle.ras_facts.specs.Names.{same_name}
 use Rattle.ras_journal.specs.Recovered.{Recovers}
-use Rattle.ras_script.specs.declared.line.Line.{Line}
-use Rattle.ras_script.specs.declared.line.Line.TheVariants as asks
 use Rattle.ras_script.specs.Lines.{without_last}
 use Rattle.ras_script.proofs.LineAndWordLemmas.{some_part, split_between}
 use Rattle.ras_texts.specs.Orders.{standing_lines}
 use Rattle.ras_texts.specs.Reports.{detail_text, empty_line, told_line}
 use Rattle.ras_texts.specs.Text.{done_line, item_head, item_line, label_text, name_text, page_text}
 use Rattle.ras_events.specs.declared.event.Event.{Event}
-use Rattle.ras_events.specs.declared.event.Event.TheVariants.{Nothing, Settled, Counted, Put, Saved, Polled, Reopened}
+use Rattle.ras_events.specs.declared.event.Event.TheVariants.{Nothing, Counted, Polled, Reopened}
 use Rattle.ras_events.specs.declared.event.LineRefusal.{LineRefusal}
-use Rattle.ras_events.specs.declared.settings.Settings.{Settings}
 use Rattle.ras_events.specs.DoneLines.{done_count, ended_lines, is_done_line}
-use Rattle.ras_events.specs.Events.{event_of}
-use Rattle.ras_events.specs.Making.{entries_in}
+use Rattle.ras_events.specs.Making.{entries_in, polled}
 use Rattle.ras_events.specs.Reports.{NumberedLine, Place, entries_at, event_at, made_in, settings_told}
 use Rattle.ras_events.specs.Stores.{laid}
 use Rattle.ras_events.proofs.DoneLemmas.{done_counts}
 use Rattle.ras_exit.specs.declared.exit.Exit.{Exit}
-use Rattle.ras_exit.specs.declared.exit.Exit.TheVariants.{BadLine}
-use Rattle.ras_exit.specs.declared.reason.Reason.TheVariants as reason
 use Rattle.ras_run.specs.Output.{event_done, event_text_at, output_at}
-use Rattle.ras_run.specs.Places.{Start, account_at, polled_at}
-use Rattle.ras_run.specs.Status.{event_refusal, places_before_refusal, refusal_at}
+use Rattle.ras_run.specs.Places.{Start, account_at}
+use Rattle.ras_run.specs.Status.{places_before_refusal, refusal_at}
 use Rattle.ras_run.proofs.PlaceLemmas.{account-snoc}
 use Rattle.ras_daemon.specs.Machine.{Run, RunEvent, text_of, text_upto}
 use Rattle.ras_daemon.specs.RunOutput.{output_upto}
@@ -54,7 +48,7 @@ use Rattle.ras_daemon.specs.RunStatus.{run_exit}
 use Rattle.ras_daemon.specs.Runs.{event_count, facts_of, logged}
 use Rattle.ras_daemon.specs.Script.{events_of, is_event, reads_of}
 use Rattle.ras_daemon.proofs.AgainLemmas.{facts_of-append}
-use Rattle.ras_daemon.proofs.EventLemmas.{of-line, of-panic, tabled}
+use Rattle.ras_daemon.proofs.EventLemmas.{place-done}
 use Rattle.ras_daemon.proofs.ListLemmas.{take-whole}
 use Rattle.ras_daemon.proofs.MachineLemmas.{text-same}
 use Rattle.ras_daemon.proofs.RunLawLemmas.{events-front, reports-none}
@@ -112,12 +106,9 @@ module _ (start : Start) (before : List NumberedLine) (number : ℕ) where
 
   text-prints : (event : Result Event LineRefusal) → HasPrints (event_text_at start before event) (told-by event)
   text-prints (Ok (Counted made)) = prints-event (account_at start before) made
-  text-prints (Ok (Polled seconds)) = prints-event (account_at start before) (polled_at start before seconds)
+  text-prints (Ok (Polled seconds)) = prints-event (account_at start before) (polled (settings_told before).topology seconds (laid start.store before))
   text-prints (Ok Reopened) = prints-standing (account_at start before)
-  text-prints (Ok Nothing) = prints-none
-  text-prints (Ok Settled) = prints-none
-  text-prints (Ok (Put id bytes)) = prints-none
-  text-prints (Ok (Saved id bytes)) = prints-none
+  text-prints (Ok event) = prints-none
   text-prints (Err why) = prints-none
 
   done-prints : (event : Result Event LineRefusal) → HasPrints (event_done number event) []
@@ -207,27 +198,6 @@ keeps-prints text told has = subst (λ (printed : List ℕ). KeepsDone printed) 
 -- an event has a done line
 abbrev IsDone : Place → Type 0
 IsDone p = event_done p.1.0 (event_at p) ≡ done_line p.1.0
-
-abbrev DoneUnlessRefused : ℕ → Result Event LineRefusal → Type 0
-DoneUnlessRefused number (Err why) = Unit {0}
-DoneUnlessRefused number (Ok event) = event_done number (Ok event) ≡ done_line number
-
-line-done : (number : ℕ) (settings : Settings) (line : Line) → (line ≡ asks.Nothing → ⊥) → DoneUnlessRefused number (event_of settings line)
-line-done number settings asks.Nothing not = absurd (not refl)
-line-done number settings (asks.Put id bytes) not = refl
-line-done number settings (asks.Panic id bank) not = of-panic (DoneUnlessRefused number) (λ why. tt) settings id bank refl
-line-done number settings (asks.Poll seconds) not = tabled (DoneUnlessRefused number) (λ why. tt) settings.driver (Polled seconds) refl
-line-done number settings asks.Restart not = refl
-line-done number settings line not = of-line (DoneUnlessRefused number) (λ why. tt) refl (λ made. refl) settings line tt
-
-place-done : (start : Start) (p : Place) → refusal_at start p ≡ None → is_event p ≡ true → IsDone p
-place-done start (before, (number, Err why)) taken is = let refused : Some (BadLine number (reason.Line why)) ≡ None = taken in absurd cc
-place-done start (before, (number, Ok asks.Nothing)) taken is = absurd cc
-place-done start (before, (number, Ok line)) taken is = by (event_of (settings_told before) line) taken (line-done number (settings_told before) line (λ same. absurd cc))
-  where
-    by : (event : Result Event LineRefusal) → event_refusal start (before, (number, Ok line)) event ≡ None → DoneUnlessRefused number event → event_done number event ≡ done_line number
-    by (Err why) taken done = absurd cc
-    by (Ok event) taken done = done
 
 events-done : (start : Start) (ps : List Place) → AllByRecursion IsDone (filter is_event (places_before_refusal start ps))
 events-done start [] = tt

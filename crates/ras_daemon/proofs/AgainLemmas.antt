@@ -16,7 +16,7 @@ use Rattle.ras_account.specs.Fresh.{fresh_entries, is_among, is_fresh_behind, sa
 use Rattle.ras_account.specs.History.{History, floor_after, is_retired, limit_after, module_limit_after, names_in, with_entries, with_entry}
 use Rattle.ras_account.specs.Sightings.{Sighting, reports_of, sighting_weight, sightings, sightings_in, sightings_since_mark}
 use Rattle.ras_daemon.specs.Runs.{CountTheSame, facts_of}
-use Rattle.ras_daemon.proofs.HistoryLemmas.{with_entries-append}
+use Rattle.ras_daemon.proofs.HistoryLemmas.{or-true, with_entries-append}
 
 -- ---- histories that are alike
 
@@ -134,10 +134,6 @@ IsOld h (Fact fact) = is_among (names_in h) fact.name ≡ true
 IsOld h (PageLimit limit) = Unit {0}
 IsOld h (Retire boot) = boot ≤ floor_after h
 IsOld h (ModuleLimit limit) = Unit {0}
-
-or-true : (b : Bool) → (b || true) ≡ true
-or-true true = refl
-or-true false = refl
 
 or-false : (b : Bool) → (b || false) ≡ b
 or-false true = refl

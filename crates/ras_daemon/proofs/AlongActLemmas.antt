@@ -10,20 +10,20 @@ use Rattle.ras_base.specs.Places.{places, places_behind}
 use Rattle.ras_base.specs.Steps.PlacesLemmas.{places-snoc}
 use Rattle.ras_events.specs.Reports.{NumberedLine, Place, event_at}
 use Rattle.ras_exit.specs.declared.exit.Exit.{Exit}
-use Rattle.ras_run.specs.LineActs.{AreFollowing, AreLineActs, AreUnlessRefused, CanAsk, HoldsAfter, asking_acts}
+use Rattle.ras_run.specs.LineActs.{AreLineActs, CanAsk, HoldsAfter, asking_acts}
 use Rattle.ras_run.specs.Output.{output_at}
 use Rattle.ras_run.specs.Places.{Start}
 use Rattle.ras_run.specs.Status.{places_before_refusal, refusal_at}
 use Rattle.ras_run.specs.Moments.{CourseMoment, course_at}
 use Rattle.ras_run.specs.Taking.{IsAccepted, LineMoment}
-use Rattle.ras_run.proofs.LineLawLemmas.{line_holds, line_moment, line_out}
+use Rattle.ras_run.proofs.LineLawLemmas.{line_holds, line_moment, line_out, refused_rest}
 use Rattle.ras_run.proofs.SomeActLemmas.{some_acts}
 use Rattle.ras_daemon.specs.Steps.Doing.{AreLinesActs}
-use Rattle.ras_daemon.specs.RunActs.{AreActsAlong, AreDoneAlong, script_asked}
+use Rattle.ras_daemon.specs.RunActs.{AreActsAlong, AreDoneAlong, refused_acts, script_asked}
 use Rattle.ras_daemon.specs.Steps.Running.{AreAccepted, AreFirst, LinesMoment, outputs}
 use Rattle.ras_daemon.specs.Script.{reads_of}
 use Rattle.ras_daemon.proofs.FirstLinesLemmas.{first-before}
-use Rattle.ras_daemon.proofs.PlaceLemmas.{accepted-snoc, line_refused, outputs-snoc, script-asked}
+use Rattle.ras_daemon.proofs.PlaceLemmas.{accepted-snoc, line_refused, outputs-snoc, script-refused}
 
 -- ---- lists of them
 
@@ -133,14 +133,11 @@ along_begun start script before t xs first along =
 -- ---- the line behind them
 
 -- a line that is refused does no more than ask
-refused_are : (refusal : Option Exit) (exit : Exit) (Are : List Act → Type 0) (rest : List Act) → refusal ≡ Some exit → AreUnlessRefused refusal Are rest → rest ≡ []
-refused_are refusal exit Are rest is are = let there : AreUnlessRefused (Some exit) Are rest = subst (λ (o : Option Exit). AreUnlessRefused o Are rest) is are in there
-
 pub asks_alone : (start : Start) (place : Place) (exit : Exit) (t : Told) (acts : List Act) → refusal_at start place ≡ Some exit → AreLineActs start place t acts → acts ≡ asking_acts place.0 (event_at place) t
 asks_alone start place exit t acts refused are =
     are.is
     ∙ ap (λ rest. asking_acts place.0 (event_at place) t ++ rest)
-    (refused_are (refusal_at start place) exit (AreFollowing start place (event_at place) (after_acts (asking_acts place.0 (event_at place) t) t)) are.rest refused are.follow)
+    (refused_rest start place t acts are exit refused)
     ∙ append-nil (asking_acts place.0 (event_at place) t)
 
 -- A line of which the first acts were done is one of those up to the first refused one.
@@ -175,6 +172,6 @@ module _ (start : Start) (script : List ℕ) (t : Told) (before rest : List Numb
           along = acts;
           lines = subst (λ (ps : List Place). AreActsAlong start ps t acts) (sym (line_refused start script before rest read exit splits accepted refused).all) along;
           is = append_assoc acts done later
-              ∙ ap (λ more. acts ++ more) (is ∙ asks_alone start (before, read) exit then line refused are ∙ sym (script-asked start script before rest read exit then splits accepted refused));
+              ∙ ap (λ more. acts ++ more) (is ∙ asks_alone start (before, read) exit then line refused are ∙ sym (ap (λ found. refused_acts found then) (script-refused start script before rest read exit splits accepted refused)));
         },
       )

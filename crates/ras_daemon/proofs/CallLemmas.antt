@@ -15,7 +15,6 @@ use Rattle.ras_journal.specs.Recovered.{Recovers}
 use Rattle.ras_recover.specs.Opening.{OpeningSynced}
 use Rattle.ras_recover.specs.OpeningActs.{AreOpeningActs}
 use Rattle.ras_recover.specs.Recovering.{SyncsFirst}
-use Rattle.ras_script.specs.declared.line.Line.{Line}
 use Rattle.ras_texts.specs.Orders.{standing_lines}
 use Rattle.ras_events.specs.Reports.{NumberedLine}
 use Rattle.ras_events.specs.DoneLines.{done_count}
@@ -26,7 +25,8 @@ use Rattle.ras_exit.proofs.EndingLemmas.{memory_ran_out}
 use Rattle.ras_run.specs.Output.{output_at}
 use Rattle.ras_run.specs.Places.{Start, account_at, store_at}
 use Rattle.ras_daemon.specs.Ahead.{TakesAhead}
-use Rattle.ras_daemon.specs.Headline.{AtOpening, Headline, IsWhole, NeverOpens, Settles, StopsRecover, account_with, laid_with}
+use Rattle.ras_daemon.specs.Headline.{AtOpening, Headline, IsWhole, NeverOpens, Settles, StopsRecover, account_with}
+use Rattle.ras_daemon.specs.Machine.{change_next, store_upto}
 use Rattle.ras_daemon.specs.RunOf.{run_of}
 use Rattle.ras_daemon.specs.Promises.{HasOpened, Ran, RunStops, StillTell}
 use Rattle.ras_daemon.specs.RunActs.{DidRun}
@@ -38,24 +38,17 @@ use Rattle.ras_daemon.proofs.RunLemmas.{disk_failed, run_ends, run_stops, synced
 use Rattle.ras_daemon.proofs.AheadLemmas.{ahead_told}
 use Rattle.ras_daemon.proofs.DidLemmas.{opened_acts, opened_first, run_did}
 use Rattle.ras_daemon.proofs.FewLinksLemmas.{opened-few, run-few}
-use Rattle.ras_daemon.specs.Steps.ScriptHeadline.{store_on_end}
+use Rattle.ras_daemon.specs.StoreDuring.{store_at_end}
 use Rattle.ras_daemon.specs.Steps.Running.{AreAll, AreFirst, EndsEarly, EndsIn, EndsAhead, EndsSo, OpenMoment, RunEnds, RunMoment, lines_from, outputs}
-use Rattle.ras_daemon.specs.Script.{line_after}
 use Rattle.ras_daemon.proofs.HeadlineLemmas.{closing-quiet, headline, headline-since, moment-prints}
 use Rattle.ras_daemon.proofs.ScriptLemmas.{takes_stops}
 use Rattle.ras_daemon.proofs.CountLemmas.{account-first, count-first, events_among}
 use Rattle.ras_daemon.proofs.FirstLinesLemmas.{closing-same}
-use Rattle.ras_daemon.proofs.CourseLemmas.{end-store}
+use Rattle.ras_daemon.proofs.CourseLemmas.{end-store, kept-at-end}
 use Rattle.ras_daemon.proofs.StoreLemmas.{store-first}
-use Rattle.ras_daemon.proofs.MachineLemmas.{account-same, end-same}
+use Rattle.ras_daemon.proofs.MachineLemmas.{account-same}
 use Rattle.ras_exit.specs.declared.exit.Exit.TheVariants.{DiskFault, ErstBusy, NoMemory, SourceFault}
 use Rattle.ras_events.proofs.DoneLemmas.{none_done}
-
--- the store is kept, unless the device was busy for too long
-kept-at-end : (exit : Exit) (next : Option Line) (store : List Stored) → (exit ≡ ErstBusy → ⊥) → store_on_end exit next store ≡ store
-kept-at-end ErstBusy None store free = refl
-kept-at-end ErstBusy (Some line) store free = absurd (free refl)
-kept-at-end exit next store free = refl
 
 -- ---- where a run comes to an answer
 
@@ -86,7 +79,7 @@ module _ (start : Start) (script : List ℕ) (old now : Told) where
 
   -- whole events, by their number
   abbrev store-with : Exit → ℕ → List Stored
-  store-with exit n = store_on_end exit (line_after start script n) (laid_with start script n)
+  store-with exit n = store_at_end exit (change_next (run_of start script) n) (store_upto (run_of start script) n)
 
   whole-by : (exit : Exit) (printed : List ℕ) (n : ℕ) → now.here.out ≡ old.here.out ++ printed → done_count printed ≡ n → Recovers (account_with start script n) now.here
       → now.here.store ≡ store-with exit n → IsWhole (run_of start script) exit old now
@@ -96,7 +89,7 @@ module _ (start : Start) (script : List ℕ) (old now : Told) where
     done = n;
     counted = count;
     recovers = subst (λ (account : State). Recovers account now.here) (sym (account-same start script n)) recovers;
-    store = store ∙ sym (end-same start script exit n);
+    store = store;
   }
 
   whole-lines : (exit : Exit) (before : List NumberedLine) (last : List ℕ) → AreFirst start script before → IsAccount start.account
@@ -118,8 +111,8 @@ module _ (start : Start) (script : List ℕ) (old now : Told) where
   early-lines : (exit : Exit) → (exit ≡ ErstBusy → ⊥) → EndsEarly start script old.here.out now → IsWhole (run_of start script) exit old now
   early-lines exit free ends = by ends.text
     where
-      left : (n : ℕ) → store_at start ends.before ≡ laid_with start script n → now.here.store ≡ store-with exit n
-      left n is = ends.store ∙ is ∙ sym (kept-at-end exit (line_after start script n) (laid_with start script n) free)
+      left : (n : ℕ) → store_at start ends.before ≡ store_upto (run_of start script) n → now.here.store ≡ store-with exit n
+      left n is = ends.store ∙ is ∙ sym (kept-at-end exit (change_next (run_of start script) n) (store_upto (run_of start script) n) free)
 
       by : (IsAccount start.account × (now.here.out ≡ old.here.out ++ (standing_lines start.account ++ outputs start ends.before))) ⊎ ((now.here.out ≡ old.here.out) × (ends.before ≡ [])) → IsWhole (run_of start script) exit old now
       by (inl (account, text)) =

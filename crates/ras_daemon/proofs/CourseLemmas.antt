@@ -1,40 +1,41 @@
 -- What stands of the record store at each moment of a line, and where a run ends.
-use Rattle.std.proofs.Common.{◌≡◌, ℕ, Bool, true, false, if◌then◌else◌, List, [], ◌∷◌, ◌++◌, length, Option, None, Some, Result, Ok, Err, refl, sym, ap, subst, ◌∙◌, inl, inr, append_assoc}
-use Rattle.std.specs.Prelude.{◌⊎◌, is_ok}
+use Rattle.std.proofs.Common.{◌≡◌, ◌≤◌, ℕ, zero, suc, Bool, true, false, not, cond, if◌then◌else◌, List, [], ◌∷◌, ◌++◌, length, Option, None, Some, Result, Ok, Err, refl, sym, ap, ◌∙◌, inl, inr, append_assoc, arith}
+use Rattle.std.specs.Prelude.{◌⊎◌}
 use Rattle.erst_store.specs.Store.{Stored}
 use Rattle.board_core.specs.Stop.{Begins, Left}
 use Rattle.ras_base.specs.Places.{places}
 use Rattle.ras_account.specs.Accounts.{IsAccount}
 use Rattle.ras_facts.specs.declared.name.Name.{Name}
 use Rattle.ras_journal.specs.Recovered.{Recovers}
-use Rattle.ras_script.specs.declared.line.Line.{Line}
 use Rattle.ras_script.specs.declared.line.Line.TheVariants as asks
 use Rattle.ras_script.specs.Lines.{Ending, script_ended, script_lines, line_too_long, script_too_long}
 use Rattle.ras_texts.specs.Text.{done_line}
 use Rattle.ras_events.specs.declared.event.Event.{Event}
-use Rattle.ras_events.specs.declared.event.Event.TheVariants.{Polled}
+use Rattle.ras_events.specs.declared.event.Event.TheVariants.{Polled, Put, Saved}
 use Rattle.ras_events.specs.declared.event.LineRefusal.{LineRefusal}
-use Rattle.ras_events.specs.Events.{event_of}
-use Rattle.ras_events.specs.Reports.{NumberedLine, event_at, settings_told}
-use Rattle.ras_events.specs.Stores.{unreadable, with_put_by, without_first}
+use Rattle.ras_events.specs.Reports.{NumberedLine, Place, event_at}
+use Rattle.ras_events.specs.Stores.{is_readable, unreadable, without_first}
 use Rattle.ras_exit.specs.ScriptEnd.{ending_exit, script_exit}
 use Rattle.ras_exit.specs.declared.exit.Exit.{Exit}
 use Rattle.ras_exit.specs.declared.exit.Exit.TheVariants.{ErstBusy}
+use Rattle.ras_events.specs.Deeds.{deed_of}
 use Rattle.ras_run.specs.Moments.{Course, CourseMoment, IsBegun, clears_store, course_at, refused_store, store_cleared, store_left, stored_by}
 use Rattle.ras_run.specs.Output.{event_done, output_at}
 use Rattle.ras_run.specs.Places.{Start, account_at, store_at}
 use Rattle.ras_run.specs.Status.{refusal_at}
 use Rattle.ras_run.specs.Taking.{IsAccepted}
+use Rattle.ras_run.proofs.LineLawLemmas.{refused_is}
 use Rattle.ras_run.proofs.PlaceLemmas.{store-snoc}
-use Rattle.ras_daemon.specs.Headline.{laid_with}
-use Rattle.ras_daemon.specs.Steps.Running.{AreAccepted, AreAll, AreFirst, StoreAtEnd}
-use Rattle.ras_daemon.specs.Script.{is_event, line_after, reads_of}
-use Rattle.ras_daemon.specs.Steps.ScriptHeadline.{store_on_end}
-use Rattle.ras_daemon.specs.StoreDuring.{KnownBy, KnowsReadable}
+use Rattle.ras_run.proofs.StoreLemmas.{taken_store}
+use Rattle.ras_daemon.specs.Machine.{Run, StoreChange, change_next, store_upto}
+use Rattle.ras_daemon.specs.RunOf.{change_at, change_by, run_of}
+use Rattle.ras_daemon.specs.Steps.Running.{AreAccepted, AreAll, StoreAtEnd}
+use Rattle.ras_daemon.specs.Script.{is_event, reads_of}
+use Rattle.ras_daemon.specs.StoreDuring.{KnownBy, store_at_end}
 use Rattle.ras_daemon.proofs.CountLemmas.{events_among}
-use Rattle.ras_daemon.proofs.EventLemmas.{IsNotPoll}
 use Rattle.ras_daemon.proofs.KeptLemmas.{StoreNow, known-polled}
-use Rattle.ras_daemon.proofs.StoreLemmas.{IsBegunBy, begun-ok, cleared-all, cleared-line, cleared-poll, left-line, line-next, line-refused, no-line, puts-same, store-first, stored-refused, taken-ok}
+use Rattle.ras_daemon.proofs.RunLawLemmas.{no-event}
+use Rattle.ras_daemon.proofs.StoreLemmas.{IsBegunWith, line-next, store-first}
 
 -- ---- the moments of a line
 
@@ -45,6 +46,21 @@ no-done : (number count : ℕ) (store : List Stored) (event : Result Event LineR
 no-done number count store (Ok (Polled seconds)) none = absurd (let is : done_line number ≡ [] = none in cc)
 no-done number count store (Ok event) none = refl
 no-done number count store (Err why) none = refl
+
+-- all that is cleared
+without-all : (rs : List Stored) → without_first (length rs) rs ≡ unreadable rs
+without-all rs = without-most rs (length rs) (omega arith)
+  where
+    without-most : (qs : List Stored) (n : ℕ) → length qs ≤ n → without_first n qs ≡ unreadable qs
+    without-most [] zero most = refl
+    without-most [] (suc n) most = refl
+    without-most (r ∷ qs) zero most = absurd (omega arith)
+    without-most (r ∷ qs) (suc n) most = by (is_readable r) (without-most qs n (omega arith)) (without-most qs (suc n) (omega arith))
+      where
+        by : (b : Bool) → without_first n qs ≡ unreadable qs → without_first (suc n) qs ≡ unreadable qs
+            → (if b then without_first n qs else r ∷ without_first (suc n) qs) ≡ cond (not b) (r ∷ unreadable qs) (unreadable qs)
+        by true less more = less
+        by false less more = ap (λ (others : List Stored). r ∷ others) more
 
 -- A line is accepted, its news are kept, the first of the records that it clears are cleared, and a
 -- beginning of its output is printed. All are cleared before the last of it is printed.
@@ -75,6 +91,13 @@ module _ (start : Start) (before : List NumberedLine) (read : NumberedLine) (out
       by true = refl
       by false = refl
 
+  all-cleared : store_left course ≡ store_cleared course (length course.stored)
+  all-cleared = by course.clears
+    where
+      by : (b : Bool) → (if b then unreadable course.stored else course.stored) ≡ (if b then without_first (length course.stored) course.stored else course.stored)
+      by true = sym (without-all course.stored)
+      by false = refl
+
   pub line-course : CourseMoment (IsAccepted start (before, read)) course out left → IsBegun course out left ⊎ InLine start before read out left
   line-course (inl begun) = inl begun
   line-course (inr (accepted, inl kept)) =
@@ -103,7 +126,7 @@ module _ (start : Start) (before : List NumberedLine) (read : NumberedLine) (out
     accepted = accepted;
     recovers = ending.recovers;
     count = length course.stored;
-    store = ending.store ∙ cleared-all (store_at start before) (event_at (before, read));
+    store = ending.store ∙ all-cleared;
     text = record {
       part = course.text ++ ending.text.part;
       missing = ending.text.missing;
@@ -115,148 +138,99 @@ module _ (start : Start) (before : List NumberedLine) (read : NumberedLine) (out
 
 -- ---- a line among those of a script
 
-module _ (start : Start) (script : List ℕ) (before rest : List NumberedLine) (accepted : AreAccepted start before) (account : IsAccount start.account) where
-  abbrev events : ℕ
-  events = events_among (places before)
+-- what an event puts is put
+put-passes : (Known : Name → Type 0) (event : Result Event LineRefusal) (laid store : List Stored) → store ≡ stored_by event laid → StoreNow (change_by (deed_of event).asks) Known laid store
+put-passes Known (Ok (Put id bytes)) laid store is = inr is
+put-passes Known (Ok (Saved id bytes)) laid store is = inr is
+put-passes Known (Ok event) laid store is = inl is
+put-passes Known (Err why) laid store is = inl is
 
-  abbrev Splits : NumberedLine → Type 0
-  Splits read = before ++ read ∷ rest ≡ reads_of script
+-- what the device of one that is refused did, if it was busy for too long
+busy-left : (event : Result Event LineRefusal) (laid : List Stored) → stored_by event laid ≡ store_at_end ErstBusy (change_by (deed_of event).asks) laid
+busy-left (Ok (Put id bytes)) laid = refl
+busy-left (Ok (Saved id bytes)) laid = refl
+busy-left (Ok event) laid = refl
+busy-left (Err why) laid = refl
 
-  pub laid-here : (read : NumberedLine) → Splits read → laid_with start script events ≡ store_at start before
-  laid-here read splits = store-first start script before (record { rest = read ∷ rest; splits = splits; accepted = accepted }) account
+-- a line that is refused is an event
+refused-event : (start : Start) (place : Place) (exit : Exit) → refusal_at start place ≡ Some exit → is_event place ≡ true
+refused-event start (before, (number, Ok asks.Nothing)) exit refused = absurd cc
+refused-event start place exit refused = refl
 
-  abbrev KnownBehind : NumberedLine → Name → Type 0
-  KnownBehind read = KnownBy (account_at start (before ++ read ∷ []))
+-- where no device was busy
+pub kept-at-end : (exit : Exit) (next : StoreChange) (store : List Stored) → (exit ≡ ErstBusy → ⊥) → store_at_end exit next store ≡ store
+kept-at-end ErstBusy next store free = absurd (free refl)
+kept-at-end exit next store free = refl
+
+module _ (start : Start) (script : List ℕ) (before rest : List NumberedLine) (read : NumberedLine) (splits : before ++ read ∷ rest ≡ reads_of script) (accepted : AreAccepted start before) (account : IsAccount start.account) where
+  abbrev next : StoreChange
+  next = change_next (run_of start script) (events_among (places before))
+
+  abbrev laid : List Stored
+  laid = store_upto (run_of start script) (events_among (places before))
+
+  laid-here : laid ≡ store_at start before
+  laid-here = store-first start script before (record { rest = read ∷ rest; splits = splits; accepted = accepted }) account
+
+  next-is : is_event (before, read) ≡ true → IsBegunWith (refusal_at start (before, read)) → next ≡ change_at (before, read)
+  next-is = line-next start script before rest read splits accepted
+
+  abbrev KnownBehind : Name → Type 0
+  KnownBehind = KnownBy (account_at start (before ++ read ∷ []))
 
   -- ---- where its news are kept
 
-  part-line : (number : ℕ) (line : Line) (store : List Stored) (cleared : ℕ) → Splits (number, Ok line) → IsNotPoll line → is_event (before, (number, Ok line)) ≡ true
-      → refusal_at start (before, (number, Ok line)) ≡ None → store ≡ store_cleared (course_at start (before, (number, Ok line))) cleared
-      → StoreNow (line_after start script events) (KnownBehind (number, Ok line)) (laid_with start script events) store
-  part-line number line store cleared splits not event taken is = inr (inl (
-    line,
-    line-next start script before rest number line splits accepted event taken,
-    is ∙ cleared-line (store_at start before) (settings_told before) line cleared not (taken-ok start before number (Ok line) (event_of (settings_told before) line) taken)
-        ∙ ap (with_put_by line) (sym (laid-here (number, Ok line) splits)),
-  ))
+  event-passes : (event : Result Event LineRefusal) (store : List Stored) (count : ℕ) → event_at (before, read) ≡ event
+      → store ≡ (if clears_store event then without_first count (stored_by event (store_at start before)) else stored_by event (store_at start before))
+      → StoreNow (change_by (deed_of event).asks) KnownBehind (store_at start before) store
+  event-passes (Ok (Polled seconds)) store count there is = inr (record { count = count; is = is }, known-polled start before read seconds there)
+  event-passes (Ok (Put id bytes)) store count there is = inr is
+  event-passes (Ok (Saved id bytes)) store count there is = inr is
+  event-passes (Ok event) store count there is = inl is
+  event-passes (Err why) store count there is = inl is
 
-  part-poll : (number seconds : ℕ) (store : List Stored) (cleared : ℕ) → Splits (number, Ok (asks.Poll seconds)) → refusal_at start (before, (number, Ok (asks.Poll seconds))) ≡ None
-      → store ≡ store_cleared (course_at start (before, (number, Ok (asks.Poll seconds)))) cleared
-      → StoreNow (line_after start script events) (KnownBehind (number, Ok (asks.Poll seconds))) (laid_with start script events) store
-  part-poll number seconds store cleared splits taken is =
-      let read : NumberedLine = (number, Ok (asks.Poll seconds)) in
-      let ok : is_ok (event_at (before, read)) ≡ true = taken-ok start before number (Ok (asks.Poll seconds)) (event_at (before, read)) taken in
-      let same : laid_with start script events ≡ store_at start before = laid-here read splits in inr (inr (record {
-        seconds = seconds;
-        polls = line-next start script before rest number (asks.Poll seconds) splits accepted refl taken;
-        count = cleared;
-        is = is ∙ cleared-poll (store_at start before) (settings_told before) seconds cleared ok ∙ ap (without_first cleared) (sym same);
-        knows = subst (λ (store : List Stored). KnowsReadable store (KnownBehind read)) (sym same) (known-polled start before number seconds ok);
-      }))
-
-  pub part-now : (read : NumberedLine) (store : List Stored) (cleared : ℕ) → Splits read → is_event (before, read) ≡ true → refusal_at start (before, read) ≡ None
-      → store ≡ store_cleared (course_at start (before, read)) cleared
-      → StoreNow (line_after start script events) (KnownBehind read) (laid_with start script events) store
-  part-now (number, Err why) store cleared splits event taken is = absurd cc
-  part-now (number, Ok (asks.Poll seconds)) store cleared splits event taken is = part-poll number seconds store cleared splits taken is
-  part-now (number, Ok line) store cleared splits event taken is = part-line number line store cleared splits tt event taken is
+  pub part-now : (store : List Stored) (count : ℕ) → is_event (before, read) ≡ true → refusal_at start (before, read) ≡ None
+      → store ≡ store_cleared (course_at start (before, read)) count → StoreNow next KnownBehind laid store
+  part-now store count event taken is = rw (laid-here, next-is event (rw taken tt)) (event-passes (event_at (before, read)) store count refl is)
 
   -- the store that the line leaves
-  pub left-next : (read : NumberedLine) → refusal_at start (before, read) ≡ None → store_at start (before ++ read ∷ []) ≡ store_left (course_at start (before, read))
-  left-next (number, Err why) taken = absurd cc
-  left-next (number, Ok line) taken =
-      store-snoc start before (number, Ok line)
-      ∙ left-line (store_at start before) (settings_told before) line (taken-ok start before number (Ok line) (event_of (settings_told before) line) taken)
+  pub left-next : refusal_at start (before, read) ≡ None → store_at start (before ++ read ∷ []) ≡ store_left (course_at start (before, read))
+  left-next taken = store-snoc start before read ∙ sym (taken_store start (before, read) (store_at start before) taken)
 
   -- ---- while it is begun
 
-  module _ (Known : Name → Type 0) where
-    abbrev Now : List Stored → Type 0
-    Now store = StoreNow (line_after start script events) Known (laid_with start script events) store
+  module _ (Known : Name → Type 0) (store : List Stored) where
+    put-now : is_event (before, read) ≡ true → IsBegunWith (refusal_at start (before, read)) → store ≡ stored_by (event_at (before, read)) (store_at start before) → StoreNow next Known laid store
+    put-now event begun is = rw (laid-here, next-is event begun) (put-passes Known (event_at (before, read)) (store_at start before) store is)
 
-    -- what its event puts is put
-    put-now : (number : ℕ) (line : Line) (store : List Stored) → Splits (number, Ok line) → line_after start script events ≡ Some line → is_ok (event_of (settings_told before) line) ≡ true
-        → store ≡ stored_by (event_of (settings_told before) line) (store_at start before) → Now store
-    put-now number line store splits next ok is =
-        inr (inl (line, next, is ∙ puts-same (store_at start before) (settings_told before) line ok ∙ ap (with_put_by line) (sym (laid-here (number, Ok line) splits))))
+    stored-now : store ≡ stored_by (event_at (before, read)) (store_at start before) → StoreNow next Known laid store
+    stored-now is = by (refusal_at start (before, read)) refl
+      where
+        taken-now : refusal_at start (before, read) ≡ None → (event : Bool) → is_event (before, read) ≡ event → StoreNow next Known laid store
+        taken-now taken true event = put-now event (rw taken tt) is
+        taken-now taken false not = inl (is ∙ ap (λ (e : Result Event LineRefusal). stored_by e (store_at start before)) (no-event (before, read) not) ∙ sym laid-here)
 
-    taken-now : (number : ℕ) (line : Line) (store : List Stored) (b : Bool) → is_event (before, (number, Ok line)) ≡ b → Splits (number, Ok line) → refusal_at start (before, (number, Ok line)) ≡ None
-        → store ≡ stored_by (event_of (settings_told before) line) (store_at start before) → Now store
-    taken-now number line store true event splits taken is =
-        put-now number line store splits (line-next start script before rest number line splits accepted event taken)
-        (taken-ok start before number (Ok line) (event_of (settings_told before) line) taken) is
-    taken-now number line store false event splits taken is =
-        inl (is
-        ∙ ap (λ (r : NumberedLine). stored_by (event_at (before, r)) (store_at start before)) (no-line before (number, Ok line) event)
-        ∙ sym (laid-here (number, Ok line) splits))
+        by : (refusal : Option Exit) → refusal_at start (before, read) ≡ refusal → StoreNow next Known laid store
+        by None taken = taken-now taken (is_event (before, read)) refl
+        by (Some ErstBusy) refused = put-now (refused-event start (before, read) ErstBusy refused) (rw refused tt) is
+        by (Some exit) refused = inl (is ∙ refused_is start (before, read) exit (event_at (before, read)) refused ∙ sym laid-here)
 
-    -- a line that is refused, if its event was begun
-    begun-refused : (number : ℕ) (line : Line) (store : List Stored) (exit : Exit) → is_event (before, (number, Ok line)) ≡ true → Splits (number, Ok line)
-        → refusal_at start (before, (number, Ok line)) ≡ Some exit → IsBegunBy exit
-        → store ≡ stored_by (event_of (settings_told before) line) (store_at start before) → Now store
-    begun-refused number line store exit event splits refused begun is =
-        put-now number line store splits (line-refused start script before rest number line splits accepted exit event refused begun)
-        (begun-ok start before number (Ok line) (event_of (settings_told before) line) exit refused begun) is
+    pub refused-left : (exit : Exit) → store ≡ refused_store exit (event_at (before, read)) (store_at start before) → StoreNow next Known laid store
+    refused-left ErstBusy is = stored-now is
+    refused-left exit is = inl (is ∙ sym laid-here)
 
-    refused-now : (number : ℕ) (line : Line) (store : List Stored) (exit : Exit) → Splits (number, Ok line) → refusal_at start (before, (number, Ok line)) ≡ Some exit → IsBegunBy exit
-        → store ≡ stored_by (event_of (settings_told before) line) (store_at start before) → Now store
-    refused-now number asks.Nothing store exit splits refused begun is = absurd cc
-    refused-now number line store exit splits refused begun is = begun-refused number line store exit refl splits refused begun is
-
-    became-now : (number : ℕ) (line : Line) (store : List Stored) (refusal : Option Exit) → Splits (number, Ok line) → refusal_at start (before, (number, Ok line)) ≡ refusal
-        → store ≡ stored_by (event_of (settings_told before) line) (store_at start before) → Now store
-    became-now number line store None splits taken is = taken-now number line store (is_event (before, (number, Ok line))) refl splits taken is
-    became-now number line store (Some exit) splits refused is =
-        elim (stored-refused start before number (Ok line) (event_of (settings_told before) line) exit refused) [
-          | inl same ↦ inl (is ∙ same ∙ sym (laid-here (number, Ok line) splits))
-          | inr begun ↦ refused-now number line store exit splits refused begun is
-        ]
-
-    pub stored-now : (read : NumberedLine) (store : List Stored) → Splits read → store ≡ stored_by (event_at (before, read)) (store_at start before) → Now store
-    stored-now (number, Err why) store splits is = inl (is ∙ sym (laid-here (number, Err why) splits))
-    stored-now (number, Ok line) store splits is = became-now number line store (refusal_at start (before, (number, Ok line))) splits refl is
-
-    pub begun-now : (read : NumberedLine) (left : Left) (out : List ℕ) → Splits read → IsBegun (course_at start (before, read)) out left → Now left.store
-    begun-now read left out splits begun = elim begun.store [
-      | inl same ↦ inl (same ∙ sym (laid-here read splits))
-      | inr became ↦ stored-now read left.store splits became
-    ]
+  pub begun-now : (Known : Name → Type 0) (left : Left) (out : List ℕ) → IsBegun (course_at start (before, read)) out left → StoreNow next Known laid left.store
+  begun-now Known left out begun = elim begun.store [ inl same ↦ inl (same ∙ sym laid-here) | inr became ↦ stored-now Known left.store became ]
 
   -- ---- where the run ends with it
 
-  pub refused-left : (read : NumberedLine) (store : List Stored) (exit : Exit) → Splits read → store ≡ refused_store exit (event_at (before, read)) (store_at start before)
-      → (Known : Name → Type 0) → StoreNow (line_after start script events) Known (laid_with start script events) store
-  refused-left read store ErstBusy splits is Known = stored-now Known read store splits is
-  refused-left read store exit splits is Known = inl (is ∙ sym (laid-here read splits))
-
-  -- the record of a device that was busy for too long
-  busy-line : (number : ℕ) (line : Line) (store : List Stored) → is_event (before, (number, Ok line)) ≡ true → Splits (number, Ok line) → refusal_at start (before, (number, Ok line)) ≡ Some ErstBusy
-      → store ≡ stored_by (event_of (settings_told before) line) (store_at start before) → store ≡ store_on_end ErstBusy (line_after start script events) (laid_with start script events)
-  busy-line number line store event splits refused is =
-      is
-      ∙ puts-same (store_at start before) (settings_told before) line (begun-ok start before number (Ok line) (event_of (settings_told before) line) ErstBusy refused tt)
-      ∙ ap (with_put_by line) (sym (laid-here (number, Ok line) splits))
-      ∙ ap (λ (next : Option Line). store_on_end ErstBusy next (laid_with start script events)) (sym (line-refused start script before rest number line splits accepted ErstBusy event refused tt))
-
-  busy-end : (read : NumberedLine) (store : List Stored) → Splits read → refusal_at start (before, read) ≡ Some ErstBusy
-      → store ≡ stored_by (event_at (before, read)) (store_at start before) → store ≡ store_on_end ErstBusy (line_after start script events) (laid_with start script events)
-  busy-end (number, Err why) store splits refused is = absurd (false-not (begun-ok start before number (Err why) (event_at (before, (number, Err why))) ErstBusy refused tt))
-    where
-      false-not : false ≡ true → ⊥
-      false-not is = cc
-  busy-end (number, Ok asks.Nothing) store splits refused is = absurd cc
-  busy-end (number, Ok line) store splits refused is = busy-line number line store refl splits refused is
-
-  refused-end : (read : NumberedLine) (store : List Stored) (exit : Exit) → Splits read → refusal_at start (before, read) ≡ Some exit
-      → store ≡ refused_store exit (event_at (before, read)) (store_at start before) → store ≡ store_on_end exit (line_after start script events) (laid_with start script events)
-  refused-end read store ErstBusy splits refused is = busy-end read store splits refused is
-  refused-end read store exit splits refused is = is ∙ sym (laid-here read splits)
+  pub refused-end : (store : List Stored) (exit : Exit) → refusal_at start (before, read) ≡ Some exit
+      → store ≡ refused_store exit (event_at (before, read)) (store_at start before) → store ≡ store_at_end exit next laid
+  refused-end store ErstBusy refused is =
+      rw (laid-here, next-is (refused-event start (before, read) ErstBusy refused) (rw refused tt)) (is ∙ busy-left (event_at (before, read)) (store_at start before))
+  refused-end store exit refused is = is ∙ sym laid-here
 
 -- ---- where a run ends
-
-other-end : (exit : Exit) (next : Option Line) (laid store : List Stored) → (exit ≡ ErstBusy → ⊥) → store ≡ laid → store ≡ store_on_end exit next laid
-other-end ErstBusy next laid store not same = absurd (not refl)
-other-end exit next laid store not same = same
 
 -- a script's own end is none of a device that is busy
 script-end : (script : List ℕ) → script_exit script ≡ ErstBusy → ⊥
@@ -267,22 +241,18 @@ script-end script = by (length (script_lines script).whole) (script_lines script
     by count line_too_long is = cc
     by count script_too_long is = cc
 
-module _ (start : Start) (script : List ℕ) (exit : Exit) (before : List NumberedLine) (store : List Stored) where
-  -- a run that wasn't cut short at a device that is busy
-  pub end-early : AreFirst start script before → IsAccount start.account → (exit ≡ ErstBusy → ⊥) → store ≡ store_at start before
-      → store ≡ store_on_end exit (line_after start script (events_among (places before))) (laid_with start script (events_among (places before)))
-  end-early first account not same =
-      other-end exit (line_after start script (events_among (places before))) (laid_with start script (events_among (places before))) store not (same ∙ sym (store-first start script before first account))
+module _ (start : Start) (script : List ℕ) (exit : Exit) (before : List NumberedLine) (store : List Stored) (all : AreAll start script exit before) (account : IsAccount start.account) where
+  abbrev run : Run
+  run = run_of start script
 
   -- a run that comes to an answer
-  pub end-store : AreAll start script exit before → IsAccount start.account → StoreAtEnd start script before exit store
-      → store ≡ store_on_end exit (line_after start script (events_among (places before))) (laid_with start script (events_among (places before)))
-  end-store all account (inl (ends, same)) = end-early all.first account (λ busy. script-end script (sym ends ∙ busy)) same
-  end-store all account (inr left) =
-      refused-end start script before left.rest all.first.accepted account left.read store exit left.splits left.refused left.is
+  pub end-store : StoreAtEnd start script before exit store → store ≡ store_at_end exit (change_next run (events_among (places before))) (store_upto run (events_among (places before)))
+  end-store (inl (ends, same)) =
+      same ∙ sym (store-first start script before all.first account)
+      ∙ sym (kept-at-end exit (change_next run (events_among (places before))) (store_upto run (events_among (places before))) (λ busy. script-end script (sym ends ∙ busy)))
+  end-store (inr left) = refused-end start script before left.rest left.read left.splits all.first.accepted account store exit left.refused left.is
 
   -- while its last line is printed
-  pub end-now : AreAll start script exit before → IsAccount start.account → StoreAtEnd start script before exit store
-      → (Known : Name → Type 0) → StoreNow (line_after start script (events_among (places before))) Known (laid_with start script (events_among (places before))) store
-  end-now all account (inl (ends, same)) Known = inl (same ∙ sym (store-first start script before all.first account))
-  end-now all account (inr left) Known = refused-left start script before left.rest all.first.accepted account left.read store exit left.splits left.is Known
+  pub end-now : (Known : Name → Type 0) → StoreAtEnd start script before exit store → StoreNow (change_next run (events_among (places before))) Known (store_upto run (events_among (places before))) store
+  end-now Known (inl (ends, same)) = inl (same ∙ sym (store-first start script before all.first account))
+  end-now Known (inr left) = refused-left start script before left.rest left.read left.splits all.first.accepted account Known store exit left.is

@@ -1,10 +1,10 @@
 -- Which acts of a run were done, and which disk calls these made.
-use Rattle.std.proofs.Common.{◌≡◌, ℕ, List, [], ◌∷◌, ◌++◌, map, Option, None, Some, IsSomeAnd, refl, ap, sym, ◌∙◌, subst, append_assoc, append-nil, inl, inr}
+use Rattle.std.proofs.Common.{◌≡◌, ℕ, List, [], ◌++◌, map, Option, None, Some, IsSomeAnd, refl, ap, sym, ◌∙◌, subst, append_assoc, append-nil, inl, inr}
 use Rattle.std.specs.Prelude.{⊤}
 use Rattle.std.proofs.lemmas.List.{map-append}
 use Rattle.board_core.specs.Cause.{disk_call}
 use Rattle.board_core.specs.declared.board.DiskCall.{DiskCall}
-use Rattle.board_core.specs.Doing.{Act, Seen, after_acts, calls, calls_of, disk_calls_by}
+use Rattle.board_core.specs.Doing.{Act, Seen, after_acts, calls, calls_of}
 use Rattle.board_core.specs.Told.{Told}
 use Rattle.board_core.proofs.ActLemmas.{accesses_by_acts, calls_by_acts, calls_by_fails}
 use Rattle.board_core.proofs.DoingLemmas.{after-append, fails_first, fails_then}
@@ -31,6 +31,7 @@ use Rattle.ras_daemon.specs.RunStatus.{run_exit}
 use Rattle.ras_daemon.proofs.RunLemmas.{not_starved}
 use Rattle.ras_daemon.proofs.ScriptLemmas.{script_some, takes_did, took_all}
 use Rattle.ras_daemon.proofs.AlongActLemmas.{acts_along}
+use Rattle.ras_run.proofs.PrintActLemmas.{calls_both}
 
 -- what holds of what is told now
 some-weaker : (P Q : Told → Type 0) (told : Option Told) → ((t : Told) → P t → Q t) → IsSomeAnd told P → IsSomeAnd told Q
@@ -198,10 +199,6 @@ did_access start script ending t now did = tt
 
 -- ---- disk calls
 
-calls-append : (xs ys : List Act) → calls_of (xs ++ ys) ≡ calls_of xs ++ calls_of ys
-calls-append [] ys = refl
-calls-append (x ∷ xs) ys = ap (λ l. disk_calls_by x ++ l) (calls-append xs ys) ∙ sym (append_assoc (disk_calls_by x) (calls_of xs) (calls_of ys))
-
 abbrev pub MakesRun : Start → List ℕ → Told → Told → Type 0
 MakesRun start script t = Makes (IsBeginning (AreRunCalls start script t)) t
 
@@ -209,7 +206,7 @@ done_make : (start : Start) (script : List ℕ) (acts : List Act) (t now : Told)
 done_make start script acts t now are (done, begins, is) = record {
   made = calls_of done;
   listed = ap (λ (u : Told). u.disk_calls) is ∙ calls_by_acts done t;
-  are = record { whole = calls_of acts; are = (acts, are, refl); begins = (calls_of begins.0, sym (calls-append done begins.0) ∙ ap calls_of begins.1) };
+  are = record { whole = calls_of acts; are = (acts, are, refl); begins = (calls_of begins.0, sym (calls_both done begins.0) ∙ ap calls_of begins.1) };
 }
 
 acts_make : (start : Start) (script : List ℕ) (acts : List Act) (ending : CallEnding) (t now : Told) → AreRunActs start script t acts → DidOf acts ending t now → MakesRun start script t now

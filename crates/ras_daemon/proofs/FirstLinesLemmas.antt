@@ -1,31 +1,32 @@
 -- The first lines of a script, each accepted, among all of its lines.
 use Rattle.std.proofs.Common.{◌≡◌, ℕ, Bool, true, false, List, [], ◌∷◌, ◌++◌, Option, Some, None, Result, Ok, Err, refl, sym, ap, ◌∙◌, subst, append_assoc}
-use Rattle.std.specs.Prelude.{if◌then◌else◌, unwrap_or}
-use Rattle.std.specs.List.{AllByRecursion, cons_option, filter_map, flat_map}
+use Rattle.std.specs.Prelude.{if◌then◌else◌}
+use Rattle.std.specs.List.{AllByRecursion, flat_map}
+use Rattle.std.specs.Option.{option_map_or}
 use Rattle.ras_base.specs.Places.{places, places_behind}
 use Rattle.ras_base.specs.Steps.PlacesLemmas.{places_behind-append, places-snoc}
-use Rattle.ras_account.specs.Account.{State}
 use Rattle.ras_account.specs.Continued.{account_after_all}
-use Rattle.ras_facts.specs.declared.entry.Entry.{Entry}
-use Rattle.ras_journal.specs.declared.standing.Standing.{Standing}
 use Rattle.erst_store.specs.declared.store.PutRefused.{PutRefused}
-use Rattle.erst_store.specs.Store.{Stored, is_full_for, refusal_of}
+use Rattle.erst_store.specs.Store.{is_full_for, refusal_of}
 use Rattle.erst_driver.specs.Operations.{is_free_in_time}
 use Rattle.ras_events.specs.declared.event.Event.{Event}
-use Rattle.ras_events.specs.declared.event.Event.TheVariants.{Nothing, Settled, Counted, Put, Saved, Polled, Reopened}
 use Rattle.ras_events.specs.declared.event.LineRefusal.{LineRefusal}
 use Rattle.ras_events.specs.declared.event.LineRefusal.TheVariants.{Bad, NoTable}
 use Rattle.ras_events.specs.Making.{entries_in}
+use Rattle.ras_events.specs.Deeds.{Asking, deed_of, polls, puts, saves}
+use Rattle.ras_events.specs.declared.made.Piece.{Piece}
 use Rattle.ras_texts.specs.Text.{end_line}
 use Rattle.ras_events.specs.Reports.{NumberedLine, Place, entries_at, event_at}
 use Rattle.ras_exit.specs.declared.exit.Exit.{Exit}
 use Rattle.ras_exit.specs.declared.exit.Exit.TheVariants.{Done, ErstBusy, ErstStatus, Full, Usage}
 use Rattle.ras_records.specs.Polls.{is_busy_for_reads}
-use Rattle.ras_run.specs.Places.{Start, account_at, has_no_room_for, polled_at, standing_at, store_at}
-use Rattle.ras_run.specs.Status.{counting_refusal, event_refusal, places_before_refusal, polling_refusal, put_refusal, refusal_at, saving_refusal}
+use Rattle.ras_run.specs.Places.{Start, account_at, has_no_room_for}
+use Rattle.ras_run.specs.Deeds.{deed_counts}
+use Rattle.ras_run.specs.Status.{asking_refusal, event_refusal, places_before_refusal, put_refusal, refusal_at, room_refusal}
+use Rattle.ras_run.specs.Step.{Site, site_at}
 use Rattle.ras_run.specs.Taking.{IsAccepted}
 use Rattle.ras_daemon.specs.RunOutput.{closing_line}
-use Rattle.ras_daemon.specs.RunStatus.{first_among, refusal_among, run_exit}
+use Rattle.ras_daemon.specs.RunStatus.{first_refused, refused_or, run_exit}
 use Rattle.ras_daemon.specs.Steps.Running.{AreAccepted, AreAll, AreFirst}
 use Rattle.ras_exit.specs.ScriptEnd.{script_exit}
 use Rattle.ras_daemon.specs.Script.{reads_of}
@@ -74,64 +75,45 @@ if-not : (b : Bool) (one other : Option Exit) → IsNotDone one → IsNotDone ot
 if-not true one other is not = is
 if-not false one other is not = not
 
-counting-not : (account : State) (standing : Standing) (entries : List Entry) → IsNotDone (counting_refusal account standing entries)
-counting-not account standing entries = if-not (has_no_room_for account standing entries) (Some Full) None tt tt
-
-saving-not : (slow id : ℕ) (store : List Stored) → IsNotDone (saving_refusal slow id store)
-saving-not slow id store =
-    if-not (is_free_in_time slow) (if is_full_for id store then Some (ErstStatus 1) else None) (Some ErstBusy)
-    (if-not (is_full_for id store) (Some (ErstStatus 1)) None tt tt) tt
-
-polling-not : (slow : ℕ) (store : List Stored) (account : State) (standing : Standing) (entries : List Entry) → IsNotDone (polling_refusal slow store account standing entries)
-polling-not slow store account standing entries =
-    if-not (is_busy_for_reads slow store) (Some ErstBusy) (counting_refusal account standing entries) tt (counting-not account standing entries)
-
 put-not : (number : ℕ) (refusal : Option PutRefused) → IsNotDone (put_refusal number refusal)
 put-not number None = tt
 put-not number (Some why) = tt
 
+room-not : (site : Site) (counted : Option (List Piece)) → IsNotDone (room_refusal site counted)
+room-not site None = tt
+room-not site (Some made) = if-not (has_no_room_for site.account site.standing (entries_in made)) (Some Full) None tt tt
+
+asking-not : (site : Site) (number : ℕ) (asks : Asking) (room : Option Exit) → IsNotDone room → IsNotDone (asking_refusal site number asks room)
+asking-not site number (puts r) room is = put-not number (refusal_of r.id r.bytes site.store)
+asking-not site number (saves r) room is =
+    if-not (is_free_in_time site.slow) (if is_full_for r.id site.store then Some (ErstStatus 1) else None) (Some ErstBusy)
+    (if-not (is_full_for r.id site.store) (Some (ErstStatus 1)) None tt tt) tt
+asking-not site number (polls seconds) room is = if-not (is_busy_for_reads site.slow site.store) (Some ErstBusy) room tt is
+asking-not site number asks room is = is
+
 refused-not : (start : Start) (place : Place) (event : Result Event LineRefusal) → IsNotDone (event_refusal start place event)
-refused-not start (before, (number, line)) (Err (Bad why)) = tt
-refused-not start (before, (number, line)) (Err NoTable) = tt
-refused-not start (before, (number, line)) (Ok (Counted made)) = counting-not (account_at start before) (standing_at start before) (entries_in made)
-refused-not start (before, (number, line)) (Ok (Put id bytes)) = put-not number (refusal_of id bytes (store_at start before))
-refused-not start (before, (number, line)) (Ok (Saved id bytes)) = saving-not start.slow id (store_at start before)
-refused-not start (before, (number, line)) (Ok (Polled seconds)) =
-    polling-not start.slow (store_at start before) (account_at start before) (standing_at start before) (entries_in (polled_at start before seconds))
-refused-not start (before, (number, line)) (Ok Nothing) = tt
-refused-not start (before, (number, line)) (Ok Settled) = tt
-refused-not start (before, (number, line)) (Ok Reopened) = tt
-
-first-not : (o : Option Exit) (rest : List Exit) → IsNotDone o → IsNotDone (first_among rest) → IsNotDone (first_among (cons_option o rest))
-first-not None rest one others = others
-first-not (Some exit) rest one others = one
-
-among-not : (start : Start) (ps : List Place) → IsNotDone (first_among (filter_map (refusal_at start) ps))
-among-not start [] = tt
-among-not start (p ∷ ps) = first-not (refusal_at start p) (filter_map (refusal_at start) ps) (refused-not start p (event_at p)) (among-not start ps)
-
-done-none : (o : Option Exit) (exit : Exit) → IsNotDone o → unwrap_or o exit ≡ Done → o ≡ None
-done-none None exit other is = refl
-done-none (Some found) exit other is = absurd (subst (λ (e : Exit). IsNotDone (Some e)) is other)
+refused-not start place (Err (Bad why)) = tt
+refused-not start place (Err NoTable) = tt
+refused-not start place (Ok event) =
+    let site : Site = site_at start place.0 in
+    let counted : Option (List Piece) = deed_counts site (deed_of (Ok event)) in
+    asking-not site place.1.0 (deed_of (Ok event)).asks (room_refusal site counted) (room-not site counted)
 
 -- where no line is refused all stand before the first refused one
-all-before : (start : Start) (ps : List Place) → first_among (filter_map (refusal_at start) ps) ≡ None → places_before_refusal start ps ≡ ps
-all-before start [] is = refl
-all-before start (p ∷ ps) is = by (refusal_at start p) refl (λ rest. all-before start ps rest) is
+all-before : (start : Start) (ps : List Place) (exit : Exit) → option_map_or (λ (r : Place × Exit). r.1) (first_refused start ps) exit ≡ Done → places_before_refusal start ps ≡ ps
+all-before start [] exit is = refl
+all-before start (p ∷ ps) exit is = by (refusal_at start p) refl (refused-not start p (event_at p)) (all-before start ps exit) is
   where
-    by : (found : Option Exit) → refusal_at start p ≡ found
-        → (first_among (filter_map (refusal_at start) ps) ≡ None → places_before_refusal start ps ≡ ps)
-        → first_among (cons_option found (filter_map (refusal_at start) ps)) ≡ None
-        → places_before_refusal start (p ∷ ps) ≡ p ∷ ps
-    by None there rest none = rw there (ap (λ (qs : List Place). p ∷ qs) (rest none))
-    by (Some exit) there rest none = cc
+    by : (found : Option Exit) → refusal_at start p ≡ found → IsNotDone found
+        → (option_map_or (λ (r : Place × Exit). r.1) (first_refused start ps) exit ≡ Done → places_before_refusal start ps ≡ ps)
+        → option_map_or (λ (r : Place × Exit). r.1) (refused_or found p (first_refused start ps)) exit ≡ Done → places_before_refusal start (p ∷ ps) ≡ p ∷ ps
+    by None there not rest is = rw there (ap (λ (qs : List Place). p ∷ qs) (rest is))
+    by (Some why) there not rest is = absurd (subst (λ (e : Exit). IsNotDone (Some e)) is not)
 
 -- what stands at the end of a run that is done is all of the script
 pub done-all : (start : Start) (script : List ℕ) → run_exit start script ≡ Done
     → places_before_refusal start (places (reads_of script)) ≡ places (reads_of script)
-done-all start script is =
-    let ps = places (reads_of script) in
-    all-before start ps (done-none (refusal_among start ps) (script_exit script) (among-not start ps) is)
+done-all start script is = all-before start (places (reads_of script)) (script_exit script) is
 
 -- the last line of a run
 pub closing-same : (start : Start) (script : List ℕ) (exit : Exit) (before : List NumberedLine) → AreAll start script exit before

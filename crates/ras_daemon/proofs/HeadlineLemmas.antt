@@ -6,6 +6,7 @@ use Rattle.std.proofs.lemmas.List.Concat.{flat_map-append}
 use Rattle.std.proofs.lemmas.List.Elements.{filter-append}
 use Rattle.board_core.specs.Clock.{Clock, LeftNow}
 use Rattle.board_core.specs.Stop.{Left}
+use Rattle.erst_store.specs.Store.{Stored}
 use Rattle.ras_base.specs.Places.{places, places_behind}
 use Rattle.ras_base.specs.Steps.PlacesLemmas.{places-snoc}
 use Rattle.ras_base.specs.Prefix.{IsPrefixOf}
@@ -25,14 +26,14 @@ use Rattle.ras_run.specs.Moments.{IsBegun, course_at}
 use Rattle.ras_run.specs.Places.{Start, account_at, store_at}
 use Rattle.ras_run.specs.Status.{places_before_refusal}
 use Rattle.ras_exit.specs.Telling.{PrintsPart}
-use Rattle.ras_daemon.specs.Headline.{AtOpening, Headline, StopsRecover, account_with, laid_with}
+use Rattle.ras_daemon.specs.Headline.{AtOpening, Headline, StopsRecover, account_with}
+use Rattle.ras_daemon.specs.Machine.{StoreChange, change_next, last_upto, store_upto}
 use Rattle.ras_daemon.specs.RunOf.{run_of}
 use Rattle.ras_daemon.specs.RunOutput.{closing_line, lines_output, output_upto, run_output}
 use Rattle.ras_daemon.specs.RunStatus.{run_exit}
 use Rattle.ras_daemon.specs.Steps.Running.{AreAccepted, AreAll, AreFirst, AtEnd, AtLine, AtStart, BetweenLines, OpenMoment, RunMoment, lines_from, outputs}
-use Rattle.ras_daemon.specs.Script.{events_of, is_event, line_after, reads_of}
-use Rattle.ras_daemon.specs.Steps.ScriptHeadline.{KeepsOthers, OnPoll, StoreOnLine, last_laid_with}
-use Rattle.ras_daemon.specs.StoreDuring.{KeepsRecords, KnownBy, KnowsReadable}
+use Rattle.ras_daemon.specs.Script.{events_of, is_event, reads_of}
+use Rattle.ras_daemon.specs.StoreDuring.{KeepsRecords, KnownBy}
 use Rattle.ras_daemon.proofs.CountLemmas.{account-first, count-first, events_among, output-first, tells-last}
 use Rattle.ras_daemon.proofs.EventLemmas.{PrintsEvent, Tells}
 use Rattle.ras_daemon.proofs.ListLemmas.{take-whole}
@@ -40,7 +41,7 @@ use Rattle.ras_daemon.proofs.FirstLinesLemmas.{closing-same, first-before, first
 use Rattle.ras_daemon.proofs.PlaceLemmas.{first_more, outputs-snoc}
 use Rattle.ras_daemon.proofs.CourseLemmas.{InLine, begun-now, end-now, left-next, line-course, part-now}
 use Rattle.ras_daemon.proofs.KeptLemmas.{StoreNow, cleared-during, first-kept, kept-during, kept-weaker, known-next, none-kept, store-during}
-use Rattle.ras_daemon.proofs.MachineLemmas.{to-machine}
+use Rattle.ras_daemon.proofs.MachineLemmas.{account-same, output-same, text-same}
 use Rattle.ras_daemon.proofs.StoreLemmas.{store-first}
 use Rattle.ras_events.proofs.DoneLemmas.{event_begun, none_done}
 use Rattle.ras_events.proofs.WholeLineLemmas.{end_quiet, standing_quiet}
@@ -149,22 +150,26 @@ module _ (start : Start) (script : List ℕ) (here left : Left) where
       → (account : State) → Recovers account left
       → (account ≡ account_with start script n) ⊎ (account ≡ account_with start script (n + 1))
       → (length (output_upto start script n) < length printed → account ≡ account_with start script (n + 1))
-      → StoreNow (line_after start script n) (KnownBy account) (laid_with start script n) left.store
-      → KeepsRecords (last_laid_with start script n) (KnownBy account) (laid_with start script n) → Headline (run_of start script) here left
-  headline-by printed n text begins count account recovers whole acknowledged store kept = to-machine start script here left (record {
-    printed = printed;
-    text = text;
-    begins = begins;
-    account = account;
-    recovers = recovers;
-    whole = subst (λ (k : ℕ). (account ≡ account_with start script k) ⊎ (account ≡ account_with start script (k + 1))) (sym count) whole;
-    acknowledged = subst (λ (k : ℕ). length (output_upto start script k) < length printed → account ≡ account_with start script (k + 1)) (sym count) acknowledged;
-    store = subst (λ (k : ℕ). StoreOnLine (line_after start script k) (laid_with start script k) left.store) (sym count) (store-during (laid_with start script n) left.store (KnownBy account) (line_after start script n) store);
-    cleared = subst (λ (k : ℕ). OnPoll (line_after start script k) ((left.store ≡ laid_with start script k → ⊥) → KnowsReadable (laid_with start script k) (KnownBy account))) (sym count)
-        (cleared-during (laid_with start script n) left.store (KnownBy account) (line_after start script n) store);
-    kept = subst (λ (k : ℕ). KeepsOthers (line_after start script k) (last_laid_with start script k) (KnownBy account) left.store) (sym count)
-        (kept-during (line_after start script n) (last_laid_with start script n) (KnownBy account) (laid_with start script n) left.store store kept);
-  })
+      → StoreNow (change_next (run_of start script) n) (KnownBy account) (store_upto (run_of start script) n) left.store
+      → KeepsRecords (last_upto (run_of start script) n) (KnownBy account) (store_upto (run_of start script) n) → Headline (run_of start script) here left
+  headline-by printed n text begins count account recovers whole acknowledged store kept =
+      let change : StoreChange = change_next (run_of start script) n in
+      let laid : List Stored = store_upto (run_of start script) n in
+      record {
+        printed = printed;
+        text = text;
+        begins = subst (IsPrefixOf printed) (sym (output-same start script)) begins;
+        done = n;
+        counted = count;
+        account = account;
+        recovers = recovers;
+        whole = elim whole [ inl same ↦ inl (same ∙ sym (account-same start script n)) | inr more ↦ inr (more ∙ sym (account-same start script (n + 1))) ];
+        acknowledged = λ longer.
+            acknowledged (subst (λ (text : List ℕ). length text < length printed) (text-same start script n) longer) ∙ sym (account-same start script (n + 1));
+        store = store-during (KnownBy account) laid left.store change store;
+        cleared = cleared-during (KnownBy account) laid left.store change store;
+        kept = kept-during change (last_upto (run_of start script) n) (KnownBy account) laid left.store store kept;
+      }
 
   -- nothing was printed
   pub headline-nothing : left.out ≡ here.out → Recovers start.account left → left.store ≡ start.store → Headline (run_of start script) here left
@@ -184,7 +189,7 @@ module _ (start : Start) (script : List ℕ) (here left : Left) where
 
     -- behind whole lines, with nothing of the next one printed
     headline-behind : (before : List NumberedLine) → AreFirst start script before → Recovers (account_at start before) left → left.out ≡ lines_from start here.out ++ outputs start before
-        → StoreNow (line_after start script (events_among (places before))) (KnownBy (account_at start before)) (laid_with start script (events_among (places before))) left.store
+        → StoreNow (change_next (run_of start script) (events_among (places before))) (KnownBy (account_at start before)) (store_upto (run_of start script) (events_among (places before))) left.store
         → Headline (run_of start script) here left
     headline-behind before first recovers text store =
         let n : ℕ = events_among (places before) in
@@ -226,7 +231,7 @@ module _ (start : Start) (script : List ℕ) (here left : Left) where
     headline-part : (before : List NumberedLine) (read : NumberedLine) (part missing : List ℕ) → AreFirst start script (before ++ read ∷ []) → Recovers (account_at start (before ++ read ∷ [])) left
         → left.out ≡ (lines_from start here.out ++ outputs start before) ++ part → part ++ missing ≡ output_at start (before, read) → 1 ≤ length missing
         → PrintsEvent start (before, read)
-        → StoreNow (line_after start script (events_among (places before))) (KnownBy (account_at start (before ++ read ∷ []))) (laid_with start script (events_among (places before))) left.store
+        → StoreNow (change_next (run_of start script) (events_among (places before))) (KnownBy (account_at start (before ++ read ∷ []))) (store_upto (run_of start script) (events_among (places before))) left.store
         → Headline (run_of start script) here left
     headline-part before read part missing first recovers text splits some event store =
         let n : ℕ = events_among (places before) in
@@ -238,7 +243,7 @@ module _ (start : Start) (script : List ℕ) (here left : Left) where
         (begins-in start script before read first part missing splits)
         (count-first start script before without account part ∙ omega (arith, none))
         (account_at start (before ++ read ∷ [])) recovers (inr more) (λ longer. more) store
-        (kept-weaker (last_laid_with start script n) (KnownBy (account_at start before)) (KnownBy (account_at start (before ++ read ∷ []))) (laid_with start script n)
+        (kept-weaker (last_upto (run_of start script) n) (KnownBy (account_at start before)) (KnownBy (account_at start (before ++ read ∷ []))) (store_upto (run_of start script) n)
         (known-next start before read) (first-kept start script before without account))
 
     module _ (before rest : List NumberedLine) (read : NumberedLine) (splits : before ++ read ∷ rest ≡ reads_of script) (accepted : AreAccepted start before) where
@@ -248,11 +253,11 @@ module _ (start : Start) (script : List ℕ) (here left : Left) where
       headline-next at [] none tells =
           headline-whole before read at.text.part (first_more start script before rest read splits accepted at.accepted) at.recovers at.text.is
           (sym (append-nil at.text.part) ∙ ap (λ (text : List ℕ). at.text.part ++ text) (sym none) ∙ at.text.splits)
-          (at.whole none ∙ sym (left-next start script before rest accepted account read at.accepted.taken))
+          (at.whole none ∙ sym (left-next start script before rest read splits accepted account at.accepted.taken))
       headline-next at (b ∷ missing) more (inl event) =
           headline-part before read at.text.part (b ∷ missing) (first_more start script before rest read splits accepted at.accepted) at.recovers at.text.is
           (ap (λ (text : List ℕ). at.text.part ++ text) (sym more) ∙ at.text.splits) (omega arith) event
-          (part-now start script before rest accepted account read left.store at.count splits event.event at.accepted.taken at.store)
+          (part-now start script before rest read splits accepted account left.store at.count event.event at.accepted.taken at.store)
       headline-next at (b ∷ missing) more (inr none) =
           absurd (omega (
             arith,
@@ -265,7 +270,7 @@ module _ (start : Start) (script : List ℕ) (here left : Left) where
           → Headline (run_of start script) here left
       headline-in (inl begun) =
           headline-behind before (record { rest = read ∷ rest; splits = splits; accepted = accepted }) begun.recovers begun.text
-          (begun-now start script before rest accepted account (KnownBy (account_at start before)) read left (lines_from start here.out ++ outputs start before) splits begun)
+          (begun-now start script before rest read splits accepted account (KnownBy (account_at start before)) left (lines_from start here.out ++ outputs start before) begun)
       headline-in (inr at) =
           headline-next at at.text.missing refl (tells-last start script before read (first_more start script before rest read splits accepted at.accepted) account)
 
@@ -302,7 +307,7 @@ module _ (start : Start) (script : List ℕ) (here left : Left) where
         (account_at start at.before) at.recovers
         (inl (sym (account-first start script at.before at.all.first account)))
         (λ longer. sym (account-past at.exit at.before at.all))
-        (end-now start script at.exit at.before left.store at.all account at.store (KnownBy (account_at start at.before)))
+        (end-now start script at.exit at.before left.store at.all account (KnownBy (account_at start at.before)) at.store)
         (first-kept start script at.before at.all.first account)
 
 -- ---- at every moment

@@ -72,7 +72,7 @@ names_in-entries h (ModuleLimit limit ∷ es) = names_in-entries (with_entry h (
 abbrev AreAmong : List Name → List Name → Type 0
 AreAmong names others = AllByRecursion (λ name. is_among names name ≡ true) others
 
-or-true : (b : Bool) → (b || true) ≡ true
+pub or-true : (b : Bool) → (b || true) ≡ true
 or-true true = refl
 or-true false = refl
 

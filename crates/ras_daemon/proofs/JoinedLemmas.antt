@@ -27,6 +27,7 @@ use Rattle.ras_daemon.specs.Script.{reads_in, reads_of}
 use Rattle.ras_daemon.proofs.EventLemmas.{made-unpolled, place-unpolled}
 use Rattle.ras_daemon.proofs.ListLemmas.{all-front}
 use Rattle.ras_daemon.proofs.RunLawLemmas.{by-events, reported-all, reports-none, taken-events}
+use Rattle.ras_events.proofs.QuietLemmas.{all_both}
 
 -- what a line asks for, or why it can't be read
 abbrev ReadLine : Type 0
@@ -113,10 +114,6 @@ all-behind : {X : Type 0} (P : X → Type 0) (xs ys : List X) → AllByRecursion
 all-behind P [] ys all = all
 all-behind P (x ∷ xs) ys all = all-behind P xs ys all.1
 
-all-both : {X : Type 0} (P : X → Type 0) (xs ys : List X) → AllByRecursion P xs → AllByRecursion P ys → AllByRecursion P (xs ++ ys)
-all-both P [] ys all others = others
-all-both P (x ∷ xs) ys all others = (all.0, all-both P xs ys all.1 others)
-
 script-unpolled : (script : List ℕ) (lines : List (List ℕ)) → (script_lines script).whole ≡ lines → PollNothing lines → PollsNothing script
 script-unpolled script lines is none =
     All-from_recursion IsNoPoll (reads_of script) (subst (λ (whole : List (List ℕ)). AllByRecursion IsNoPoll (reads_in whole)) (sym is) (unpolled-reads 1 lines none))
@@ -172,10 +169,10 @@ module _ (one other both : List ℕ) (joined : AreJoined one other both) (none :
   none-second = all-behind IsUnpolled joined.first joined.second none-others
 
   none-one : PollsNothing one
-  none-one = script-unpolled one (joined.rows ++ joined.first) joined.one_is (all-both IsUnpolled joined.rows joined.first none-rows none-first)
+  none-one = script-unpolled one (joined.rows ++ joined.first) joined.one_is (all_both IsUnpolled joined.rows joined.first none-rows none-first)
 
   none-other : PollsNothing other
-  none-other = script-unpolled other (joined.rows ++ joined.second) joined.other_is (all-both IsUnpolled joined.rows joined.second none-rows none-second)
+  none-other = script-unpolled other (joined.rows ++ joined.second) joined.other_is (all_both IsUnpolled joined.rows joined.second none-rows none-second)
 
   reports-joined : reports [] (reads_of both) ≡ reports [] (reads_of one) ++ reports [] (reads_of other)
   reports-joined =

@@ -28,12 +28,13 @@ use Rattle.ras_run.specs.Places.{IsBoardAfter, Start}
 use Rattle.ras_run.specs.Status.{refusal_at}
 use Rattle.ras_run.specs.Taking.{IsRunAfter, TakesLine}
 use Rattle.ras_daemon.specs.Steps.Doing.{AreAllAsked, AreLinesActs, AsksBy, DoesFirst, DoesLines, EndsLines, IsAsked, MayAsk}
-use Rattle.ras_daemon.specs.RunActs.{AreDoneAlong, asked_acts, script_asked}
+use Rattle.ras_daemon.specs.RunStatus.{first_refused}
+use Rattle.ras_daemon.specs.RunActs.{AreDoneAlong, refused_acts, script_asked}
 use Rattle.ras_daemon.specs.Steps.Running.{AreAccepted, AreAll, AreFirst}
 use Rattle.ras_exit.specs.ScriptEnd.{ending_exit}
 use Rattle.ras_daemon.specs.Script.{reads_in, reads_of}
 use Rattle.ras_daemon.proofs.AlongActLemmas.{IsDoneAt, acts_along, along_begun, along_done, asks_alone, done-snoc, line_begun}
-use Rattle.ras_daemon.proofs.PlaceLemmas.{accepted-snoc, all_read, first_more, line_refused, none-asked, reads-append, reads_behind, script-asked}
+use Rattle.ras_daemon.proofs.PlaceLemmas.{accepted-snoc, all_read, first_more, line_refused, refused-none, reads-append, reads_behind, script-refused}
 
 -- So many lines of a script were taken and did their acts, and the others are to come.
 pub record Taking (start : Start) (script : List ℕ) (t : Told) (number : ℕ) (reader : Reader) (left : Option (List ℕ)) (run : Run) : Type 0 where
@@ -271,10 +272,6 @@ pub tells_same : {T : Type 0} (o : Option T) → IfSome o (λ _. (x : T) × (o �
 tells_same None = tt
 tells_same (Some x) = (x, refl)
 
-left_nil : {A : Type 0} (xs ys : List A) → xs ++ ys ≡ [] → xs ≡ []
-left_nil [] ys is = refl
-left_nil (x ∷ xs) ys is = absurd cc
-
 module _ {X : Type 0} (see : X → Seen) (start : Start) (script : List ℕ) (t : Told) (before rest : List NumberedLine) (read : NumberedLine) (splits : before ++ read ∷ rest ≡ reads_of script) (accepted : AreAccepted start before)
     (acts line : List Act) (along : AreDoneAlong start (places before) t acts) (old mid new : X) (well : GoesWell acts (see old) (see mid)) where
   abbrev first_here : AreFirst start script before
@@ -319,7 +316,7 @@ module _ {X : Type 0} (see : X → Seen) (start : Start) (script : List ℕ) (t 
           behind answered is before acts line first_here along (inr asks) (does_then see acts line went_well old mid new well tt done)
           (record {
             all = line_refused start script before rest read exit splits accepted refused;
-            is = asks.is ∙ sym (script-asked start script before rest read exit then splits accepted refused);
+            is = asks.is ∙ sym (ap (λ found. refused_acts found then) (script-refused start script before rest read exit splits accepted refused));
             ends = inr asks;
           })
       by (faulted kind) is any begun failed = fails kind is begun failed
@@ -389,7 +386,7 @@ module _ {X : Type 0} (see : X → Seen) (start : Start) (script : List ℕ) (t 
       let same : exit ≡ ending_exit (length taking.done) ending = is ∙ ap (λ n. ending_exit n ending) taking.count in
       record {
         all = subst (λ e. AreAll start script e (reads_in taking.done)) (sym same) (all_read start script taking.done ending (whole_given ending none) taking.accepted);
-        is = sym (ap (λ (l : Lines). asked_acts start (places (reads_in l.whole)) told_now) (whole_given ending none) ∙ none-asked start (places (reads_in taking.done)) told_now taking.accepted);
+        is = sym (ap (λ found. refused_acts found told_now) (ap (λ (l : Lines). first_refused start (places (reads_in l.whole))) (whole_given ending none) ∙ refused-none start (places (reads_in taking.done)) taking.accepted));
         ends = inl (same ∙ ap (λ (l : Lines). ending_exit (length l.whole) l.ending) (sym (whole_given ending none)), refl);
       }
 

@@ -1,11 +1,10 @@
 -- No line of a script that is made up is refused: its machine is taken, and the account and the
 -- journal have room for all that its reports add.
-use Rattle.std.proofs.Common.{◌≡◌, ℕ, ◌+◌, ◌<◌, ◌≤◌, suc, zero, cond, Bool, true, false, ◌||◌, List, [], ◌∷◌, ◌++◌, codes, length, map, Option, Some, None, Result, Ok, IfSome, refl, sym, ap, subst, ◌∙◌, arith}
-use Rattle.std.specs.Prelude.{if◌then◌else◌, unwrap_or}
-use Rattle.std.specs.List.{AllByRecursion, cons_option, enumerate_from, filter_map}
+use Rattle.std.proofs.Common.{◌≡◌, ℕ, ◌+◌, ◌<◌, ◌≤◌, suc, zero, cond, Bool, true, false, List, [], ◌∷◌, ◌++◌, codes, length, map, Option, Some, None, Result, Ok, IfSome, refl, sym, ap, subst, ◌∙◌, arith}
+use Rattle.std.specs.Prelude.{if◌then◌else◌}
+use Rattle.std.specs.List.{AllByRecursion, enumerate_from}
 use Rattle.std.specs.Option.{option_map, option_map_or}
 use Rattle.std.proofs.lemmas.List.{map-append}
-use Rattle.std.proofs.lemmas.List.Elements.{filter_map-append}
 use Rattle.ras_base.specs.Places.{places}
 use Rattle.ras_base.specs.Steps.PlacesLemmas.{places-snoc}
 use Rattle.mca_status.specs.Classes.{class_of_rows}
@@ -38,7 +37,7 @@ use Rattle.ras_script.specs.declared.line.ErrorReport.TheVariants.{Bank}
 use Rattle.ras_script.proofs.LineTextLemmas.{text_read}
 use Rattle.ras_events.specs.Making.{entries_in, made_by_report}
 use Rattle.ras_events.specs.declared.made.Piece.{Piece}
-use Rattle.ras_events.specs.Reports.{NumberedLine, entries_at, settings_told}
+use Rattle.ras_events.specs.Reports.{NumberedLine, Place, entries_at, settings_told}
 use Rattle.ras_events.proofs.ReportLemmas.{settings-line}
 use Rattle.ras_exit.specs.declared.exit.Exit.{Exit}
 use Rattle.ras_exit.specs.declared.exit.Exit.TheVariants.{Done, Full}
@@ -51,9 +50,10 @@ use Rattle.ras_run.specs.Places.{Start, account_at, has_no_room_for, lacks_room_
 use Rattle.ras_run.specs.Status.{refusal_at}
 use Rattle.ras_run.proofs.PlaceLemmas.{account-snoc, standing-snoc}
 use Rattle.ras_daemon.specs.Loading.{load_start}
-use Rattle.ras_daemon.specs.RunStatus.{first_among, refusal_among, run_exit}
+use Rattle.ras_daemon.specs.RunStatus.{first_refused, refused_or, run_exit}
 use Rattle.ras_daemon.specs.Script.{reads_in}
 use Rattle.ras_daemon.proofs.LoadRoomLemmas.{HasPlace, account_has_room, entry_of_one, journal_has_room, kept, nothing_past, report_of_one, stays, wider}
+use Rattle.ras_run.proofs.CountLemmas.{no_or}
 
 -- ---- what the lines are read as
 
@@ -86,12 +86,8 @@ record TakesEntries (k : ℕ) (account : State) (standing : Standing) (entries :
   pub room : has_no_room_for account standing entries ≡ false
   pub place : HasPlace (k + 1) (account_after_all account entries) (standing_with_news account standing (fresh_entries_in account entries))
 
-neither : (a b : Bool) → a ≡ false → b ≡ false → (a || b) ≡ false
-neither true b one other = absurd cc
-neither false b one other = other
-
 takes_none : (k : ℕ) (account : State) (standing : Standing) → k < 50000 → HasPlace k account standing → TakesEntries k account standing []
-takes_none k account standing few is = record { room = neither _ false (nothing_past k account standing few is) refl; place = wider k account standing is }
+takes_none k account standing few is = record { room = no_or _ false (nothing_past k account standing few is) refl; place = wider k account standing is }
 
 module _ (k : ℕ) (account : State) (standing : Standing) (name : Name) (seconds : ℕ) (item : Item) (few : k < 50000) (is : HasPlace k account standing) (valid : IsValidFact (report_of_one name seconds item)) where
   abbrev entry : Entry
@@ -107,7 +103,7 @@ module _ (k : ℕ) (account : State) (standing : Standing) (name : Name) (second
 
   takes_one : TakesEntries k account standing (entry ∷ [])
   takes_one = record {
-    room = neither _ _ (account_has_room k account standing name seconds item few is valid) (news_room (is_fresh_in account entry));
+    room = no_or _ _ (account_has_room k account standing name seconds item few is valid) (news_room (is_fresh_in account entry));
     place = news_place (is_fresh_in account entry);
   }
 
@@ -134,8 +130,16 @@ machine_is : IsTopology machine_rows
 machine_is = record { apart = (refl, (refl, (refl, (refl, (refl, tt))))); upright = refl; named = refl; labelled = refl; small = omega arith }
 
 -- none of them is refused, and so many reports were taken
+refused-snoc : (start : Start) (ps : List Place) (p : Place) → first_refused start ps ≡ None → refusal_at start p ≡ None → first_refused start (ps ++ p ∷ []) ≡ None
+refused-snoc start [] p none taken = rw taken refl
+refused-snoc start (q ∷ ps) p none taken = by (refusal_at start q) (λ rest. refused-snoc start ps p rest taken) none
+  where
+    by : (found : Option Exit) → (first_refused start ps ≡ None → first_refused start (ps ++ p ∷ []) ≡ None) → refused_or found q (first_refused start ps) ≡ None → refused_or found q (first_refused start (ps ++ p ∷ [])) ≡ None
+    by None rest none = rest none
+    by (Some why) rest none = absurd cc
+
 pub record AreTaken (start : Start) (k : ℕ) (before : List NumberedLine) : Type 0 where
-  pub none : filter_map (refusal_at start) (places before) ≡ []
+  pub none : first_refused start (places before) ≡ None
   pub rows : (settings_told before).topology ≡ machine_rows
   pub place : HasPlace k (account_at start before) (standing_at start before)
 
@@ -157,11 +161,7 @@ module _ (start : Start) (k : ℕ) (before : List NumberedLine) (number : ℕ) (
 
   taken_more : AreTaken start (k + 1) (before ++ read ∷ [])
   taken_more = record {
-    none =
-        ap (filter_map (refusal_at start)) (places-snoc before read)
-        ∙ filter_map-append (refusal_at start) (places before) ((before, read) ∷ [])
-        ∙ ap (λ refusals. refusals ++ filter_map (refusal_at start) ((before, read) ∷ [])) are.none
-        ∙ ap (λ (refusal : Option Exit). cons_option refusal []) not_refused;
+    none = rw (places-snoc before read) (refused-snoc start (places before) (before, read) are.none not_refused);
     rows = ap (λ settings. settings.topology) (settings-line before number (Report (Bank bank))) ∙ are.rows;
     place =
         subst (λ account. HasPlace (k + 1) account (standing_at start (before ++ read ∷ []))) (sym (account-snoc start before read))
@@ -192,13 +192,13 @@ nothing_opened = record {
   generation = omega arith;
 }
 
-exit_of : (start : Start) (script : List ℕ) (lines : List (List ℕ)) → script_lines script ≡ record { whole = lines; ending = script_ended } → filter_map (refusal_at start) (places (reads_in lines)) ≡ []
+exit_of : (start : Start) (script : List ℕ) (lines : List (List ℕ)) → script_lines script ≡ record { whole = lines; ending = script_ended } → first_refused start (places (reads_in lines)) ≡ None
     → run_exit start script ≡ Done
 exit_of start script lines is none =
-    ap (λ (ls : Lines). unwrap_or (refusal_among start (places (reads_in ls.whole))) (ending_exit (length ls.whole) ls.ending)) is
-    ∙ ap (λ (refusals : List Exit). unwrap_or (first_among refusals) Done) none
+    ap (λ (ls : Lines). option_map_or (λ (r : Place × Exit). r.1) (first_refused start (places (reads_in ls.whole))) (ending_exit (length ls.whole) ls.ending)) is
+    ∙ ap (λ refused. option_map_or (λ (r : Place × Exit). r.1) refused Done) none
 
 pub taken_whole : (n : ℕ) → n ≤ MOST_LINES → run_exit load_start (load_script n) ≡ Done
 taken_whole n few =
     let taken : AreTaken load_start n (numbered (load_lines n)) = banks_more load_start n nothing_opened few in
-    exit_of load_start (load_script n) (map line_text (load_lines n)) (lines_whole n few) (ap (λ reads. filter_map (refusal_at load_start) (places reads)) (reads_are n few) ∙ taken.none)
+    exit_of load_start (load_script n) (map line_text (load_lines n)) (lines_whole n few) (ap (λ reads. first_refused load_start (places reads)) (reads_are n few) ∙ taken.none)

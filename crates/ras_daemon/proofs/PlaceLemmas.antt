@@ -1,22 +1,20 @@
 -- Lines at their places: where the first refused one stands, and how a script ends without one.
-use Rattle.std.proofs.Common.{◌≡◌, ℕ, ◌+◌, List, [], ◌∷◌, ◌++◌, length, None, Some, map, refl, ap, sym, ◌∙◌, append_assoc, append-nil, arith, unwrap_or}
+use Rattle.std.proofs.Common.{◌≡◌, ℕ, ◌+◌, List, [], ◌∷◌, ◌++◌, length, None, Some, map, refl, ap, sym, ◌∙◌, append_assoc, append-nil, arith}
 use Rattle.std.specs.List.{AllByRecursion, enumerate_from, flat_map}
+use Rattle.std.specs.Option.{option_map_or}
 use Rattle.std.proofs.lemmas.List.{map-append, length-map}
 use Rattle.std.proofs.lemmas.Grind.{flat_map-append}
-use Rattle.board_core.specs.Told.{Told}
 use Rattle.ras_base.specs.Places.{places, places_behind}
 use Rattle.ras_base.specs.Steps.PlacesLemmas.{places-snoc, places_behind-append}
-use Rattle.ras_events.specs.Reports.{NumberedLine, Place, event_at}
+use Rattle.ras_events.specs.Reports.{NumberedLine, Place}
 use Rattle.ras_script.specs.Line.{line_of}
 use Rattle.ras_script.specs.Lines.{Ending, Lines, script_lines}
 use Rattle.ras_exit.specs.declared.exit.Exit.{Exit}
-use Rattle.ras_run.specs.LineActs.{asking_acts}
 use Rattle.ras_run.specs.Output.{output_at}
 use Rattle.ras_run.specs.Places.{Start}
 use Rattle.ras_run.specs.Status.{places_before_refusal, refusal_at}
 use Rattle.ras_run.specs.Taking.{IsAccepted}
-use Rattle.ras_daemon.specs.RunActs.{asked_acts, script_asked}
-use Rattle.ras_daemon.specs.RunStatus.{refusal_among}
+use Rattle.ras_daemon.specs.RunStatus.{first_refused, script_refused}
 use Rattle.ras_daemon.specs.Steps.Running.{AreAccepted, AreAll, AreFirst, outputs}
 use Rattle.ras_exit.specs.ScriptEnd.{ending_exit, script_exit}
 use Rattle.ras_daemon.specs.Script.{reads_in, reads_of}
@@ -59,33 +57,23 @@ before-all : (start : Start) (ps : List Place) → AllByRecursion (IsAccepted st
 before-all start [] all = refl
 before-all start (p ∷ ps) all = rw all.0.taken (ap (λ tail. p ∷ tail) (before-all start ps all.1))
 
-refusal-none : (start : Start) (ps : List Place) → AllByRecursion (IsAccepted start) ps → refusal_among start ps ≡ None
-refusal-none start [] all = refl
-refusal-none start (p ∷ ps) all = rw all.0.taken (refusal-none start ps all.1)
+pub refused-none : (start : Start) (ps : List Place) → AllByRecursion (IsAccepted start) ps → first_refused start ps ≡ None
+refused-none start [] all = refl
+refused-none start (p ∷ ps) all = rw all.0.taken (refused-none start ps all.1)
 
 before-refused : (start : Start) (ps qs : List Place) (p : Place) (exit : Exit) → AllByRecursion (IsAccepted start) ps → refusal_at start p ≡ Some exit → places_before_refusal start (ps ++ p ∷ qs) ≡ ps
 before-refused start [] qs p exit all is = rw is refl
 before-refused start (q ∷ ps) qs p exit all is = rw all.0.taken (ap (λ tail. q ∷ tail) (before-refused start ps qs p exit all.1 is))
 
-refusal-first : (start : Start) (ps qs : List Place) (p : Place) (exit : Exit) → AllByRecursion (IsAccepted start) ps → refusal_at start p ≡ Some exit → refusal_among start (ps ++ p ∷ qs) ≡ Some exit
-refusal-first start [] qs p exit all is = rw is refl
-refusal-first start (q ∷ ps) qs p exit all is = rw all.0.taken (refusal-first start ps qs p exit all.1 is)
+refused-first : (start : Start) (ps qs : List Place) (p : Place) (exit : Exit) → AllByRecursion (IsAccepted start) ps → refusal_at start p ≡ Some exit → first_refused start (ps ++ p ∷ qs) ≡ Some (p, exit)
+refused-first start [] qs p exit all is = rw is refl
+refused-first start (q ∷ ps) qs p exit all is = rw all.0.taken (refused-first start ps qs p exit all.1 is)
 
--- what accepted lines ask, and then a refused one
-pub none-asked : (start : Start) (ps : List Place) (t : Told) → AllByRecursion (IsAccepted start) ps → asked_acts start ps t ≡ []
-none-asked start [] t all = refl
-none-asked start (p ∷ ps) t all = rw all.0.taken (none-asked start ps t all.1)
-
-refused-asked : (start : Start) (ps qs : List Place) (p : Place) (exit : Exit) (t : Told) → AllByRecursion (IsAccepted start) ps → refusal_at start p ≡ Some exit → asked_acts start (ps ++ p ∷ qs) t ≡ asking_acts p.0 (event_at p) t
-refused-asked start [] qs p exit t all is = rw is refl
-refused-asked start (q ∷ ps) qs p exit t all is = rw all.0.taken (refused-asked start ps qs p exit t all.1 is)
-
-pub script-asked : (start : Start) (script : List ℕ) (before rest : List NumberedLine) (read : NumberedLine) (exit : Exit) (t : Told) → before ++ read ∷ rest ≡ reads_of script
-    → AreAccepted start before → refusal_at start (before, read) ≡ Some exit → script_asked start script t ≡ asking_acts before (event_at (before, read)) t
-script-asked start script before rest read exit t splits accepted refused =
-    ap (λ reads. asked_acts start (places reads) t) (sym splits)
-    ∙ ap (λ ps. asked_acts start ps t) (places_behind-append [] before (read ∷ rest))
-    ∙ refused-asked start (places before) (places_behind (before ++ read ∷ []) rest) (before, read) exit t accepted refused
+pub script-refused : (start : Start) (script : List ℕ) (before rest : List NumberedLine) (read : NumberedLine) (exit : Exit) → before ++ read ∷ rest ≡ reads_of script
+    → AreAccepted start before → refusal_at start (before, read) ≡ Some exit → script_refused start script ≡ Some ((before, read), exit)
+script-refused start script before rest read exit splits accepted refused =
+    ap (first_refused start) (ap places (sym splits) ∙ places_behind-append [] before (read ∷ rest))
+    ∙ refused-first start (places before) (places_behind (before ++ read ∷ []) rest) (before, read) exit accepted refused
 
 -- A script that ends behind these lines.
 pub all_read : (start : Start) (script : List ℕ) (done : List (List ℕ)) (ending : Ending) → script_lines script ≡ record { whole = done; ending = ending }
@@ -97,8 +85,8 @@ all_read start script done ending is accepted =
       first = record { rest = []; splits = append-nil (reads_in done) ∙ sym whole; accepted = accepted };
       all = ap (λ reads. places_before_refusal start (places reads)) whole ∙ before-all start (places (reads_in done)) accepted;
       exit_is =
-          ap (λ reads. unwrap_or (refusal_among start (places reads)) (script_exit script)) whole
-          ∙ ap (λ refusal. unwrap_or refusal (script_exit script)) (refusal-none start (places (reads_in done)) accepted)
+          ap (λ refused. option_map_or (λ (r : Place × Exit). r.1) refused (script_exit script))
+          (ap (λ reads. first_refused start (places reads)) whole ∙ refused-none start (places (reads_in done)) accepted)
           ∙ ends;
     }
 
@@ -111,9 +99,7 @@ line_refused start script before rest read exit splits accepted refused =
     record {
       first = record { rest = read ∷ rest; splits = splits; accepted = accepted };
       all = ap (places_before_refusal start) whole ∙ before-refused start (places before) behind (before, read) exit accepted refused;
-      exit_is =
-          ap (λ ps. unwrap_or (refusal_among start ps) (script_exit script)) whole
-          ∙ ap (λ refusal. unwrap_or refusal (script_exit script)) (refusal-first start (places before) behind (before, read) exit accepted refused);
+      exit_is = ap (λ found. option_map_or (λ (r : Place × Exit). r.1) found (script_exit script)) (script-refused start script before rest read exit splits accepted refused);
     }
 
 -- the first lines with one more

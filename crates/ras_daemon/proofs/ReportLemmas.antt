@@ -1,83 +1,29 @@
 -- What a report says, and what it leaves.
 use Rattle.std.proofs.Common.{◌≡◌, ℕ, List, [], ◌++◌, Option, None, Some, IfSome, option_map, Result, Ok, Err, refl, sym, ap, subst, ◌∙◌, inl, inr, append-nil}
-use Rattle.board_core.specs.Cause.{Faults, FailsAs, disk_call}
 use Rattle.board_core.specs.Clock.{Clock, Adds, LeftNow, Rests}
 use Rattle.board_core.specs.Steps.ClockLemmas.{adds_both, adds_weaker}
 use Rattle.board_core.specs.Stop.{Left, Begins, InOut}
 use Rattle.board_core.specs.Told.{FailsPrint, Relates, Steps, Told, after_print}
-use Rattle.board_core.proofs.DoingLemmas.{broke_faults, well_faults}
-use Rattle.ras_account.specs.Account.{State}
-use Rattle.ras_journal.specs.Recovered.{Refusal, damaged, recovered, too_long}
+use Rattle.ras_journal.specs.Recovered.{recovered}
 use Rattle.ras_recover.specs.OpeningCalls.{AfterRecovery}
-use Rattle.ras_recover.specs.Recovering.{KeepsTold, RefusesHeld, RestsHere, UnlessDisk, file_number, open_failure}
+use Rattle.ras_recover.specs.Recovering.{KeepsTold, RestsHere, UnlessDisk, open_failure}
 use Rattle.ras_recover.specs.declared.refused.OpenRefused.{OpenRefused}
 use Rattle.ras_recover.specs.declared.refused.OpenRefused.TheVariants as opening
 use Rattle.listing_texts.specs.declared.listing.Listing.{Listing}
-use Rattle.listing_texts.specs.declared.listing.Listing.TheVariants.{Counts, Pages, Names, Modules, Metrics}
 use Rattle.ras_exit.specs.declared.exit.Exit.{Exit}
-use Rattle.ras_exit.specs.declared.exit.Exit.TheVariants.{Damaged, DiskFault, Done, NoMemory, PrintFault, TooLong}
-use Rattle.ras_exit.specs.Causes.{BoardCause}
+use Rattle.ras_exit.specs.declared.exit.Exit.TheVariants.{PrintFault}
 use Rattle.board_core.specs.Device.{KeepsDevice, LeavesDevice}
 use Rattle.ras_exit.specs.Endings.{IsCut}
-use Rattle.ras_exit.specs.StopLine.{stop_line}
 use Rattle.ras_exit.proofs.DeviceLemmas.{device_by}
 use Rattle.ras_exit.proofs.EndingLemmas.{on_answer, on_cut}
-use Rattle.ras_daemon.specs.Steps.Answering.{IsCutBy, IsReportAnswer, IsSaid, stop_mark, unrecovered, whole_listing}
-use Rattle.ras_daemon.specs.Reporting.{ReportMoment, Reports, exit_by, report_exit, report_output}
-
--- ---- what is said
-
--- an account, and a stop line in the place of a listing
-pub said_done : (listing : Listing) (account : State) → IsSaid listing (Ok account) Done (whole_listing listing account)
-said_done Metrics account = record { exit_is = refl; text_is = refl }
-said_done Counts account = record { exit_is = refl; text_is = refl }
-said_done Pages account = record { exit_is = refl; text_is = refl }
-said_done Names account = record { exit_is = refl; text_is = refl }
-said_done Modules account = record { exit_is = refl; text_is = refl }
-
-said_stop : (listing : Listing) (why : Refusal) → IsSaid listing (Err why) (exit_by (Err why)) (stop_mark listing ++ stop_line (exit_by (Err why)))
-said_stop Metrics why = record { exit_is = refl; text_is = refl }
-said_stop Counts why = record { exit_is = refl; text_is = refl }
-said_stop Pages why = record { exit_is = refl; text_is = refl }
-said_stop Names why = record { exit_is = refl; text_is = refl }
-said_stop Modules why = record { exit_is = refl; text_is = refl }
-
-pub said_refused : (listing : Listing) (why : OpenRefused) (held : Result State Refusal) (exit : Exit) → unrecovered why ≡ Ok exit → RefusesHeld why held → IsSaid listing held exit (stop_mark listing ++ stop_line exit)
-said_refused listing opening.Disk held exit is refuses = absurd cc
-said_refused listing opening.TooLong held exit is refuses =
-    let same : TooLong ≡ exit = cc in
-    subst (λ (e : Exit). IsSaid listing held e (stop_mark listing ++ stop_line e)) same (rw refuses (said_stop listing too_long))
-said_refused listing (opening.Damaged file place) held exit is refuses =
-    let same : Damaged file place ≡ exit = cc in
-    let there : IsSaid listing held (Damaged (file_number refuses.file) place) (stop_mark listing ++ stop_line (Damaged (file_number refuses.file) place)) = rw refuses.is (said_stop listing (damaged refuses.file place)) in
-    subst (λ (e : Exit). IsSaid listing held e (stop_mark listing ++ stop_line e)) (ap (λ n. Damaged n place) (sym refuses.number_is) ∙ same) there
-said_refused listing opening.NoMemory held exit is refuses = absurd cc
-
-pub answer_refused : (why : OpenRefused) (exit : Exit) → unrecovered why ≡ Ok exit → IsReportAnswer exit
-answer_refused opening.Disk exit is = absurd cc
-answer_refused opening.TooLong exit is = (let same : TooLong ≡ exit = cc in subst IsReportAnswer same (record { listed = tt; answer = refl }))
-answer_refused (opening.Damaged file place) exit is = (let same : Damaged file place ≡ exit = cc in subst IsReportAnswer same (record { listed = tt; answer = refl }))
-answer_refused opening.NoMemory exit is = absurd cc
-
-pub whole_refused : (T : Type 0) (why : OpenRefused) (exit : Exit) → unrecovered why ≡ Ok exit → open_failure {T = T} (Err why) ≡ Ok tt
-whole_refused T opening.Disk exit is = absurd cc
-whole_refused T why exit is = refl
-
-pub cut_refused : (T : Type 0) (why : OpenRefused) (exit : Exit) → unrecovered why ≡ Err exit → IsCutBy (open_failure {T = T} (Err why)) exit
-cut_refused T opening.Disk exit is = (let same : exit ≡ DiskFault = cc in inl (same, refl))
-cut_refused T opening.TooLong exit is = absurd cc
-cut_refused T (opening.Damaged file place) exit is = absurd cc
-cut_refused T opening.NoMemory exit is = (let same : exit ≡ NoMemory = cc in inr (same, refl))
+use Rattle.ras_daemon.specs.Steps.Answering.{IsCutBy, IsSaid}
+use Rattle.ras_daemon.specs.Reporting.{ReportMoment, Reports, report_exit, report_output}
 
 -- ---- a report that is cut short
 
 pub is_cut : (failure : Result (Unit {0}) OpenRefused) (exit : Exit) → IsCutBy failure exit → IsCut exit
 is_cut failure exit (inl disk) = rw disk.0 refl
 is_cut failure exit (inr memory) = rw memory.0 refl
-
-pub cut_cause : (failure : Result (Unit {0}) OpenRefused) (exit : Exit) (before now : Faults) → IsCutBy failure exit → FailsAs disk_call before now failure → BoardCause exit before now
-cut_cause failure exit before now (inl disk) cause = rw disk.0 (broke_faults disk_call before now (subst (FailsAs disk_call before now) disk.1 cause))
-cut_cause failure exit before now (inr memory) cause = rw memory.0 (well_faults disk_call before now (subst (FailsAs disk_call before now) memory.1 cause))
 
 recovery_device : (old new : Told) → AfterRecovery old new → KeepsDevice old new
 recovery_device old new after = record { store = after.store; volatile = after.volatile; accesses = after.accesses }

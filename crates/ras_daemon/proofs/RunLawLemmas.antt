@@ -58,12 +58,12 @@ use Rattle.ras_daemon.specs.Script.{events_of, is_event, reads_of, reads_in}
 use Rattle.ras_daemon.proofs.EventLemmas.{entries-unpolled}
 use Rattle.ras_daemon.proofs.AgainLemmas.{counts-again, facts-again, facts_of-append}
 use Rattle.ras_daemon.proofs.HistoryLemmas.{again-counted, among-own, fresh-once, none-logged, orders-entries, with_entries-append}
-use Rattle.ras_daemon.proofs.ListLemmas.{all-front, flat_map-passing, take-whole}
+use Rattle.ras_daemon.proofs.ListLemmas.{all-filter, all-front, flat_map-passing, take-whole}
 use Rattle.ras_daemon.proofs.FirstLinesLemmas.{done-all}
 
 -- ---- a line that is no event
 
-no-event : (p : Place) → is_event p ≡ false → event_at p ≡ Ok Nothing
+pub no-event : (p : Place) → is_event p ≡ false → event_at p ≡ Ok Nothing
 no-event (before, (number, Ok asks.Nothing)) is = refl
 no-event (before, (number, Ok line)) is = absurd cc
 no-event (before, (number, Err why)) is = absurd cc
@@ -79,7 +79,7 @@ by-events f none ps = flat_map-passing is_event f ps (all-any (λ p. is_event p 
 pub reports-none : (store : List Stored) (p : Place) → is_event p ≡ false → entries_at store p ≡ []
 reports-none store p is = ap (λ (event : Result Event LineRefusal). entries_in (made_in (settings_told p.0).topology (laid store p.0) event)) (no-event p is)
 
-prints-none : (start : Start) (p : Place) → is_event p ≡ false → output_at start p ≡ []
+pub prints-none : (start : Start) (p : Place) → is_event p ≡ false → output_at start p ≡ []
 prints-none start p is = ap (λ event. event_text_at start p.0 event ++ event_done p.1.0 event) (no-event p is)
 
 abbrev ordered_at : Start → Place → List Order
@@ -133,14 +133,6 @@ IsUnpolledPlace p = IsNoPoll p.1
 places-unpolled : (before reads : List NumberedLine) → AllByRecursion IsNoPoll reads → AllByRecursion IsUnpolledPlace (places_behind before reads)
 places-unpolled before [] all = tt
 places-unpolled before (read ∷ reads) all = (all.0, places-unpolled (before ++ read ∷ []) reads all.1)
-
-pub all-filter : {X : Type 0} (P : X → Type 0) (p : X → Bool) (xs : List X) → AllByRecursion P xs → AllByRecursion P (filter p xs)
-all-filter P p [] all = tt
-all-filter {X} P p (x ∷ xs) all = by (p x) (all-filter P p xs all.1)
-  where
-    by : (b : Bool) → AllByRecursion P (filter p xs) → AllByRecursion P (if b then x ∷ filter p xs else filter p xs)
-    by true rest = (all.0, rest)
-    by false rest = rest
 
 entries-any : (one other : List Stored) (ps : List Place) → AllByRecursion IsUnpolledPlace ps → flat_map (entries_at one) ps ≡ flat_map (entries_at other) ps
 entries-any one other [] all = refl

@@ -47,9 +47,10 @@ use Rattle.ras_daemon.specs.RunStatus.{start_of}
 use Rattle.ras_daemon.specs.Steps.Running.{EndsAhead, EndsIn, IsStart, OpenMoment, RunEnds, RunMoment, lines_from}
 use Rattle.ras_daemon.specs.declared.word.Task.{Task}
 use Rattle.ras_daemon.specs.declared.word.Task.TheVariants.{Run}
-use Rattle.ras_daemon.proofs.SaidLemmas.{Printed, before_at, says_printed}
+use Rattle.ras_daemon.proofs.SaidLemmas.{Printed, says_printed}
 use Rattle.ras_daemon.proofs.TakenLemmas.{answers}
 use Rattle.ras_daemon.proofs.ScriptLemmas.{early_none, takes_runs, takes_stops}
+use Rattle.ras_run.proofs.StandsLemmas.{before_of}
 
 -- ---- where source and board tell, and the files hold a history
 
@@ -411,7 +412,7 @@ pub was_opened : {X : Type 0} (see : X → Seen) (start : Start) (script : List 
     → TakesScript see start script (told_on AfterOpening (see a).told (see b).told t is after).0 exit b new → OpensRun see start script exit t a new
 was_opened see start script exit ledger t a b new is after begins account makes stops syncs ready takes =
     let found = told_on AfterOpening (see a).told (see b).told t is after in
-    let before = before_at ledger.journal.standing ledger.account.state (see b).told (see b).clock found.0 ready.stands found.1 in
+    let before = before_of ledger.journal.standing ledger.account.state (see b).told (see b).clock found.0 ready.stands found.1 in
     record {
       mid = b;
       there = found.0;

@@ -1,14 +1,9 @@
 -- What is told once a last line was printed or not, and why it ends so.
 use Rattle.std.proofs.Common.{◌≡◌, ℕ, List, Option, Result, Ok, Err, refl, ap, sym, ◌∙◌, subst, inl, inr, [], None, Some, append-nil}
-use Rattle.std.specs.Prelude.{⊤, IfSome, IsSomeAnd}
+use Rattle.std.specs.Prelude.{⊤}
 use Rattle.board_core.specs.Cause.{Faults, print_call}
-use Rattle.board_core.specs.Clock.{Clock}
 use Rattle.board_core.specs.Doing.{Act, Does, Seen}
 use Rattle.board_core.specs.Told.{FailsPrint, Relates, Steps, Told, after_print}
-use Rattle.ras_account.specs.Account.{State}
-use Rattle.ras_journal.specs.declared.standing.Standing.{Standing}
-use Rattle.ras_journal.specs.Appending.{Before}
-use Rattle.ras_run.specs.Keeping.{Stands}
 use Rattle.ras_exit.specs.Acts.{end_of}
 use Rattle.ras_exit.specs.Causes.{BoardCause, BoardCauseBy, Causes, SourceCause, SourceCauseBy}
 use Rattle.ras_exit.specs.Endings.{OnAnswer, CallEnding, EndsBy, IsAnswer, IsCut, IsLineExit, IsStop, OnlyFault, answered, ending_of, faulted, source_failed, starved}
@@ -184,7 +179,3 @@ done_before see (Err found) exit result line a b is ends done = by ends
     by (inr cut) = sym is.0 ∙ sym cut.1 ∙ done
 
 -- ---- over a ledger that stands
-
-pub before_at : (standing : Standing) (account : State) (told : Option Told) (clock : Clock) (t : Told) → Stands standing account told clock → told ≡ Some t → Before standing account t told clock
-before_at standing account told clock t stands is =
-    let here : IsSomeAnd (Some t) (λ u. Before standing account u told clock) = subst (λ o. IfSome o (λ u. Before standing account u told clock)) is stands in here

@@ -1,15 +1,14 @@
 -- A call that only prints a text changes nothing else that is told, and prints it whole if it
 -- answers its exit.
-use Rattle.std.proofs.Common.{◌≡◌, ℕ, List, ◌++◌, Option, Some, None, refl, sym, ap, ◌∙◌}
+use Rattle.std.proofs.Common.{◌≡◌, ℕ, List, ◌++◌, Option, Some, None, sym, ap, ◌∙◌}
 use Rattle.board_core.specs.Clock.{Adds, Clock}
 use Rattle.board_core.specs.Device.{LeavesDevice}
 use Rattle.board_core.specs.Told.{Relates, Told}
 use Rattle.ras_exit.specs.declared.exit.Exit.{Exit}
-use Rattle.ras_exit.specs.declared.exit.Exit.TheVariants.{NoMemory}
 use Rattle.ras_exit.specs.Telling.{PrintMoment}
 use Rattle.ras_daemon.specs.Commands.{Leaves, OnlyTells}
 use Rattle.ras_daemon.proofs.RunLemmas.{answer_weaker}
-use Rattle.ras_daemon.proofs.SaidLemmas.{Printed, none_printed}
+use Rattle.ras_daemon.proofs.SaidLemmas.{Printed}
 
 module _ (exit : Exit) (text : List ℕ) where
   told_so : (result : Exit) (old now : Told) → Printed exit result text old now → OnlyTells exit text result old now
@@ -28,10 +27,6 @@ module _ (exit : Exit) (text : List ℕ) where
   only_told result None new same = same
   only_told result (Some t) None printed = printed
   only_told result (Some t) (Some now) printed = told_so result t now printed
-
-  -- if memory runs out before anything is printed
-  pub none_told : (told : Option Told) → Relates (OnlyTells exit text NoMemory) told told
-  none_told told = only_told NoMemory told told (none_printed exit NoMemory text told told tt refl)
 
 -- what a command tells that only prints a text
 pub printed_commands : (exit result : Exit) (text : List ℕ) (before now : Option Told) (old new : Clock)

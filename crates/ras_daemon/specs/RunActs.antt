@@ -1,6 +1,6 @@
 -- What a run does to the board, as a list of acts, and how many of these were done.
 use Rattle.std.specs.List.{AllByRecursion}
-use Rattle.std.specs.Prelude.{◌≡◌, ℕ, List, [], ◌∷◌, ◌++◌, if◌then◌else◌, is_some}
+use Rattle.std.specs.Prelude.{◌≡◌, ℕ, List, [], ◌∷◌, ◌++◌, Option, None, Some}
 use Rattle.board_core.specs.declared.board.DiskCall.{DiskCall}
 use Rattle.board_core.specs.Doing.{Act, FailsActs, accesses_of, after_acts, calls_of}
 use Rattle.board_core.specs.Told.{Told}
@@ -13,11 +13,11 @@ use Rattle.ras_exit.specs.Endings.{CallEnding, answered, faulted}
 use Rattle.ras_exit.specs.declared.exit.Exit.{Exit}
 use Rattle.ras_run.specs.LineActs.{AreLineActs, CanAsk, HoldsAfter, asking_acts}
 use Rattle.ras_run.specs.Places.{Start, account_at}
-use Rattle.ras_run.specs.Status.{places_before_refusal, refusal_at}
+use Rattle.ras_run.specs.Status.{places_before_refusal}
 use Rattle.ras_run.specs.Taking.{IsAccepted}
 use Rattle.ras_texts.specs.Orders.{standing_lines}
 use Rattle.ras_daemon.specs.RunOutput.{closing_line}
-use Rattle.ras_daemon.specs.RunStatus.{run_exit}
+use Rattle.ras_daemon.specs.RunStatus.{run_exit, script_refused}
 use Rattle.ras_daemon.specs.Script.{reads_of}
 
 -- the acts of lines at their places, one line after another, each over what the model says once the lines
@@ -45,13 +45,12 @@ last_acts start before exit = print_acts (closing_line (account_at start before)
 
 -- what the first refused line does, over what the model says by then: it asks the record store, if it is of a
 -- kind that does
-abbrev pub asked_acts : Start → List Place → Told → List Act
-asked_acts start [] t = []
-asked_acts start (place ∷ places) t =
-    if is_some (refusal_at start place) then asking_acts place.0 (event_at place) t else asked_acts start places t
+abbrev pub refused_acts : Option (Place × Exit) → Told → List Act
+refused_acts None t = []
+refused_acts (Some (place, why)) t = asking_acts place.0 (event_at place) t
 
 abbrev pub script_asked : Start → List ℕ → Told → List Act
-script_asked start script t = asked_acts start (places (reads_of script)) t
+script_asked start script t = refused_acts (script_refused start script) t
 
 -- The acts after the journal is open: the orders are printed, the lines before the first refused one are
 -- processed, the refused line asks the store, and the last line is printed.

@@ -1,6 +1,6 @@
 -- How a run ends.
-use Rattle.std.specs.Prelude.{ℕ, List, [], ◌∷◌, Option, None, Some, unwrap_or}
-use Rattle.std.specs.List.{filter_map}
+use Rattle.std.specs.Prelude.{ℕ, List, [], ◌∷◌, Option, None, Some}
+use Rattle.std.specs.Option.{option_map_or}
 use Rattle.board_core.specs.Told.{Told}
 use Rattle.ras_base.specs.Places.{places}
 use Rattle.ras_account.specs.Account.{State}
@@ -21,15 +21,19 @@ start_of account t = record {
   slow = t.volatile.slow;
 }
 
--- the first of a list
-abbrev pub first_among : {X : Type 0} → List X → Option X
-first_among [] = None
-first_among (x ∷ xs) = Some x
+-- the first refused line, at its place, and why it is refused
+abbrev pub refused_or : Option Exit → Place → Option (Place × Exit) → Option (Place × Exit)
+refused_or None place later = later
+refused_or (Some why) place later = Some (place, why)
 
--- the first refusal of lines, if there is one
-abbrev pub refusal_among : Start → List Place → Option Exit
-refusal_among start places = first_among (filter_map (refusal_at start) places)
+abbrev pub first_refused : Start → List Place → Option (Place × Exit)
+first_refused start [] = None
+first_refused start (place ∷ places) = refused_or (refusal_at start place) place (first_refused start places)
+
+abbrev pub script_refused : Start → List ℕ → Option (Place × Exit)
+script_refused start script = first_refused start (places (reads_of script))
 
 -- how a run over a script ends: as its first refused line says, or as the end of its list of lines does
 abbrev pub run_exit : Start → List ℕ → Exit
-run_exit start script = unwrap_or (refusal_among start (places (reads_of script))) (script_exit script)
+run_exit start script =
+    option_map_or (λ (refused : Place × Exit). refused.1) (script_refused start script) (script_exit script)

@@ -1,16 +1,13 @@
 -- The lines of a script that a run takes, and its events.
-use Rattle.std.specs.Prelude.{ℕ, Bool, true, false, List, [], ◌∷◌, map, Option, None, Some, Ok, filter, drop}
+use Rattle.std.specs.Prelude.{ℕ, Bool, true, false, List, map, Ok, filter}
 use Rattle.std.specs.List.{enumerate_from}
 use Rattle.ras_base.specs.Places.{places}
 use Rattle.ras_script.specs.Line.{line_of}
 use Rattle.ras_script.specs.Lines.{script_lines}
-use Rattle.ras_script.specs.declared.line.Line.{Line}
 use Rattle.ras_script.specs.declared.line.Line.TheVariants as asks
 use Rattle.ras_events.specs.Reports.{NumberedLine, Place}
-use Rattle.ras_exit.specs.declared.exit.Exit.{Exit}
-use Rattle.ras_exit.specs.declared.exit.Exit.TheVariants.{BadLine, ErstRefused}
 use Rattle.ras_run.specs.Places.{Start}
-use Rattle.ras_run.specs.Status.{places_before_refusal, refusal_at}
+use Rattle.ras_run.specs.Status.{places_before_refusal}
 
 -- what lines ask for, numbered from 1
 abbrev pub reads_in : List (List ℕ) → List NumberedLine
@@ -28,26 +25,3 @@ is_event place = true
 -- the events of a script before the first refused line, each with all the lines before it
 abbrev pub events_of : Start → List ℕ → List Place
 events_of start script = filter is_event (places_before_refusal start (places (reads_of script)))
-
--- The events that a run begins: all before the first refused line, and then the refused one, unless it is
--- refused for what it asks for.
-abbrev pub begun_with : Option Exit → Place → List Place → List Place
-begun_with None place places = place ∷ places
-begun_with (Some (BadLine number why)) place places = []
-begun_with (Some (ErstRefused number)) place places = []
-begun_with (Some exit) place places = place ∷ []
-
-abbrev pub places_begun : Start → List Place → List Place
-places_begun start [] = []
-places_begun start (place ∷ places) = begun_with (refusal_at start place) place (places_begun start places)
-
-abbrev pub begun_of : Start → List ℕ → List Place
-begun_of start script = filter is_event (places_begun start (places (reads_of script)))
-
--- the line of the event that is begun once n events are done, if there is one
-abbrev pub first_line : List Place → Option Line
-first_line ((before, (number, Ok line)) ∷ places) = Some line
-first_line places = None
-
-abbrev pub line_after : Start → List ℕ → ℕ → Option Line
-line_after start script n = first_line (drop n (begun_of start script))

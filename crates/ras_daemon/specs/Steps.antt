@@ -1,5 +1,4 @@
 -- What only proofs use: no public clause refers to it.
-pub mod ScriptHeadline
 pub mod Running
 pub mod Doing
 pub mod Answering

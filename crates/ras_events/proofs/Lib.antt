@@ -1,3 +1,4 @@
+pub mod AskedLemmas
 pub mod BesideLemmas
 pub mod NewsLemmas
 pub mod LineLemmas

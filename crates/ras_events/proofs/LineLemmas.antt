@@ -33,10 +33,6 @@ text_along-snoc a (Unread id why ∷ taken) p =
     ap (λ text. unreadable_line id why ++ text) (text_along-snoc a taken p)
     ∙ sym (append_assoc (unreadable_line id why) (text_along a taken) (text_along (account_after_all a (entries_in taken)) (p ∷ [])))
 
-pub keeps_first : (now : View) (tally : Tally) (all left : List Piece) (news : List Entry) (text : List ℕ) (number : ℕ)
-    → left ≡ all → number ≡ length left → IsTallyOf now tally [] → news ≡ [] → text ≡ [] → KeepsNews now.state all [] left number now tally news text
-keeps_first now tally all left news text number is count tally_is none empty = record { pieces = is; count = count; state = refl; tally_is = tally_is; news_are = none; text_is = empty }
-
 -- what stays of pieces with one more: how many are left, and all of them
 whole : (all taken left rest : List Piece) (p : Piece) → taken ++ left ≡ all → left ≡ p ∷ rest → taken ++ p ∷ rest ≡ all
 whole all taken left rest p pieces is = ap (λ ps. taken ++ ps) (sym is) ∙ pieces
@@ -90,21 +86,3 @@ keeps_unread a all taken left rest number fewer now tally news text next id why 
           ∙ (λ i. so_far.text_is i ++ sym (append-nil (unreadable_line id why)) i)
           ∙ sym (text_along-snoc a taken p);
     }
-
-none_left : (left : List Piece) (number : ℕ) → number ≡ length left → number ≡ 0 → left ≡ []
-none_left [] number count zero = refl
-none_left (p ∷ left) number count zero = absurd (omega (arith, count, zero))
-
--- once no piece is left, all are taken
-module _ (a : State) (all taken left : List Piece) (number : ℕ) (now : View) (tally : Tally) (news : List Entry) (text : List ℕ) (so_far : KeepsNews a all taken left number now tally news text) (zero : number ≡ 0) where
-  taken_all : taken ≡ all
-  taken_all = sym (append-nil taken) ∙ ap (λ ps. taken ++ ps) (sym (none_left left number so_far.count zero)) ∙ so_far.pieces
-
-  pub all_tallied : IsTallyOf now tally (entries_in all)
-  all_tallied = subst (λ ps. IsTallyOf now tally (entries_in ps)) taken_all so_far.tally_is
-
-  pub all_news : news ≡ fresh_entries_in a (entries_in all)
-  all_news = so_far.news_are ∙ ap (λ ps. fresh_entries_in a (entries_in ps)) taken_all
-
-  pub all_text : text ≡ text_along a all
-  all_text = so_far.text_is ∙ ap (text_along a) taken_all

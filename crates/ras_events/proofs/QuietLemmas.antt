@@ -11,7 +11,7 @@ use Rattle.ras_events.specs.QuietLines.{AreLines, AreQuietLines, IsQuietLine}
 use Rattle.ras_events.proofs.ByteLemmas.{is_unbroken, lacks_from}
 use Rattle.ras_events.proofs.DoneLemmas.{done_text, done_lacks}
 
-all_both : {X : Type 0} (P : X → Type 0) (xs ys : List X) → AllByRecursion P xs → AllByRecursion P ys → AllByRecursion P (xs ++ ys)
+pub all_both : {X : Type 0} (P : X → Type 0) (xs ys : List X) → AllByRecursion P xs → AllByRecursion P ys → AllByRecursion P (xs ++ ys)
 all_both P [] ys one other = other
 all_both P (x ∷ xs) ys one other = (one.0, all_both P xs ys one.1 other)
 

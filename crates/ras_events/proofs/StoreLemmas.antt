@@ -15,10 +15,10 @@ pub last_laid-cut : (store : List Stored) (first others : List NumberedLine) (id
     → last_laid store (first ++ others) id ≡ fold (found_after id) (last_laid store first id) others
 last_laid-cut store first others id = fold-append (found_after id) (bytes_under id store) first others
 
-same_id : (a b : ℕ) → nat_eq a b ≡ true → a ≡ b
+pub same_id : (a b : ℕ) → nat_eq a b ≡ true → a ≡ b
 same_id a b is = grind (arith, nat_tests)
 
-same_bytes : (xs ys : List ℕ) → Some xs ≡ Some ys → xs ≡ ys
+pub same_bytes : (xs ys : List ℕ) → Some xs ≡ Some ys → xs ≡ ys
 same_bytes xs ys is = cc
 
 -- a record that can't be read stays over a poll

@@ -1,5 +1,5 @@
 -- The news of an event, counted in turn.
-use Rattle.std.proofs.Common.{◌≡◌, ℕ, ◌+◌, ◌≤◌, ◌*◌, Bool, true, false, if◌then◌else◌, Option, None, Some, option_to_list, List, [], ◌∷◌, ◌++◌, length, refl, sym, ap, subst, ◌∙◌, append_assoc, append-nil, length-append, arith}
+use Rattle.std.proofs.Common.{◌≡◌, ℕ, ◌+◌, ◌≤◌, ◌*◌, Bool, true, false, if◌then◌else◌, Option, None, Some, option_to_list, List, [], ◌∷◌, ◌++◌, length, sym, ap, subst, ◌∙◌, append_assoc, length-append, arith}
 use Rattle.std.proofs.lemmas.List.{length-map}
 use Rattle.std.proofs.lemmas.List.Sums.{sum_by-cons}
 use Rattle.page_policy.specs.declared.rows.Order.{Order}
@@ -92,26 +92,3 @@ take_more start now next before after given all left rest number fewer e taking 
           ∙ taking.orders;
       given = omega (arith, taking.given, room, ap length gives, length-append after.orders (orders_at now.state e));
     }
-
-pub take_start : (start : View) (before : OrderList) (all left : List Entry) (number : ℕ) → left ≡ all → number ≡ length left → CanTakeAll start before all → IsTaking start start before before all left number
-take_start start before all left number is count can = record {
-  count = count;
-  can = subst (CanTakeAll start before) (sym is) can;
-  state = ap (account_after_all start.state) is;
-  orders = ap (λ es. before.orders ++ orders_along_entries start.state es) is;
-  given = refl;
-}
-
-none_left : (left : List Entry) (number : ℕ) → number ≡ length left → number ≡ 0 → left ≡ []
-none_left [] number count zero = refl
-none_left (e ∷ left) number count zero = absurd (omega (arith, count, zero))
-
-module _ (start now : View) (before after : OrderList) (all left : List Entry) (number : ℕ) (taking : IsTaking start now before after all left number) (zero : number ≡ 0) where
-  none : left ≡ []
-  none = none_left left number taking.count zero
-
-  pub taken_state : now.state ≡ account_after_all start.state all
-  taken_state = sym (ap (account_after_all now.state) none) ∙ taking.state
-
-  pub taken_orders : after.orders ≡ before.orders ++ orders_along_entries start.state all
-  taken_orders = sym (append-nil after.orders) ∙ ap (λ es. after.orders ++ orders_along_entries now.state es) (sym none) ∙ taking.orders

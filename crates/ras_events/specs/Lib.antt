@@ -1,5 +1,6 @@
 pub mod Stores
 pub mod Making
+pub mod Deeds
 pub mod Events
 pub mod Sizes
 pub mod Texts

@@ -1,6 +1,6 @@
 -- What the lines of a script report, each given the machine description of the lines before it and the record store
 -- that they leave.
-use Rattle.std.specs.Prelude.{List, [], ◌∷◌, Option, None, Some, Result, Ok, Err}
+use Rattle.std.specs.Prelude.{List, [], ◌∷◌, Option, None, Some, Result, Ok, Err, unwrap_or}
 use Rattle.std.specs.List.{filter_map, flat_map}
 use Rattle.ras_base.specs.Places.{places}
 use Rattle.apei_sources.specs.Hest.{Sources, hest_of}
@@ -11,14 +11,14 @@ use Rattle.ras_facts.specs.declared.entry.Entry.{Entry}
 use Rattle.ras_script.specs.declared.line.Line.TheVariants as asks
 use Rattle.ras_script.specs.declared.line.Table.TheVariants.{Hest, Erst}
 use Rattle.ras_events.specs.declared.event.Event.{Event}
-use Rattle.ras_events.specs.declared.event.Event.TheVariants.{Counted, Polled}
 use Rattle.ras_events.specs.declared.event.LineRefusal.{LineRefusal}
 use Rattle.ras_events.specs.declared.event.LineRefusal.TheVariants.{Bad}
 use Rattle.ras_exit.specs.declared.reason.Reason.TheVariants as reason
 use Rattle.ras_events.specs.declared.settings.Settings.{Settings}
 use Rattle.ras_events.specs.declared.made.Piece.{Piece}
+use Rattle.ras_events.specs.Deeds.{counted_in, deed_of}
 use Rattle.ras_events.specs.Events.{Lists, admitted_in, event_of}
-use Rattle.ras_events.specs.Making.{entries_in, polled}
+use Rattle.ras_events.specs.Making.{entries_in}
 use Rattle.ras_events.specs.Stores.{laid}
 pub use Rattle.ras_events.specs.Stores.{NumberedLine}
 
@@ -70,9 +70,7 @@ event_at (before, (number, Err refused)) = Err (Bad (reason.Line refused))
 
 -- the pieces of an event, by the rows of the machine and the records of the store at that time
 abbrev pub made_in : List Row → List Stored → Result Event LineRefusal → List Piece
-made_in rows store (Ok (Counted made)) = made
-made_in rows store (Ok (Polled seconds)) = polled rows seconds store
-made_in rows store event = []
+made_in rows store event = unwrap_or (counted_in rows store (deed_of event).asks (deed_of event).reported) []
 
 -- the pieces of a line at its place, if the record store was this one before the first line
 abbrev pub pieces_at : List Stored → Place → List Piece

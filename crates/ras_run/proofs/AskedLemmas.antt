@@ -17,7 +17,8 @@ use Rattle.ras_events.specs.Stores.{store_with}
 use Rattle.ras_records.proofs.ClearingLemmas.{calls_keep}
 use Rattle.ras_records.proofs.QuietLemmas.{look_device, look_here, look_moment}
 use Rattle.ras_records.proofs.SavingLemmas.{save_here, save_moment}
-use Rattle.ras_run.specs.Deeds.{Asking, Deed, nothing, polls, puts, saves, store_asked}
+use Rattle.ras_events.specs.Deeds.{Asking, Deed, nothing, polls, puts, saves}
+use Rattle.ras_run.specs.Deeds.{store_asked}
 use Rattle.ras_run.specs.LineActs.{CanAskFor, asking_calls}
 use Rattle.ras_run.specs.Moments.{IsBegun, course_to}
 use Rattle.ras_run.specs.Step.{Site, driving_lists}

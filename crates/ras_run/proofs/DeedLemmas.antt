@@ -1,5 +1,5 @@
 -- A deed that isn't refused, once it has asked: what it leaves, and what stops leave.
-use Rattle.std.proofs.Common.{◌≡◌, ◌∙◌, ℕ, Bool, true, false, ◌&&◌, not, nat_eq, List, [], ◌++◌, length, map, Option, None, Some, Result, Ok, Err, unwrap_or, inl, inr, refl, sym, ap, subst, if◌then◌else◌, append_assoc, append-nil, arith}
+use Rattle.std.proofs.Common.{◌≡◌, ◌∙◌, ℕ, Bool, true, false, ◌&&◌, not, nat_eq, List, [], ◌++◌, length, map, Option, None, Some, unwrap_or, inl, inr, refl, sym, ap, subst, if◌then◌else◌, append_assoc, append-nil, arith}
 use Rattle.board_core.specs.declared.board.DiskCall.{DiskCall}
 use Rattle.board_core.specs.Doing.{Act, DeviceCall, Moment, after_acts, calls, calls_of}
 use Rattle.board_core.specs.Stop.{Left}
@@ -16,13 +16,9 @@ use Rattle.ras_account.specs.Numbers.{are_past, fresh_entries_in, numbers_with}
 use Rattle.ras_facts.specs.declared.entry.Entry.{Entry}
 use Rattle.ras_journal.specs.declared.standing.Standing.{Standing}
 use Rattle.ras_journal.specs.Recovered.{IsAt, recovered}
-use Rattle.ras_events.specs.declared.event.Event.{Event}
-use Rattle.ras_events.specs.declared.event.Event.TheVariants.{Counted, Polled}
-use Rattle.ras_events.specs.declared.event.LineRefusal.{LineRefusal}
 use Rattle.ras_events.specs.declared.made.Piece.{Piece}
 use Rattle.ras_events.specs.Events.{Lists}
 use Rattle.ras_events.specs.Making.{entries_in}
-use Rattle.ras_events.specs.Reports.{made_in}
 use Rattle.ras_events.specs.Sizes.{IsFit}
 use Rattle.ras_events.specs.Stores.{unreadable, without_first}
 use Rattle.ras_records.specs.Polls.{is_busy_for_reads, readable_ids}
@@ -31,7 +27,8 @@ use Rattle.ras_exit.specs.declared.exit.Exit.{Exit}
 use Rattle.ras_exit.specs.declared.exit.Exit.TheVariants.{ErstBusy}
 use Rattle.ras_exit.specs.Acts.{print_acts}
 use Rattle.ras_exit.proofs.PrintLemmas.{after_printed}
-use Rattle.ras_run.specs.Deeds.{Asking, Deed, clears_by, counted_by, deed_done, deed_of, deed_pieces, deed_text, nothing, polls, reopens, store_asked}
+use Rattle.ras_events.specs.Deeds.{Asking, Deed, nothing, polls, reopens}
+use Rattle.ras_run.specs.Deeds.{clears_by, counted_by, deed_done, deed_pieces, deed_text, store_asked}
 use Rattle.ras_run.specs.LineActs.{AreFollowingIn, clearing_calls, deed_acts, news_acts, telling_acts}
 use Rattle.ras_run.specs.LineCalls.{AreDeedCalls, AreNewsCalls}
 use Rattle.ras_recover.specs.OpeningCalls.{IsRecoveryOf}
@@ -47,13 +44,6 @@ use Rattle.ras_run.proofs.MadeLemmas.{account_made, none_if, told_at, told_momen
 use Rattle.ras_run.proofs.PrintActLemmas.{calls_before, calls_both, news_calls, print_calls, reading_calls, reading_here, reading_off, told_off, told_out}
 use Rattle.ras_run.proofs.ReopenLemmas.{reading_moment}
 use Rattle.ras_run.proofs.StandsLemmas.{print_at}
-
--- the pieces of an event are those that its deed counts
-pub pieces_are : (site : Site) (event : Result Event LineRefusal) → made_in site.settings.topology site.store event ≡ deed_pieces site (deed_of event)
-pieces_are site (Ok (Counted made)) = refl
-pieces_are site (Ok (Polled seconds)) = refl
-pieces_are site (Ok event) = refl
-pieces_are site (Err why) = refl
 
 -- ---- there is room for what it counts, if it isn't refused
 
@@ -211,7 +201,7 @@ module _ (site : Site) (number : ℕ) (deed : Deed) (u : Told) (asked : HasAsked
   v = after_acts (telling site number deed) u
 
   v_at : IsAt s_then c.after v.here
-  v_at = told_at a s u asked.account asked.at (deed_pieces site deed) room fit (deed_text site deed)
+  v_at = told_at a s asked.account (deed_pieces site deed) room fit u asked.at (deed_text site deed)
 
   v_board : BoardAsked site deed.asks v
   v_board = board_kept site deed.asks u v (acts_device (telling site number deed) (told_off s a (deed_pieces site deed) (deed_text site deed)) u) asked.board
@@ -231,7 +221,7 @@ module _ (site : Site) (number : ℕ) (deed : Deed) (u : Told) (asked : HasAsked
 
   pub deed_is_done : IsDone site number deed (after_acts (deed_acts site number deed u) u)
   deed_is_done = subst (IsDone site number deed) w_done (record {
-    account = account_made a s u asked.account asked.at (deed_pieces site deed) room fit;
+    account = account_made a s asked.account (deed_pieces site deed) room fit;
     at = print_at (deed_done number deed) s_then c.after w w_at;
     store = ap (λ (x : Told). x.here.store) (after_printed (deed_done number deed) w) ∙ ap (λ (l : Left). l.store) w_here;
     slow = ap (λ (x : Told). x.volatile.slow) (after_printed (deed_done number deed) w) ∙ ((calls_keep (cleared site number deed v) v).slow ∙ v_board.slow);
@@ -258,7 +248,7 @@ module _ (site : Site) (number : ℕ) (deed : Deed) (u : Told) (asked : HasAsked
 
     pub deed_moment : (left : Left) → Moment (deed_acts site number deed u) u left → CourseMoment Accepted c out left
     deed_moment left moment = elim (moment_parts (telling site number deed) (acts_of (cleared site number deed v) ++ prints_done site number deed) u left moment) [
-      | inl telling ↦ told_moment a s u asked.account asked.at (deed_pieces site deed) room fit Accepted accepted c out refl refl asked.board.store here left telling
+      | inl telling ↦ told_moment a s asked.account (deed_pieces site deed) room fit u asked.at Accepted accepted c out refl refl asked.board.store here left telling
       | inr later ↦ elim (moment_parts (acts_of (cleared site number deed v)) (prints_done site number deed) v left later) [
         | inl clears ↦ clearing_moment left clears
         | inr printing ↦

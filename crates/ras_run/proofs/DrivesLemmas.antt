@@ -6,7 +6,7 @@ use Rattle.ras_events.specs.declared.event.Event.{Event}
 use Rattle.ras_events.specs.declared.event.LineRefusal.{LineRefusal}
 use Rattle.ras_events.specs.Events.{Lists, event_of}
 use Rattle.ras_events.specs.Reports.{NumberedLine, Place, event_at, settings_told}
-use Rattle.ras_run.specs.Deeds.{Asking, deed_of}
+use Rattle.ras_events.specs.Deeds.{Asking, deed_of}
 use Rattle.ras_run.specs.LineActs.{lists_after}
 use Rattle.ras_run.proofs.AdmittedLemmas.{after_admitted}
 use Rattle.ras_run.proofs.DrivenLemmas.{IsByDriver, driven}

@@ -26,7 +26,8 @@ use Rattle.ras_script.specs.declared.line.Line.{Line}
 use Rattle.ras_script.specs.declared.line.LineRefused.{LineRefused}
 use Rattle.ras_exit.specs.Acts.{print_acts}
 use Rattle.ras_exit.proofs.PrintLemmas.{after_printed, print_moment}
-use Rattle.ras_run.specs.Deeds.{Deed, deed_done, deed_of, deed_pieces, deed_text}
+use Rattle.ras_events.specs.Deeds.{Deed, deed_of}
+use Rattle.ras_run.specs.Deeds.{deed_done, deed_pieces, deed_text}
 use Rattle.ras_run.specs.LineActs.{AreFollowingIn, AreLineActs, CanAsk, HoldsAfter, asking_acts, asking_calls, clearing_calls, deed_acts, lists_after, news_acts, telling_acts}
 use Rattle.ras_run.specs.Places.{Start, has_no_room_for, lacks_room_for}
 use Rattle.ras_run.specs.Status.{deed_refusal}
@@ -35,7 +36,7 @@ use Rattle.ras_run.specs.Taking.{IsAccepted}
 use Rattle.ras_run.proofs.AskedLemmas.{HasAsked}
 use Rattle.ras_run.proofs.DeedLemmas.{has_room, read_asked}
 use Rattle.ras_run.proofs.DeviceActLemmas.{calls_leave}
-use Rattle.ras_run.proofs.LineLawLemmas.{acts_then, after_asked, deed_fit, deed_taken, event_acts, line_asked}
+use Rattle.ras_run.proofs.LineLawLemmas.{acts_then, after_asked, deed_taken, event_acts, line_asked}
 use Rattle.ras_run.proofs.MadeLemmas.{is_not, links, parts}
 use Rattle.ras_run.proofs.PrintActLemmas.{can_make, reading_here, told_is}
 use Rattle.ras_run.proofs.ReopenLemmas.{reading_moment}
@@ -81,17 +82,17 @@ module _ (a : State) (s : Standing) (u : Told) (account : IsAccount a) (at : IsA
   link_few left (entry ∷ entries) is lacks moment =
       let link : List ℕ = link_bytes (entry ∷ entries) in
       keeping_few s a (entry ∷ entries) link u (can_make s a link account (is_not (lacks_room s a link) lacks)) (is_not (lacks_room s a link) lacks)
-      (links a s u account at made room fit entry entries is) at few left moment
+      (links a s account made room fit entry entries is) at few left moment
 
   link_done : (list : List Entry) → news ≡ list → lacks_room_for a s list ≡ false → HasFewLinks (after_acts (news_acts s a list) u).here
   link_done [] is lacks = few
   link_done (entry ∷ entries) is lacks =
       let link : List ℕ = link_bytes (entry ∷ entries) in
       keeping_few_done s a (entry ∷ entries) link u (can_make s a link account (is_not (lacks_room s a link) lacks)) (is_not (lacks_room s a link) lacks)
-      (links a s u account at made room fit entry entries is) at few
+      (links a s account made room fit entry entries is) at few
 
   lacks_not : lacks_room_for a s news ≡ false
-  lacks_not = (parts a s u account at made room fit).1
+  lacks_not = (parts a s account made room fit).1
 
   news_few : (left : Left) → Moment (news_acts s a news) u left → HasFewLinks left
   news_few left moment = link_few left news refl lacks_not moment
@@ -193,12 +194,12 @@ module _ (start : Start) (before : List NumberedLine) (number : ℕ) (line : Res
     line_few left moment = elim (moment_parts (asking_acts before (event_at place) t) are.rest t left (subst (λ (l : List Act). Moment l t left) are.is moment)) [
       | inl asking ↦ asking_few before (event_at place) t few left asking
       | inr later ↦
-          follow_few (site_at start before) number deed now (line_asked start before number line t holds can) now_few taken (deed_fit start before number line accepted) are.rest
+          follow_few (site_at start before) number deed now (line_asked start before number line t holds can) now_few taken accepted.fit are.rest
           (event_acts start place t acts are accepted.taken) left later
     ]
 
     pub line_few_done : HasFewLinks (after_acts acts t).here
     line_few_done =
         subst (λ (u : Told). HasFewLinks u.here) (sym (acts_then start place t acts are))
-        (follow_few_done (site_at start before) number deed now (line_asked start before number line t holds can) now_few taken (deed_fit start before number line accepted) are.rest
+        (follow_few_done (site_at start before) number deed now (line_asked start before number line t holds can) now_few taken accepted.fit are.rest
         (event_acts start place t acts are accepted.taken))

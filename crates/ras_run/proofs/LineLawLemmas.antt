@@ -20,14 +20,13 @@ use Rattle.ras_records.proofs.ClearingLemmas.{calls_keep}
 use Rattle.ras_events.specs.declared.event.Event.{Event}
 use Rattle.ras_events.specs.declared.event.LineRefusal.{LineRefusal}
 use Rattle.ras_events.specs.declared.made.Piece.{Piece}
-use Rattle.ras_events.specs.Events.{event_of}
 use Rattle.ras_events.specs.Making.{entries_in}
-use Rattle.ras_events.specs.Reports.{NumberedLine, Place, event_at, settings_told}
-use Rattle.ras_events.specs.Sizes.{IsFit}
-use Rattle.ras_events.specs.Stores.{store_after, store_by, store_with}
+use Rattle.ras_events.specs.Reports.{NumberedLine, Place, event_at}
+use Rattle.ras_events.specs.Stores.{store_with}
 use Rattle.ras_exit.specs.declared.exit.Exit.{Exit}
 use Rattle.ras_exit.specs.declared.exit.Exit.TheVariants.{ErstBusy, ErstStatus}
-use Rattle.ras_run.specs.Deeds.{Asking, Deed, deed_of, deed_pieces, nothing, puts, saves, store_asked}
+use Rattle.ras_events.specs.Deeds.{Asking, Deed, deed_of, nothing, puts, saves}
+use Rattle.ras_run.specs.Deeds.{deed_pieces, store_asked}
 use Rattle.ras_run.specs.LineActs.{AreFollowing, AreLineActs, AreUnlessRefused, CanAsk, HoldsAfter, asking_acts, asking_calls, lists_after}
 use Rattle.ras_run.specs.LineCalls.{AreCallsAt}
 use Rattle.ras_run.specs.Moments.{CourseMoment, course_to, refused_store, stored_by}
@@ -37,12 +36,13 @@ use Rattle.ras_run.specs.Status.{asking_refusal, deed_refusal, event_refusal, pu
 use Rattle.ras_run.specs.Step.{Site, site_at}
 use Rattle.ras_run.specs.Taking.{IsAccepted, LineMoment}
 use Rattle.ras_run.proofs.AskedLemmas.{HasAsked, asked_here, asking_begun, has_asked}
-use Rattle.ras_run.proofs.DeedLemmas.{IsDone, follow_calls, follow_done, follow_moment, follow_out, pieces_are}
+use Rattle.ras_run.proofs.DeedLemmas.{IsDone, follow_calls, follow_done, follow_moment, follow_out, has_room}
 use Rattle.ras_run.proofs.DeviceActLemmas.{device_calls_none}
 use Rattle.ras_run.proofs.DrivesLemmas.{place_drives}
+use Rattle.ras_run.proofs.MadeLemmas.{account_made}
 use Rattle.ras_run.proofs.PlaceLemmas.{account-snoc, standing-snoc, store-snoc}
 use Rattle.ras_run.proofs.PrintActLemmas.{calls_both}
-use Rattle.ras_run.proofs.StoreLemmas.{full_with, left_in, line_store, refused_with}
+use Rattle.ras_run.proofs.StoreLemmas.{full_with, refused_with, taken_store}
 
 -- ---- whatever the board tells
 
@@ -121,7 +121,7 @@ left_asked site number room exit (saves r) some = by (is_free_in_time site.slow)
     by false full is busy = inr cc
 left_asked site number room exit asks some = inl refl
 
-refused_is : (start : Start) (place : Place) (exit : Exit) (event : Result Event LineRefusal) → event_refusal start place event ≡ Some exit → stored_by event (store_at start place.0) ≡ refused_store exit event (store_at start place.0)
+pub refused_is : (start : Start) (place : Place) (exit : Exit) (event : Result Event LineRefusal) → event_refusal start place event ≡ Some exit → stored_by event (store_at start place.0) ≡ refused_store exit event (store_at start place.0)
 refused_is start place exit (Ok event) some = elim (left_asked (site_at start place.0) place.1.0 _ exit (deed_of (Ok event)).asks some) [
   | inl same ↦ left_refused exit (Ok event) (store_at start place.0) same
   | inr busy ↦ subst (λ (e : Exit). stored_by (Ok event) (store_at start place.0) ≡ refused_store e (Ok event) (store_at start place.0)) (sym busy) refl
@@ -158,26 +158,18 @@ module _ (start : Start) (before : List NumberedLine) (number : ℕ) (line : Res
   abbrev made : List Piece
   made = deed_pieces (site_at start before) (deed_of event)
 
-  -- it leaves the store so
-  store_then : (read : Result Line LineRefused) → event_refusal start place (event_at (before, (number, read))) ≡ None → left_in (event_at (before, (number, read))) store ≡ store_after store (number, read)
-  store_then (Err why) none = absurd cc
-  store_then (Ok asks) none = by (event_of (settings_told before) asks) refl none
-    where
-      by : (e : Result Event LineRefusal) → event_of (settings_told before) asks ≡ e → event_refusal start place e ≡ None → left_in e store ≡ store_by store asks
-      by (Ok e) is none = sym (line_store store (settings_told before) asks e is)
-      by (Err why) is none = absurd cc
-
-  -- and the account and its standing are those after the line
+  -- the account and its standing are those after the line
   account_then : account_after_all a (entries_in made) ≡ account_at start (before ++ (number, line) ∷ [])
-  account_then = ap (λ (pieces : List Piece). account_after_all a (entries_in pieces)) (sym (pieces_are (site_at start before) event)) ∙ sym (account-snoc start before (number, line))
+  account_then = sym (account-snoc start before (number, line))
 
   standing_then : standing_with_news a (standing_at start before) (fresh_entries_in a (entries_in made)) ≡ standing_at start (before ++ (number, line) ∷ [])
-  standing_then =
-      ap (λ (pieces : List Piece). standing_with_news a (standing_at start before) (fresh_entries_in a (entries_in pieces))) (sym (pieces_are (site_at start before) event))
-      ∙ sym (standing-snoc start before (number, line))
+  standing_then = sym (standing-snoc start before (number, line))
 
-  pub deed_fit : IsAccepted start place → IsFit made
-  deed_fit accepted = subst IsFit (pieces_are (site_at start before) event) accepted.fit
+  pub taken_account : IsAccepted start place → IsAccount a → IsAccount (account_at start (before ++ (number, line) ∷ []))
+  taken_account accepted account =
+      let deed : Deed = deed_of event in
+      subst IsAccount account_then (account_made a (standing_at start before) account made
+      (has_room (site_at start before) number deed.asks deed.reported account (deed_taken (site_at start before) number event accepted.taken)) accepted.fit)
 
   module _ (t : Told) (holds : HoldsAfter start before t) (can : CanAsk (event_at place) t) where
     pub line_asked : HasAsked (site_at start before) (deed_of event).asks (after_asked before event t)
@@ -193,12 +185,12 @@ module _ (start : Start) (before : List NumberedLine) (number : ℕ) (line : Res
       pub line_holds : HoldsAfter start (before ++ (number, line) ∷ []) (after_acts acts t)
       line_holds =
           let u : Told = after_asked before event t in
-          let done : IsDone (site_at start before) number (deed_of event) (after_acts are.rest u) = follow_done (site_at start before) number (deed_of event) u line_asked (deed_taken (site_at start before) number event accepted.taken) (deed_fit accepted) are.rest follow in
+          let done : IsDone (site_at start before) number (deed_of event) (after_acts are.rest u) = follow_done (site_at start before) number (deed_of event) u line_asked (deed_taken (site_at start before) number event accepted.taken) accepted.fit are.rest follow in
           subst (HoldsAfter start (before ++ (number, line) ∷ [])) (sym (acts_then start place t acts are)) (record {
             account = subst IsAccount account_then done.account;
             at = subst (λ (b : State). IsAt (standing_at start (before ++ (number, line) ∷ [])) b (after_acts are.rest u).here) account_then
                 (subst (λ (n : Standing). IsAt n (account_after_all a (entries_in made)) (after_acts are.rest u).here) standing_then done.at);
-            board = record { store = done.store ∙ (store_then line accepted.taken ∙ sym (store-snoc start before (number, line))); slow = done.slow };
+            board = record { store = done.store ∙ (taken_store start place store accepted.taken ∙ sym (store-snoc start before (number, line))); slow = done.slow };
           })
 
       pub line_moment : (left : Left) → Moment acts t left → LineMoment start place t.here left
@@ -206,6 +198,6 @@ module _ (start : Start) (before : List NumberedLine) (number : ℕ) (line : Res
         | inl asking ↦ asking_moment left asking
         | inr later ↦
             subst (λ (after : State). CourseMoment (IsAccepted start place) (course_to (site_at start before) number (deed_of event) after) t.here.out left) account_then
-            (follow_moment (site_at start before) number (deed_of event) (after_asked before event t) line_asked (deed_taken (site_at start before) number event accepted.taken) (deed_fit accepted) are.rest follow
+            (follow_moment (site_at start before) number (deed_of event) (after_asked before event t) line_asked (deed_taken (site_at start before) number event accepted.taken) accepted.fit are.rest follow
             (IsAccepted start place) accepted t.here.out (ap (λ (l : Left). l.out) (calls_keep (asking_calls (lists_after before) (deed_of event).asks t) t).here) left later)
       ]

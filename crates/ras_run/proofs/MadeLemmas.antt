@@ -50,9 +50,9 @@ pub none_if : (b : Bool) → (if b then Some Full else None) ≡ None → b ≡ 
 none_if true is = absurd cc
 none_if false is = refl
 
--- ---- over files that hold an account
+-- ---- an account that has room for what is made
 
-module _ (a : State) (s : Standing) (u : Told) (account : IsAccount a) (at : IsAt s a u.here) (made : List Piece) (room : has_no_room_for a s (entries_in made) ≡ false) (fit : IsFit made) where
+module _ (a : State) (s : Standing) (account : IsAccount a) (made : List Piece) (room : has_no_room_for a s (entries_in made) ≡ false) (fit : IsFit made) where
   abbrev pub news : List Entry
   news = fresh_entries_in a (entries_in made)
 
@@ -81,55 +81,56 @@ module _ (a : State) (s : Standing) (u : Told) (account : IsAccount a) (at : IsA
     within = subst (StaysWithin a) is stays;
   }
 
-  -- ---- its news are kept
+  -- ---- over files that hold it
 
-  kept_at : (list : List Entry) → news ≡ list → lacks_room_for a s list ≡ false → IsAt (standing_with_news a s list) (account_after_all a list) (after_acts (news_acts s a list) u).here
-  kept_at [] is lacks = at
-  kept_at (entry ∷ entries) is lacks =
-      let link : List ℕ = link_bytes (entry ∷ entries) in
-      keeping_ends s a (entry ∷ entries) link u (can_make s a link account (is_not (lacks_room s a link) lacks)) (is_not (lacks_room s a link) lacks) (links entry entries is) at
+  module _ (u : Told) (at : IsAt s a u.here) where
+    kept_at : (list : List Entry) → news ≡ list → lacks_room_for a s list ≡ false → IsAt (standing_with_news a s list) (account_after_all a list) (after_acts (news_acts s a list) u).here
+    kept_at [] is lacks = at
+    kept_at (entry ∷ entries) is lacks =
+        let link : List ℕ = link_bytes (entry ∷ entries) in
+        keeping_ends s a (entry ∷ entries) link u (can_make s a link account (is_not (lacks_room s a link) lacks)) (is_not (lacks_room s a link) lacks) (links entry entries is) at
 
-  pub news_at : IsAt made_standing made_account (after_acts (news_acts s a news) u).here
-  news_at = subst (λ (b : State). IsAt made_standing b (after_acts (news_acts s a news) u).here) account_is (kept_at news refl parts.1)
+    pub news_at : IsAt made_standing made_account (after_acts (news_acts s a news) u).here
+    news_at = subst (λ (b : State). IsAt made_standing b (after_acts (news_acts s a news) u).here) account_is (kept_at news refl parts.1)
 
-  kept_moment : (left : Left) (list : List Entry) → news ≡ list → lacks_room_for a s list ≡ false → Moment (news_acts s a list) u left → (left.out ≡ u.here.out) × (Recovers a left ⊎ Recovers (account_after_all a list) left)
-  kept_moment left [] is lacks never = absurd never
-  kept_moment left (entry ∷ entries) is lacks moment =
-      let link : List ℕ = link_bytes (entry ∷ entries) in
-      let keeping = keeping_leaves s a (entry ∷ entries) link u left (can_make s a link account (is_not (lacks_room s a link) lacks)) (is_not (lacks_room s a link) lacks) (links entry entries is) at moment in
-      (keeping.beside.out, keeping.recovers)
+    kept_moment : (left : Left) (list : List Entry) → news ≡ list → lacks_room_for a s list ≡ false → Moment (news_acts s a list) u left → (left.out ≡ u.here.out) × (Recovers a left ⊎ Recovers (account_after_all a list) left)
+    kept_moment left [] is lacks never = absurd never
+    kept_moment left (entry ∷ entries) is lacks moment =
+        let link : List ℕ = link_bytes (entry ∷ entries) in
+        let keeping = keeping_leaves s a (entry ∷ entries) link u left (can_make s a link account (is_not (lacks_room s a link) lacks)) (is_not (lacks_room s a link) lacks) (links entry entries is) at moment in
+        (keeping.beside.out, keeping.recovers)
 
-  -- ---- and its text is printed
+    -- ---- and its text is printed
 
-  abbrev kept : Told
-  kept = after_acts (news_acts s a news) u
+    abbrev kept : Told
+    kept = after_acts (news_acts s a news) u
 
-  pub told_at : (text : List ℕ) → IsAt made_standing made_account (after_acts (telling_acts a s made text) u).here
-  told_at text = subst (λ (v : Told). IsAt made_standing made_account v.here) (sym (told_is s a made text u)) (print_at text made_standing made_account kept news_at)
+    pub told_at : (text : List ℕ) → IsAt made_standing made_account (after_acts (telling_acts a s made text) u).here
+    told_at text = subst (λ (v : Told). IsAt made_standing made_account v.here) (sym (told_is s a made text u)) (print_at text made_standing made_account kept news_at)
 
-  -- what stops leave meanwhile, of a line that goes so
-  module _ (Accepted : Type 0) (accepted : Accepted) (c : Course) (out : List ℕ) (before : c.before ≡ a) (after : c.after ≡ made_account) (store : u.here.store ≡ c.stored) (here : u.here.out ≡ out) where
-    news_store : kept.here.store ≡ c.stored
-    news_store = (acts_device (news_acts s a news) (news_off s a news) u).store ∙ store
+    -- what stops leave meanwhile, of a line that goes so
+    module _ (Accepted : Type 0) (accepted : Accepted) (c : Course) (out : List ℕ) (before : c.before ≡ a) (after : c.after ≡ made_account) (store : u.here.store ≡ c.stored) (here : u.here.out ≡ out) where
+      news_store : kept.here.store ≡ c.stored
+      news_store = (acts_device (news_acts s a news) (news_off s a news) u).store ∙ store
 
-    news_moment : (left : Left) → Moment (news_acts s a news) u left → CourseMoment Accepted c out left
-    news_moment left moment =
-        let leaves = kept_moment left news refl parts.1 moment in
-        let same : left.store ≡ c.stored = moment_store (news_acts s a news) (news_off s a news) u left moment ∙ store in
-        elim leaves.1 [
-          | inl without ↦ inl (record { recovers = subst (λ (b : State). Recovers b left) (sym before) without; store = inr same; text = leaves.0 ∙ here })
-          | inr has ↦ inr (
-            accepted,
-            inl (record {
-              recovers = subst (λ (b : State). Recovers b left) (account_is ∙ sym after) has;
-              store = same;
-              text = begins_nothing c.text (record u.here { out = out }) left (leaves.0 ∙ here);
-            }),
-          )
-        ]
+      news_moment : (left : Left) → Moment (news_acts s a news) u left → CourseMoment Accepted c out left
+      news_moment left moment =
+          let leaves = kept_moment left news refl parts.1 moment in
+          let same : left.store ≡ c.stored = moment_store (news_acts s a news) (news_off s a news) u left moment ∙ store in
+          elim leaves.1 [
+            | inl without ↦ inl (record { recovers = subst (λ (b : State). Recovers b left) (sym before) without; store = inr same; text = leaves.0 ∙ here })
+            | inr has ↦ inr (
+              accepted,
+              inl (record {
+                recovers = subst (λ (b : State). Recovers b left) (account_is ∙ sym after) has;
+                store = same;
+                text = begins_nothing c.text (record u.here { out = out }) left (leaves.0 ∙ here);
+              }),
+            )
+          ]
 
-    pub told_moment : (left : Left) → Moment (telling_acts a s made c.text) u left → CourseMoment Accepted c out left
-    told_moment left moment = elim (moment_parts (news_acts s a news) (print_acts c.text) u left moment) [
-      | inl keeping ↦ news_moment left keeping
-      | inr printing ↦ text_moment Accepted accepted c out kept made_standing (subst (λ (b : State). IsAt made_standing b kept.here) (sym after) news_at) news_store (news_out s a news u ∙ here) left printing
-    ]
+      pub told_moment : (left : Left) → Moment (telling_acts a s made c.text) u left → CourseMoment Accepted c out left
+      told_moment left moment = elim (moment_parts (news_acts s a news) (print_acts c.text) u left moment) [
+        | inl keeping ↦ news_moment left keeping
+        | inr printing ↦ text_moment Accepted accepted c out kept made_standing (subst (λ (b : State). IsAt made_standing b kept.here) (sym after) news_at) news_store (news_out s a news u ∙ here) left printing
+      ]

@@ -43,9 +43,7 @@ use Rattle.ras_run.proofs.AskingLemmas.{asked_then, listing_refused}
 use Rattle.ras_run.proofs.ClearLemmas.{CanClear, clear_kept, cleared_does, failed_does, failed_ends}
 use Rattle.ras_run.proofs.CountLemmas.{counted_still, counts_unless, cut_short, end_is_bad, ends_unless, print_exit}
 use Rattle.ras_run.proofs.PrintActLemmas.{told_off}
-
-same_told : (t u : Told) → Some t ≡ Some u → t ≡ u
-same_told t u is = cc
+use Rattle.ras_run.proofs.StandsLemmas.{same_told}
 
 -- ---- a look
 

@@ -31,6 +31,7 @@ use Rattle.ras_run.specs.Files.{refusal_exit}
 use Rattle.ras_run.specs.LineActs.{DoesReopening, event_prints}
 use Rattle.ras_run.specs.Taking.{OpensLedger}
 use Rattle.ras_run.proofs.OpenLemmas.{CountsEarlier, here_kept, opening_left}
+use Rattle.ras_run.proofs.StandsLemmas.{same_told}
 
 -- ---- calls that write nothing, as acts
 
@@ -43,9 +44,6 @@ reading_still : (made : List DiskCall) (t : Told) → AreStill (map calls made) 
 reading_still made t = record { here = ap (λ (u : Told). u.here) (after_reading made t); moments = reading_moment made t }
 
 -- ---- what is told of an opening over a journal that stands
-
-same_told : (u t : Told) → Some u ≡ Some t → u ≡ t
-same_told u t is = cc
 
 pub opened_at : (a b : Option Told) (t : Told) → a ≡ Some t → Relates AfterOpening a b → (u : Told) × (b ≡ Some u) × AfterOpening t u
 opened_at a b t is tells = by b refl (subst (λ (o : Option Told). Relates AfterOpening o b) is tells)

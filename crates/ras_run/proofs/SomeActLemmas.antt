@@ -9,7 +9,7 @@ use Rattle.ras_events.specs.declared.event.Event.{Event}
 use Rattle.ras_events.specs.declared.event.LineRefusal.{LineRefusal}
 use Rattle.ras_events.specs.Reports.{Place, event_at}
 use Rattle.ras_exit.specs.declared.exit.Exit.{Exit}
-use Rattle.ras_run.specs.Deeds.{Asking, Deed, deed_of, reopens}
+use Rattle.ras_events.specs.Deeds.{Asking, Deed, deed_of, reopens}
 use Rattle.ras_run.specs.LineActs.{AreActsIn, AreFollowingIn, AreLineActs, AreUnlessRefused, IsReadAgain, asking_by, deed_acts}
 use Rattle.ras_run.specs.Places.{Start}
 use Rattle.ras_run.specs.Status.{site_refusal}

@@ -19,7 +19,7 @@ use Rattle.ras_run.specs.declared.ledger.Ledger.{Ledger}
 use Rattle.ras_records.proofs.ClearingLemmas.{calls_keep}
 use Rattle.ras_run.specs.Taking.{IsReady}
 
-same_told : (u t : Told) → Some u ≡ Some t → u ≡ t
+pub same_told : (u t : Told) → Some u ≡ Some t → u ≡ t
 same_told u t is = cc
 
 pub before_of : (s : Standing) (a : State) (told : Option Told) (clock : Clock) (t : Told) → Stands s a told clock → told ≡ Some t → Before s a t told clock

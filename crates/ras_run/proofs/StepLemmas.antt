@@ -36,7 +36,7 @@ use Rattle.ras_records.specs.Polls.{look_calls, readable_ids}
 use Rattle.ras_texts.specs.Text.{done_line}
 use Rattle.ras_run.specs.declared.run.Run.{Run}
 use Rattle.ras_run.specs.LineActs.{AreActsIn, AreBegunIn, AreFollowingIn, AreUnlessRefused, AskingEnds, CanAsk, DoesAsking, DoesPoll, DoesReopening, TakesEvent, asking_by, event_prints, made_acts, polled_acts}
-use Rattle.ras_run.specs.Deeds.{deed_of}
+use Rattle.ras_events.specs.Deeds.{deed_of}
 use Rattle.ras_run.specs.Places.{Start, has_no_room_for, standing_with_news}
 use Rattle.ras_run.specs.Status.{counting_refusal, put_refusal, site_refusal, refused_exit, saving_refusal}
 use Rattle.ras_run.specs.Step.{IsDrivable, Site, driving_lists, site_at, site_of}

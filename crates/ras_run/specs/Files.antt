@@ -20,7 +20,3 @@ files_refusal here = refusal_exit (recovered here.file0 here.file1)
 pub record KeepsFiles (old new : Told) : Type 0 where
   pub file0 : new.here.file0 ≡ old.here.file0
   pub file1 : new.here.file1 ≡ old.here.file1
-
--- so they are if they refuse an opening
-abbrev pub KeepsRefused : Told → Told → Type 0
-KeepsRefused old new = (why : Refusal) → recovered old.here.file0 old.here.file1 ≡ Err why → KeepsFiles old new

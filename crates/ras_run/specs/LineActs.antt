@@ -36,7 +36,8 @@ use Rattle.ras_texts.specs.Orders.{standing_lines}
 use Rattle.ras_texts.specs.Text.{done_line}
 use Rattle.ras_events.specs.declared.settings.Settings.{Settings}
 use Rattle.ras_run.specs.declared.run.Run.{Run}
-use Rattle.ras_run.specs.Deeds.{Asking, Deed, deed_done, deed_of, deed_pieces, deed_text, polls, puts, reopens, saves}
+use Rattle.ras_events.specs.Deeds.{Asking, Deed, deed_of, polls, puts, reopens, saves}
+use Rattle.ras_run.specs.Deeds.{deed_done, deed_pieces, deed_text}
 use Rattle.ras_run.specs.Places.{IsBoardAfter, Start, account_at, standing_at}
 use Rattle.ras_run.specs.Status.{polling_refusal, site_refusal}
 use Rattle.ras_run.specs.Step.{Site, driving_lists, site_at}

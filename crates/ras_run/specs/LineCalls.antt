@@ -6,7 +6,8 @@ use Rattle.journal_format.specs.Links.{link_bytes}
 use Rattle.ras_account.specs.Numbers.{fresh_entries_in}
 use Rattle.ras_facts.specs.declared.entry.Entry.{Entry}
 use Rattle.ras_recover.specs.OpeningCalls.{IsRecoveryOf}
-use Rattle.ras_run.specs.Deeds.{Asking, Deed, deed_of, deed_pieces, reopens}
+use Rattle.ras_events.specs.Deeds.{Asking, Deed, deed_of, reopens}
+use Rattle.ras_run.specs.Deeds.{deed_pieces}
 use Rattle.ras_run.specs.KeepingCalls.{IsKeeping}
 use Rattle.ras_events.specs.Making.{entries_in}
 use Rattle.ras_events.specs.Reports.{Place, event_at}

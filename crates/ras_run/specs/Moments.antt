@@ -10,7 +10,8 @@ use Rattle.ras_events.specs.Reports.{Place, event_at}
 use Rattle.ras_events.specs.Stores.{unreadable, without_first}
 use Rattle.ras_exit.specs.declared.exit.Exit.{Exit}
 use Rattle.ras_exit.specs.declared.exit.Exit.TheVariants.{ErstBusy}
-use Rattle.ras_run.specs.Deeds.{Deed, clears_by, deed_done, deed_of, deed_text, store_asked}
+use Rattle.ras_events.specs.Deeds.{Deed, deed_of}
+use Rattle.ras_run.specs.Deeds.{clears_by, deed_done, deed_text, store_asked}
 use Rattle.ras_run.specs.Places.{Start, account_at}
 use Rattle.ras_run.specs.Step.{Site, site_at}
 

@@ -3,7 +3,8 @@ use Rattle.std.specs.Prelude.{ℕ, List, ◌++◌, Result}
 use Rattle.ras_events.specs.declared.event.Event.{Event}
 use Rattle.ras_events.specs.declared.event.LineRefusal.{LineRefusal}
 use Rattle.ras_events.specs.Reports.{NumberedLine, Place, event_at}
-use Rattle.ras_run.specs.Deeds.{deed_done, deed_of, deed_text}
+use Rattle.ras_events.specs.Deeds.{deed_of}
+use Rattle.ras_run.specs.Deeds.{deed_done, deed_text}
 use Rattle.ras_run.specs.Places.{Start}
 use Rattle.ras_run.specs.Step.{site_at}
 

@@ -11,9 +11,7 @@ use Rattle.ras_account.specs.Numbers.{are_past, fresh_entries_in, numbers_with}
 use Rattle.journal_format.specs.Links.{link_bytes}
 use Rattle.ras_journal.specs.declared.standing.Standing.{Standing}
 use Rattle.ras_run.specs.Keeping.{lacks_room, standing_kept}
-use Rattle.ras_events.specs.declared.made.Piece.{Piece}
-use Rattle.ras_events.specs.Making.{polled}
-use Rattle.ras_events.specs.Reports.{NumberedLine, Place, entries_at, reports, settings_told}
+use Rattle.ras_events.specs.Reports.{NumberedLine, Place, entries_at, reports}
 use Rattle.ras_events.specs.Stores.{laid}
 
 -- where a run begins: the account that its journal has, the journal's position, the record store, and how many busy
@@ -30,10 +28,6 @@ account_at start before = account_after_all start.account (reports start.store b
 
 abbrev pub store_at : Start → List NumberedLine → List Stored
 store_at start before = laid start.store before
-
--- what a poll makes after lines, at a time in seconds
-abbrev pub polled_at : Start → List NumberedLine → ℕ → List Piece
-polled_at start before seconds = polled (settings_told before).topology seconds (store_at start before)
 
 -- the position once an event's new entries are kept after an account: they are one link, and without new entries
 -- there is no link

@@ -21,7 +21,8 @@ use Rattle.ras_exit.specs.declared.exit.Exit.{Exit}
 use Rattle.ras_exit.specs.declared.exit.Exit.TheVariants.{BadLine, RegisterFault, Full, ErstRefused, ErstBusy, ErstStatus, NoMemory}
 use Rattle.ras_run.specs.Places.{Start, has_no_room_for}
 use Rattle.ras_run.specs.Step.{Site, site_at}
-use Rattle.ras_run.specs.Deeds.{Asking, Deed, deed_counts, deed_of, polls, puts, saves}
+use Rattle.ras_events.specs.Deeds.{Asking, Deed, deed_of, polls, puts, saves}
+use Rattle.ras_run.specs.Deeds.{deed_counts}
 
 -- how a run ends at a line that is refused by what it asks for
 abbrev pub refused_exit : ℕ → LineRefusal → Exit

@@ -1,0 +1,49 @@
+-- What an event does, whatever its kind: one deed.
+use Rattle.std.specs.Prelude.{ℕ, Bool, true, false, List, Option, None, Some, Result, Ok}
+use Rattle.dimm_topology.specs.declared.row.Row.{Row}
+use Rattle.erst_store.specs.Store.{Stored}
+use Rattle.ras_events.specs.declared.event.Event.{Event}
+use Rattle.ras_events.specs.declared.event.Event.TheVariants.{Settled, Counted, Put, Saved, Polled, Reopened}
+use Rattle.ras_events.specs.declared.event.LineRefusal.{LineRefusal}
+use Rattle.ras_events.specs.declared.made.Piece.{Piece}
+use Rattle.ras_events.specs.Making.{polled}
+
+-- What an event asks for before all else: nothing; that a record is put into the record store by one call, or saved
+-- there by the table's write operation; that the store's records are read, at a time in seconds; or that the journal is
+-- opened again.
+pub data Asking : Type 0 where
+  nothing : Asking
+  puts : Stored → Asking
+  saves : Stored → Asking
+  polls : ℕ → Asking
+  reopens : Asking
+
+-- What an event does: it asks for something, it counts the pieces that its line reports, if it reports some, and it may
+-- end with a done line.
+pub record Deed : Type 0 where
+  pub asks : Asking
+  pub reported : Option (List Piece)
+  pub has_done_line : Bool
+
+abbrev pub asking : Asking → Deed
+asking asks = record { asks = asks; reported = None; has_done_line = true }
+
+abbrev pub no_deed : Deed
+no_deed = record { asks = nothing; reported = None; has_done_line = false }
+
+-- The deed of each kind of event. A line that asks for nothing does nothing, and so does one that is refused.
+abbrev pub deed_of : Result Event LineRefusal → Deed
+deed_of (Ok Settled) = asking nothing
+deed_of (Ok (Counted made)) = record { asks = nothing; reported = Some made; has_done_line = true }
+deed_of (Ok (Put id bytes)) = asking (puts (record { id = id; bytes = bytes }))
+deed_of (Ok (Saved id bytes)) = asking (saves (record { id = id; bytes = bytes }))
+deed_of (Ok (Polled seconds)) = asking (polls seconds)
+deed_of (Ok Reopened) = asking reopens
+deed_of event = no_deed
+
+-- The pieces, if it counts some: those that its line reports, or those that a poll makes of the records, by the rows of
+-- the machine and the records of the store at that time.
+abbrev pub counted_in : List Row → List Stored → Asking → Option (List Piece) → Option (List Piece)
+counted_in rows store nothing reported = reported
+counted_in rows store (polls seconds) reported = Some (polled rows seconds store)
+counted_in rows store asks reported = None
