@@ -15,8 +15,8 @@ ghost use Rattle.ras_run.specs.KeepingCalls.{IsKeeping};
 
 /// What keeping a link leaves, by its acts, if a switch that is due can be made and has room.
 pub fn keeping_laws()
-    // From whatever a crash meanwhile leaves, the account is recovered without the link or with it;
-    // the printed text and the record store are unchanged.
+    // From whatever a crash meanwhile leaves, the account is recovered without the link or with it.
+    // The printed text and the record store are unchanged.
     ensures moments { (standing : Standing) (account : State) (entries : List Entry)
         (link : List ℕ) (t : Told) (left : Left)
         → CanMake standing account link → ¬ IsTrue (lacks_room standing account link)
