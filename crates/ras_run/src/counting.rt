@@ -1,15 +1,13 @@
 //! An event that counts what was made of its line.
 
-ghost use Rattle.std.specs.Prelude.{◌≡◌, ◌++◌, IfErr, IfOk, IfSome, OnOk};
+ghost use Rattle.std.specs.Prelude.{◌≡◌, ◌++◌, IfOk, IfSome, OnOk};
 ghost use Rattle.board_core.specs.Doing.{Does};
 ghost use Rattle.ras_account.specs.Continued.{account_after_all};
 ghost use Rattle.ras_events.specs.Preparing.{CanTake};
 ghost use Rattle.ras_events.specs.Preparing.{news_entries, orders_along_entries};
 ghost use Rattle.ras_events.specs.Sizes.{IsFit};
 ghost use Rattle.ras_exit.specs.Acts.{part_end};
-ghost use Rattle.ras_exit.specs.Causes.{BoardCause, Causes};
-ghost use Rattle.ras_exit.specs.Endings.{IsStop};
-ghost use Rattle.ras_run.specs.LineActs.{made_acts, news_acts, told_acts};
+ghost use Rattle.ras_run.specs.LineActs.{news_acts, told_acts};
 ghost use Rattle.ras_run.specs.Taking.{CanBeKept, CountsMade, CountsNews};
 ghost use Rattle.ras_run.specs.Taking.{IsReady};
 ghost use Rattle.ras_texts.specs.OrderRoom.{HasOrderRoom};
@@ -23,44 +21,15 @@ use ras_events::{Made, News, PrepareRefused, Prepared, count, prepare};
 use ras_exit::{Exit, print};
 use std::alloc::Global;
 
-/// Counts what was made of the line of this number: all memory is taken first, then the news are
-/// kept in the journal, then counted, and then the event's text and its done line are printed.
-///
-/// # Errors
-///
-/// `Full` comes exactly if the account has no room for the news, or the journal none for their
-/// link. `DiskFault` and `PrintFault` come only if such a call failed. `NoMemory` comes only if
-/// memory runs out, and never after the news are kept.
-pub fn take_made<B: Board>(
-    alloc: Global,
-    number: u64,
-    made: Made,
-    ledger: &mut Ledger,
-    board: &mut B,
-) -> Result<(), Exit>
-    requires fit { IsFit made }
-    requires ready { IsReady ledger.old (B.seen board.old).told (B.seen board.old).clock }
-
-    ensures counts { CountsMade made result ledger.old ledger.new }
-    ensures does { Does B.seen
-        (made_acts ledger.old.account.state number ledger.old.journal.standing made)
-        (part_end result) board.old board.new }
-    ensures ready { OnOk result
-        (IsReady ledger.new (B.seen board.new).told (B.seen board.new).clock) }
-    ensures stop { IfErr result IsStop }
-    ensures faults { Causes BoardCause result (B.seen board.old).faults (B.seen board.new).faults }
-{
-    let done = tell_made(alloc, number, made, ledger, board)?;
-    print(&done, board)
-}
-
 /// Returns the done line of the event, once all but that line is done: all memory is taken first,
 /// then what is news of what was made of the line of this number is kept in the journal, then it is
 /// counted, and then the event's text is printed.
 ///
 /// # Errors
 ///
-/// As `take_made`.
+/// `Full` comes exactly if the account has no room for the news, or the journal none for their
+/// link. `DiskFault` and `PrintFault` come only if such a call failed. `NoMemory` comes only if
+/// memory runs out, and never after the news are kept.
 pub(crate) fn tell_made<B: Board>(
     alloc: Global,
     number: u64,

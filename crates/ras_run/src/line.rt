@@ -21,7 +21,7 @@ ghost use Rattle.ras_run.specs.Taking.{IsPrintExit, IsReady, IsRunAfter, LedgerS
 ghost use Rattle.ras_run.specs.Taking.{Reopens, TakesLine};
 ghost use Rattle.ras_texts.specs.Text.{known_line};
 
-use crate::counting::take_made;
+use crate::counting::tell_made;
 use crate::opening::open;
 use crate::polling::poll_store;
 use crate::printing::print_event;
@@ -31,7 +31,7 @@ use board_core::Board;
 use erst_driver::Driver;
 use ras_account::Account;
 use ras_events::{Event, EventRefused, LineRefusal, Settings};
-use ras_exit::Exit;
+use ras_exit::{Exit, print};
 use ras_facts::Name;
 use ras_script::{Line, read_line};
 use ras_texts::{done_line, push_done, push_known, standing_lines};
@@ -113,7 +113,10 @@ fn take_read<B: Board>(
     match event {
         Event::Nothing => Ok(()),
         Event::Settled => end_event(alloc, number, &[], board),
-        Event::Counted(made) => take_made(alloc, number, made, &mut run.ledger, board),
+        Event::Counted(made) => {
+            let done = tell_made(alloc, number, made, &mut run.ledger, board)?;
+            print(&done, board)
+        }
         Event::Put { id, bytes } => put_record(alloc, number, id, bytes.bytes(), board),
         Event::Saved { id, bytes } => {
             let driver = driver_of(&run.settings, number)?;

@@ -1,4 +1,5 @@
-use Rattle.std.proofs.Common.{◌∙◌, List, Ok, ap, refl, subst, sym}
+use Rattle.std.proofs.Common.{◌∙◌, Err, List, Ok, ap, refl, subst, sym}
+use Rattle.std.proofs.lemmas.Result.{err_from_is_err_and}
 use Rattle.board_core.specs.Doing.{Act, Does}
 use Rattle.ras_events.specs.declared.event.Event.{Event}
 use Rattle.ras_events.specs.declared.event.Event.TheVariants.{Counted, Nothing, Polled, Put, Reopened, Saved, Settled}
@@ -12,7 +13,7 @@ use Rattle.erst_driver.proofs.DoesLemmas.{at_told}
 use Rattle.ras_run.specs.Status.{put_refusal, saving_refusal}
 use Rattle.ras_run.specs.Step.{IsDrivable}
 use Rattle.ras_run.specs.Taking.{EndsUnless}
-use Rattle.ras_run.proofs.CountLemmas.{repeat_acts, repeat_counted}
+use Rattle.ras_run.proofs.CountLemmas.{counted_still, cut_short, not_told, print_exit, repeat_acts, repeat_counted, told_done}
 use Rattle.ras_run.proofs.StandsLemmas.{ready_printed}
 use Rattle.ras_run.proofs.StepLemmas.{asked_for, counted_in, not_undriven, nothing_in, polled_in, put_in, refused_for, reopened_in, saved_in, settled_in, starved_in, still_drivable}
 use Rattle.ras_run.proofs.line.take_read.Goals as goal
@@ -60,14 +61,33 @@ returns-in-Settled-clause-takes g c = λ t at drivable.
     asked_for see old run c.args.number t c.end_event.result c.args.board.now c.end_event.new.board c.args.line c.in-Ok.ensures.settings (Ok Settled) (c.in-Ok.ensures.event ∙ ap (λ (e : Event). Ok e) c.in-Settled.is)
     (settled_in see old run c.args.number t c.end_event.result c.args.board.now c.end_event.new.board refl refl c.end_event.ensures.exit c.end_event.ensures.does)
 
-pub returns-in-Counted-clause-takes : goal.returns-in-Counted-clause-takes
-returns-in-Counted-clause-takes g c = λ t at drivable.
+pub returns-in_err-done-in-Counted-clause-takes : goal.returns-in_err-done-in-Counted-clause-takes
+returns-in_err-done-in-Counted-clause-takes g c = λ t at drivable.
     let see = g.B.Board.seen in
     let old = c.args.run.now in
-    let run = record old { settings = c.take.new.self; ledger = c.take_made.new.ledger } in
-    let fit : IsFit c.in-Counted.made = rw c.in-Counted.is at c.in-Ok.ensures.fit in
-    asked_for see old run c.args.number t c.take_made.result c.args.board.now c.take_made.new.board c.args.line c.in-Ok.ensures.settings (Ok (Counted c.in-Counted.made)) (c.in-Ok.ensures.event ∙ ap (λ (e : Event). Ok e) c.in-Counted.is)
-    (counted_in see old run c.args.number t c.take_made.result c.args.board.now c.take_made.new.board c.in-Counted.made fit c.take_made.ensures.counts c.take_made.ensures.does)
+    let run = record old { settings = c.take.new.self; ledger = c.tell_made.new.ledger } in
+    let made = c.in-Counted.made in
+    let fit : IsFit made = rw c.in-Counted.is at c.in-Ok.ensures.fit in
+    let exit = c.in_err-done-in-Counted.field-0.0 in
+    let p = err_from_is_err_and c.from_residual.result c.from_residual.ensures.1 in
+    rw (p.1, p.2)
+    (asked_for see old run c.args.number t (Err exit) c.args.board.now c.tell_made.new.board c.args.line c.in-Ok.ensures.settings (Ok (Counted made)) (c.in-Ok.ensures.event ∙ ap (λ (e : Event). Ok e) c.in-Counted.is)
+    (counted_in see old run c.args.number t (Err exit) c.args.board.now c.tell_made.new.board made fit c.in_err-done-in-Counted.ensures.counts
+    (not_told see old.ledger.account.state c.args.number old.ledger.journal.standing made exit _ _ c.in_err-done-in-Counted.ensures.does)))
+
+pub returns-in_ok-done-in-Counted-clause-takes : goal.returns-in_ok-done-in-Counted-clause-takes
+returns-in_ok-done-in-Counted-clause-takes g c = λ t at drivable.
+    let see = g.B.Board.seen in
+    let old = c.args.run.now in
+    let run = record old { settings = c.take.new.self; ledger = c.tell_made.new.ledger } in
+    let made = c.in-Counted.made in
+    let fit : IsFit made = rw c.in-Counted.is at c.in-Ok.ensures.fit in
+    let told = c.in_ok-done-in-Counted.ensures in
+    let result = c.print.result in
+    asked_for see old run c.args.number t result c.args.board.now c.print.new.board c.args.line c.in-Ok.ensures.settings (Ok (Counted made)) (c.in-Ok.ensures.event ∙ ap (λ (e : Event). Ok e) c.in-Counted.is)
+    (counted_in see old run c.args.number t result c.args.board.now c.print.new.board made fit
+    (counted_still made old.ledger run.ledger result told.counts (cut_short result (print_exit result c.print.ensures.exit)))
+    (told_done see old.ledger.account.state c.args.number old.ledger.journal.standing made c.deref.result.now result _ _ _ (c.deref.ensures.value ∙ told.done) told.does c.print.ensures.does c.print.ensures.exit))
 
 pub returns-in-Put-clause-takes : goal.returns-in-Put-clause-takes
 returns-in-Put-clause-takes g c = λ t at drivable.
