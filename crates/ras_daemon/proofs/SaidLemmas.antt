@@ -134,13 +134,19 @@ stop_exit (ErstStatus code) some = some
 stop_exit exit any = tt
 
 -- where the orders weren't printed
-pub print_exit : (exit : Exit) → IsPrintExit exit → IsRunExit exit
-print_exit Usage never = never
-print_exit (ErstStatus code) never = absurd never
-print_exit exit any = tt
+pub print_line_exit : (exit : Exit) → IsPrintExit exit → IsLineExit exit
+print_line_exit Done never = never
+print_line_exit Usage never = never
+print_line_exit (ErstStatus code) never = absurd never
+print_line_exit exit any = tt
 
 pub print_not_done : (exit : Exit) → IsPrintExit exit → exit ≡ Done → ⊥
 print_not_done exit ends done = subst IsPrintExit done ends
+
+-- their exit is no answer, so the run ends with it
+pub orders_end : {X : Type 0} (see : X → Seen) (exit ended result : Exit) (line : List ℕ) (a b new : X) → IsPrintExit exit → ended ≡ exit → b ≡ a → Ends see ended result line b new → (result ≡ exit) × (new ≡ a)
+orders_end see exit ended result line a b new ends is same (inl said) = absurd (subst (EndsBy ⊥ ⊤ (OnlyFault print_call)) (answers exit (subst IsAnswer is said.0)) ends)
+orders_end see exit ended result line a b new ends is same (inr cut) = (cut.1 ∙ is, cut.2 ∙ same)
 
 -- a last line is behind an exit, or there is a fault, or want of memory
 pub end_exit : {X : Type 0} (see : X → Seen) (exit result : Exit) (line : List ℕ) (a b : X) → IsRunExit exit → Ends see exit result line a b → IsRunExit result

@@ -1,17 +1,18 @@
 -- A script is taken: the orders are printed, then lines are taken, and then the run ends.
 use Rattle.std.proofs.Common.{◌≡◌, ℕ, true, List, [], ◌++◌, Result, Ok, Err, refl, ap, sym, ◌∙◌, subst, append_assoc, append-nil, inl, inr}
-use Rattle.std.specs.Prelude.{⊤}
+use Rattle.std.specs.Prelude.{⊤, IfErr}
 use Rattle.board_core.specs.Cause.{print_call}
 use Rattle.board_core.specs.Doing.{Act, Breaks, Does, Ended, GoesWell, IsMade, Seen, after_acts, broke, went_well}
 use Rattle.board_core.specs.Told.{Told}
 use Rattle.board_core.proofs.DoingLemmas.{after-append, does_first, does_then}
 use Rattle.ras_base.specs.Places.{places}
 use Rattle.ras_account.specs.Account.{State}
+use Rattle.line_filters.specs.Steps.Filtering.{exit_of}
 use Rattle.ras_events.specs.Reports.{NumberedLine}
 use Rattle.ras_exit.specs.Acts.{AreStill, end_of, print_acts}
 use Rattle.ras_exit.specs.Endings.{CallEnding, EndsBy, IsAnswer, IsLineExit, OnlyFault, answered, ending_of, faulted, is_answered, source_failed, starved}
 use Rattle.ras_exit.specs.declared.exit.Exit.{Exit}
-use Rattle.ras_exit.specs.declared.exit.Exit.TheVariants.{Done}
+use Rattle.ras_exit.specs.declared.exit.Exit.TheVariants.{Done, SourceFault}
 use Rattle.ras_exit.proofs.EndingLemmas.{memory_ran_out, not_both}
 use Rattle.ras_exit.proofs.PrintLemmas.{none_still}
 use Rattle.ras_run.specs.declared.run.Run.{Run}
@@ -29,6 +30,14 @@ use Rattle.ras_daemon.proofs.ScriptLemmas.{script_begun}
 abbrev pub EndsAs : Result (Unit {0}) Exit → Exit → Type 0
 EndsAs (Ok done) exit = exit ≡ Done
 EndsAs (Err found) exit = (exit ≡ found) × IsLineExit found
+
+pub ends_as : (lines : Result (Unit {0}) Exit) → IfErr lines IsLineExit → EndsAs lines (exit_of lines)
+ends_as (Ok done) stop = refl
+ends_as (Err found) stop = (refl, stop)
+
+pub source_fault : (lines : Result (Unit {0}) Exit) → exit_of lines ≡ SourceFault → lines ≡ Err SourceFault
+source_fault (Ok done) fault = absurd cc
+source_fault (Err found) fault = ap Err fault
 
 pub answers : (exit : Exit) → IsAnswer exit → ending_of exit ≡ answered
 answers exit is = by (ending_of exit) is

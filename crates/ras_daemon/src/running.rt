@@ -1,12 +1,12 @@
 //! A run: opens the journal and processes the script.
 
-ghost use Rattle.std.specs.Prelude.{◌≡◌, ℕ, List, [], Some};
+ghost use Rattle.std.specs.Prelude.{◌≡◌, ℕ, List, Some};
 ghost use Rattle.board_core.specs.Told.{Told};
 ghost use Rattle.ras_account.specs.Accounts.{IsAccount};
 ghost use Rattle.line_filters.specs.Numbered.{no_lines};
-ghost use Rattle.ras_run.specs.LineActs.{HoldsAfter};
+ghost use Rattle.line_filters.specs.Steps.Filtering.{exit_of};
 ghost use Rattle.ras_run.specs.Places.{Start};
-ghost use Rattle.ras_run.specs.Taking.{IsReady, IsRunAfter};
+ghost use Rattle.ras_run.specs.Taking.{IsReady};
 ghost use Rattle.ras_daemon.specs.Ahead.{TakesBy};
 ghost use Rattle.ras_daemon.specs.Commands.{IsRunExit};
 ghost use Rattle.ras_daemon.specs.Steps.Doing.{Comes, ComesScript};
@@ -51,9 +51,9 @@ pub fn run<S: Source, B: Board>(alloc: Global, source: &mut S, board: &mut B) ->
     }
 }
 
-// Processes a script over a journal that was just opened. It owns the run and has one exit;
-// `take_from` borrows the run and has the others, because each exit of an owner has to drop what it
-// owns, which costs many seconds of proof.
+// Processes a script over a journal that was just opened: prints the outstanding orders, processes
+// the lines, and prints the last line. It has one exit, because each exit of a function that owns a
+// run has to drop the run, which costs many seconds of proof.
 fn take_script<S: Source, B: Board>(
     alloc: Global,
     lines: &mut NumberedLines,
@@ -79,35 +79,19 @@ fn take_script<S: Source, B: Board>(
         ledger,
         text: Vec::new(alloc),
     };
-    take_from(alloc, lines, &mut run, source, board)
+    let ended = match print_standing(alloc, &run.ledger.account, board) {
+        Ok(()) => take_lines(alloc, lines, &mut run, source, board),
+        Err(exit) => Err(exit),
+    };
+    end_run(alloc, exit_of(ended), &run.ledger.account, board)
 }
 
-// Prints the outstanding orders, processes the lines of the script, and prints the last line.
-fn take_from<S: Source, B: Board>(
-    alloc: Global,
-    lines: &mut NumberedLines,
-    run: &mut Run,
-    source: &mut S,
-    board: &mut B,
-) -> Exit
-    requires fresh { lines.old ≡ no_lines }
-    requires ready { IsReady run.old.ledger (B.seen board.old).told (B.seen board.old).clock }
-
-    ensures comes { (start : Start) (script : List ℕ) (t : Told) → IsRunAfter start [] run.old
-        → S.left source.old ≡ Some script → (B.seen board.old).told ≡ Some t → HoldsAfter start [] t
-        → ComesScript B.seen (source.new ≡ source.old) start script t
-        result (S.left source.new) board.old board.new }
-    ensures takes { TakesBy result (S.left source.old) (S.left source.new) }
-    ensures causes { Caused result (S.faults source.old) (S.faults source.new)
-        (B.seen board.old).faults (B.seen board.new).faults }
-    ensures exits { IsRunExit result }
+// Returns the exit of a run that ended so.
+fn exit_of(ended: Result<(), Exit>) -> Exit
+    ensures { result ≡ exit_of ended }
 {
-    if let Err(exit) = print_standing(alloc, &run.ledger.account, board) {
-        return exit;
-    }
-    let exit = match take_lines(alloc, lines, run, source, board) {
+    match ended {
         Ok(()) => Exit::Done,
         Err(exit) => exit,
-    };
-    end_run(alloc, exit, &run.ledger.account, board)
+    }
 }
