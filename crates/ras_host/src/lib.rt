@@ -4,9 +4,10 @@
 //! `journal` opens, reads and syncs the journal's files, `kept` has the device and writes its record
 //! store to the store's file, and `file_board` writes the journal's files, prints, and counts the
 //! calls that failed: all three are proved over every modelled system. `over_kernel` is such a system
-//! over every modelled kernel: it decides which calls of the operating system are made, and `names`
-//! checks the files that the names refer to. `over_input` is the input over the kernel's read.
-//! `real_kernel` and `real_input` make the calls, whose effects no clause covers.
+//! over every modelled kernel: it decides which calls of the operating system are made, `names`
+//! checks the files that the names refer to, and `long_files` has which of them a sync needn't ask
+//! for their length. `over_input` is the input over the kernel's read. `real_kernel` and `real_input`
+//! make the calls, whose effects no clause covers.
 #![tactic(auto)]
 
 mod faults;
@@ -15,6 +16,7 @@ mod file_source;
 mod journal;
 mod kept;
 mod listed;
+mod long_files;
 mod names;
 mod over_input;
 mod over_kernel;

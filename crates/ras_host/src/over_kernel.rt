@@ -1,12 +1,15 @@
 //! The system over a kernel: which calls each call of the system makes, and in which order.
 ghost use Rattle.std.specs.Prelude.{◌≡◌, ◌≢◌, ◌≤◌, length, take, IfSome, IfOk, IfErr, OnOk, OnErr};
+ghost use Rattle.std.proofs.Props.{props};
 ghost use Rattle.std.specs.Option.{option_map};
-ghost use Rattle.host_system.specs.Folder.{made, opens, locks, loses, removed, synced, synced_names};
-ghost use Rattle.host_system.specs.FolderPast.{Did, IfTold, HasFile, IsMissing, IsOpen, IsNotLost, MayDo, bytes_named, length_told};
-ghost use Rattle.host_system.specs.Kernel.{FailsSync, MaySync, name_of};
+ghost use Rattle.host_system.specs.Folder.{wrote, made, opens, locks, loses, removed, synced, synced_names};
+ghost use Rattle.host_system.specs.FolderPast.{Did, IfTold, HasFile, IsMissing, IsOpen, IsNotLost, MayBeWritten, MayDo, MayWrite, bytes_named, file_bytes, length_told};
+ghost use Rattle.host_system.specs.Kernel.{FailsSync, IsHeldBy, MaySync, name_of};
 ghost use Rattle.host_system.specs.View.{MayBeRead};
 ghost use Rattle.host_system.specs.declared.system.FileName.TheVariants.{Journal};
+ghost use Rattle.ras_host.specs.LongFiles.{AreLong, IsFoundLong};
 
+use crate::long_files::LongFiles;
 use crate::names::{check_names, keep_folder, look, open_to_read};
 use board_core::{Failed, FileNo};
 use host_system::{
@@ -26,6 +29,8 @@ const UNOWNED_MODE: u32 = 0o600;
 pub struct OverKernel<K: Kernel + Drop> {
     kernel: K,
     faults: u64,
+    long: LongFiles,
+    ghost known: { IfSome (K.told kernel) (AreLong long) } by { Prim.hlevel props },
 }
 
 impl<K: Kernel + Drop> OverKernel<K> {
@@ -34,7 +39,11 @@ impl<K: Kernel + Drop> OverKernel<K> {
         ensures kernel { result.kernel ≡ kernel }
         ensures quiet { result.faults ≡ 0 }
     {
-        OverKernel { kernel, faults: 0 }
+        OverKernel {
+            kernel,
+            faults: 0,
+            long: LongFiles::none(),
+        }
     }
 }
 
@@ -49,10 +58,12 @@ impl<K: Kernel + Drop> System for OverKernel<K> {
     }
 
     fn open(&mut self, name: FileName) -> Result<(), Failed> {
+        self.long.set(name, false);
         counted(open_file(&mut self.kernel, name), &mut self.faults)
     }
 
     fn make(&mut self, name: FileName) -> Result<(), Failed> {
+        self.long.set(name, false);
         counted(make_file(&mut self.kernel, name), &mut self.faults)
     }
 
@@ -68,16 +79,20 @@ impl<K: Kernel + Drop> System for OverKernel<K> {
         counted(self.kernel.pread(name, place, buf), &mut self.faults)
     }
 
+    #[tactic(auto, using(crate::proofs::LongLemmas::write_long))]
     fn write_at(&mut self, name: FileName, place: u64, bytes: &[u8]) -> Result<(), Failed> {
-        let answer = match check_to_write(&self.kernel, name, place, bytes) {
-            Ok(()) => self.kernel.pwrite(name, place, bytes),
-            Err(why) => Err(why),
-        };
-        counted(answer, &mut self.faults)
+        let checked = check_to_write(&self.kernel, name, place, bytes);
+        counted(checked, &mut self.faults)?;
+        counted(self.kernel.pwrite(name, place, bytes), &mut self.faults)?;
+        if place.saturating_add(bytes.len() as u64) > INLINE_LENGTH {
+            self.long.set(name, true);
+        }
+        Ok(())
     }
 
     fn sync(&mut self, name: FileName) -> Result<(), Failed> {
-        counted(sync_kept(&mut self.kernel, name), &mut self.faults)
+        let answer = sync_kept(&mut self.kernel, &mut self.long, name);
+        counted(answer, &mut self.faults)
     }
 
     fn sync_read(&mut self, file: FileNo) -> Result<(), Failed> {
@@ -85,11 +100,8 @@ impl<K: Kernel + Drop> System for OverKernel<K> {
     }
 
     fn remove(&mut self, name: FileName) -> Result<(), Failed> {
-        let answer = match name {
-            FileName::New => remove_new(&mut self.kernel),
-            _ => self.kernel.unlink(name),
-        };
-        counted(answer, &mut self.faults)
+        self.long.set(name, false);
+        counted(remove_file(&mut self.kernel, name), &mut self.faults)
     }
 
     fn rename(&mut self) -> Result<(), Failed> {
@@ -240,35 +252,69 @@ fn check_to_write<K: Kernel>(
 
 // Makes a file that is kept durable. The owner and the mode of a new store's file have to be durable
 // too.
-fn sync_kept<K: Kernel>(kernel: &mut K, name: FileName) -> Result<(), Refusal>
+fn sync_kept<K: Kernel>(kernel: &mut K, long: &mut LongFiles, name: FileName) -> Result<(), Refusal>
     requires there { IfSome (K.told kernel.old) (HasFile name) }
     requires open { IfSome (K.told kernel.old) (IsOpen name) }
+    requires known { IfSome (K.told kernel.old) (AreLong long.old) }
     ensures told { OnOk result (Did (synced name) (K.told kernel.old) (K.told kernel.new)) }
     ensures failed { OnErr result (Did (loses name) (K.told kernel.old) (K.told kernel.new)) }
+    ensures known { IfSome (K.told kernel.new) (AreLong long.new) }
 {
     match name {
         FileName::New => kernel.fsync(Held::Kept(name)),
-        _ => sync_bytes(kernel, Held::Kept(name)),
+        _ => {
+            let found = find_long(kernel, long, name);
+            sync_bytes(kernel, Held::Kept(name), found)
+        }
     }
 }
 
-// Makes a file's bytes durable, by its length.
-fn sync_bytes<K: Kernel>(kernel: &mut K, held: Held) -> Result<(), Refusal>
+// Returns whether a file that is kept is long. A file that is known to be long isn't asked.
+fn find_long<K: Kernel>(kernel: &K, long: &mut LongFiles, name: FileName) -> Result<bool, Refusal>
+    requires known { IfSome (K.told kernel.now) (AreLong long.old) }
+    ensures found { IfOk result (IsFoundLong name (K.told kernel.now)) }
+    ensures known { IfSome (K.told kernel.now) (AreLong long.new) }
+{
+    if long.knows(name) {
+        return Ok(true);
+    }
+    let is_long = is_long(kernel, Held::Kept(name))?;
+    if is_long {
+        long.set(name, true);
+    }
+    Ok(is_long)
+}
+
+// Returns whether a file is longer than `INLINE_LENGTH`.
+fn is_long<K: Kernel>(kernel: &K, held: Held) -> Result<bool, Refusal>
+    requires { IsHeldBy held (K.told kernel.now) (K.prepared kernel.now) }
+    ensures { IfOk result (IsFoundLong (name_of held) (K.told kernel.now)) }
+{
+    Ok(kernel.fstat(held)?.len() > INLINE_LENGTH)
+}
+
+// Makes a file's bytes durable, by whether it is long.
+fn sync_bytes<K: Kernel>(
+    kernel: &mut K,
+    held: Held,
+    found: Result<bool, Refusal>,
+) -> Result<(), Refusal>
     requires held { MaySync held (K.told kernel.old) (K.prepared kernel.old) }
+    requires found { IfOk found (IsFoundLong (name_of held) (K.told kernel.old)) }
     requires owned { name_of held ≢ FileName.New }
     ensures told { OnOk result (Did (synced (name_of held)) (K.told kernel.old)
         (K.told kernel.new)) }
     ensures failed { IfErr result (λ why. FailsSync held why (K.told kernel.old)
         (K.told kernel.new)) }
 {
-    let Ok(found) = kernel.fstat(held) else {
-        kernel.note(Note::Lost(name_of(held)));
-        return Err(Refusal::Other);
-    };
-    if found.len() <= INLINE_LENGTH {
-        return kernel.fsync(held);
+    match found {
+        Ok(true) => kernel.fdatasync(held),
+        Ok(false) => kernel.fsync(held),
+        Err(_) => {
+            kernel.note(Note::Lost(name_of(held)));
+            Err(Refusal::Other)
+        }
     }
-    kernel.fdatasync(held)
 }
 
 fn name_of(held: Held) -> FileName
@@ -310,11 +356,26 @@ fn sync_opened<K: Kernel>(kernel: &mut K, file: FileNo) -> Result<(), Refusal>
     ensures failed { OnErr result (Did (loses (Journal file)) (K.told kernel.old)
         (K.told kernel.new)) }
 {
-    let answer = sync_bytes(kernel, Held::Opened(FileName::Journal(file)));
+    let held = Held::Opened(FileName::Journal(file));
+    let found = is_long(kernel, held);
+    let answer = sync_bytes(kernel, held, found);
     kernel.close();
     match answer {
         Err(Refusal::ReadOnly | Refusal::Unsupported) => Ok(()),
         answer => answer,
+    }
+}
+
+// Removes a name.
+fn remove_file<K: Kernel>(kernel: &mut K, name: FileName) -> Result<(), Refusal>
+    requires { IfSome (K.told kernel.old) (HasFile name) }
+    ensures told { OnOk result (Did (removed name) (K.told kernel.old) (K.told kernel.new)) }
+    ensures failed { OnErr result (IfTold (MayDo (removed name)) (K.told kernel.old)
+        (K.told kernel.new)) }
+{
+    match name {
+        FileName::New => remove_new(kernel),
+        _ => kernel.unlink(name),
     }
 }
 
