@@ -1,4 +1,4 @@
-mod LogHeadLemmas
+pub mod LogHeadLemmas
 mod LogGroupLemmas
 mod LogFilterLemmas
 mod LogRangeLemmas

@@ -9,7 +9,7 @@ use Rattle.ras_facts.specs.declared.bank.BankReport.{BankReport}
 use Rattle.ras_script.proofs.LineAndWordLemmas.{words_separated}
 use Rattle.ras_script.proofs.LineTextLemmas.{text_read}
 use Rattle.ras_script.proofs.LinesLemmas.{line_cut}
-use Rattle.ras_script.specs.Line.{line_of, line_of_words}
+use Rattle.ras_script.specs.Line.{is_asking, line_of, line_of_words}
 use Rattle.ras_script.specs.LineLaws.{IsBankInRange, line_words}
 use Rattle.ras_script.specs.Splitting.{lines_of}
 use Rattle.ras_script.specs.SplittingLaws.{Lacks, script_of}
@@ -21,7 +21,7 @@ use Rattle.ras_script.specs.declared.reader.TheConstants.{LONGEST_LINE}
 use Rattle.bank_lines.specs.declared.found.Finding.{Finding}
 use Rattle.bank_lines.specs.declared.found.Finding.TheVariants.{Nothing, Whole, Torn, Partial, Foreign, Firmware, Unread}
 use Rattle.bank_lines.specs.Finding.{IsFoundInRange, IsInTypes, Numbered, report_in, reports_in}
-use Rattle.bank_lines.specs.Texts.{asks_in, asks_of, asking_line, firmware_line, found_lines, found_text, is_asking, lines_at, partial_comment, printed, printed_lines, torn_line, unread_line, vendor_line}
+use Rattle.bank_lines.specs.Texts.{asks_in, asks_of, asking_line, firmware_line, found_lines, found_text, lines_at, partial_comment, printed, printed_lines, torn_line, unread_line, vendor_line}
 use Rattle.bank_lines.proofs.NumeralLemmas.{WordOk, both, decimal_ok, hexadecimal_ok, joined_lack, joined_short, lack_both, literal_lacks}
 
 -- ---- what a line asks for

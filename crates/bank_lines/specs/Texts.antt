@@ -1,8 +1,8 @@
 -- The lines that are printed of what was found, and what they ask for as lines of a script.
-use Rattle.std.specs.Prelude.{ℕ, Bool, true, false, List, [], ◌∷◌, ◌++◌, codes, decimal, filter, map, Result, Ok}
+use Rattle.std.specs.Prelude.{ℕ, List, [], ◌∷◌, ◌++◌, codes, decimal, filter, map, Result, Ok}
 use Rattle.std.specs.List.{flat_map}
 use Rattle.ras_facts.specs.declared.bank.BankReport.{BankReport}
-use Rattle.ras_script.specs.Line.{line_of}
+use Rattle.ras_script.specs.Line.{is_asking, line_of}
 use Rattle.ras_script.specs.LineLaws.{line_text}
 use Rattle.ras_script.specs.SplittingLaws.{script_of}
 use Rattle.ras_script.specs.declared.line.ErrorReport.TheVariants.{Bank}
@@ -64,11 +64,6 @@ abbrev pub printed : List Numbered → List ℕ
 printed founds = flat_map (λ (numbered : Numbered). found_text numbered.number numbered.found) founds
 
 -- ---- what they ask for
-
--- whether a line asks for something, or is refused
-abbrev pub is_asking : Result Line LineRefused → Bool
-is_asking (Ok asks.Nothing) = false
-is_asking asked = true
 
 -- what the lines ask for that ask for something
 abbrev pub asks_in : List (List ℕ) → List (Result Line LineRefused)

@@ -7,7 +7,7 @@ ghost use Rattle.ras_script.specs.declared.reader.TheConstants.{LONGEST_LINE};
 ghost use Rattle.apei_sources.specs.Blocks.{block_of};
 ghost use Rattle.cper_pcie.specs.Reports.{report_in_block, line_report, report_in_store};
 ghost use Rattle.cper_pcie.specs.Along.{counted_after, text_with};
-ghost use Rattle.cper_pcie.specs.Steps.Filtering.{FewBytes};
+ghost use Rattle.ras_script.specs.LineLaws.{HasFewBytes};
 
 use crate::counted::Counted;
 use crate::reports::{STORED_LENGTH, Sections, fill};
@@ -97,7 +97,7 @@ fn take_line(
     text: &mut Vec<u8>,
 ) -> Result<(), NoMemory>
     requires few { counted.old.totals.sections < 2 ^ 57 }
-    requires line { FewBytes LONGEST_LINE line.now }
+    requires line { HasFewBytes LONGEST_LINE line.now }
     ensures counted { OnOk result (counted.new ≡ counted_after counted.old (line_report line.now)) }
     ensures text { OnOk result (text.new.items
         ≡ text.old.items ++ text_with counted.old.names (line_report line.now)) }

@@ -1,10 +1,13 @@
 -- Runs on one journal and record store, one after another: what the files count, and which records are
 -- kept.
-use Rattle.std.proofs.Common.{◌≡◌, ℕ, ◌+◌, ◌<◌, nat_eq, nat_lt, Bool, true, false, if◌then◌else◌, List, [], ◌∷◌, ◌++◌, length, drop, Option, Some, Result, Ok, refl, sym, ap, ◌∙◌, subst, inl, inr, append_assoc, append-nil, arith}
+use Rattle.std.proofs.Common.{◌≡◌, ℕ, ◌+◌, ◌<◌, nat_eq, nat_lt, Bool, true, false, if◌then◌else◌, List, [], ◌∷◌, ◌++◌, length, drop, Option, None, Some, Result, Ok, refl, sym, ap, ◌∙◌, subst, inl, inr, append_assoc, append-nil, arith}
 use Rattle.std.specs.Prelude.{◌⊎◌}
 use Rattle.std.specs.List.{IsDistinct, fold}
+use Rattle.std.specs.Option.{option_or}
+use Rattle.std.proofs.lemmas.Bool.{ltb-false, ltb-true}
 use Rattle.std.proofs.lemmas.Bool.Decides.{nat_tests}
 use Rattle.std.proofs.lemmas.List.Sums.{fold-append}
+use Rattle.std.proofs.Math.Seq.{drop-append_seam}
 use Rattle.board_core.specs.Stop.{Becomes, Left}
 use Rattle.cper_records.specs.Readable.{filled, read_under}
 use Rattle.erst_store.specs.Store.{Stored, bytes_under}
@@ -23,7 +26,7 @@ use Rattle.ras_events.proofs.HistoryLemmas.{account_by_history, news_behind}
 use Rattle.ras_events.specs.DoneLines.{done_count}
 use Rattle.ras_daemon.specs.Headline.{Headline}
 use Rattle.ras_daemon.specs.Machine.{StoreChange, account_upto, change_next, changes_upto, last_changed, last_upto, puts, store_changed, store_upto, text_upto}
-use Rattle.ras_daemon.specs.StoreDuring.{KeepsRecords, KnownBy, PutsUnder, StoreDuring}
+use Rattle.ras_daemon.specs.StoreDuring.{HasPut, KeepsRecords, KnownBy, StoreDuring}
 use Rattle.ras_daemon.proofs.HistoryLemmas.{fresh-once, with_entries-append}
 use Rattle.era_laws.specs.Eras.{AreEras, BeginsOver, Counts, CountsEach, Era, IsEra, done_in, is_put_by, laid_in, last_laid_in, left_after, logged_in, logs_upto, printed_in, reported_in, reports_upto}
 use Rattle.era_laws.proofs.FoundLemmas.{all-changed}
@@ -40,27 +43,17 @@ moved : (here : Left) (era : Era) (a : State) → BeginsOver here era → Recove
 moved here era a begins of = record { is = (λ i. recovered (begins.zero i) (begins.one i)) ∙ of.is }
 
 -- the account at the start of an era is the one that was left
-pub start-account : (here : Left) (era : Era) (a : State) → BeginsOver here era → IsEra era → Recovers a here → a ≡ era.run.account
+start-account : (here : Left) (era : Era) (a : State) → BeginsOver here era → IsEra era → Recovers a here → a ≡ era.run.account
 start-account here era a begins is of = one-account a era.run.account era.here (moved here era a begins of) is.opens
 
 -- ---- what was printed
-
-drop-front : (xs ys : List ℕ) → drop (length xs) (xs ++ ys) ≡ ys
-drop-front [] ys = refl
-drop-front (x ∷ xs) ys = drop-front xs ys
-
-less-of : (a b : ℕ) → nat_lt a b ≡ true → a < b
-less-of a b is = grind (arith, nat_tests)
-
-not-less : (a b : ℕ) → nat_lt a b ≡ false → a < b → ⊥
-not-less a b is less = grind (arith, nat_tests)
 
 module _ (era : Era) (is : IsEra era) where
   abbrev at : Headline era.run era.here era.left
   at = is.leaves
 
   pub printed-is : printed_in era ≡ at.printed
-  printed-is = ap (drop (length era.here.out)) at.text ∙ drop-front era.here.out at.printed
+  printed-is = ap (drop (length era.here.out)) at.text ∙ drop-append_seam era.here.out at.printed
 
   done-is : done_in era ≡ at.done
   done-is = ap done_count printed-is ∙ at.counted
@@ -82,8 +75,8 @@ module _ (era : Era) (is : IsEra era) where
   counts-by (inl whole) = by (nat_lt (length (text_upto era.run at.done)) (length at.printed)) refl
     where
       by : (b : Bool) → nat_lt (length (text_upto era.run at.done)) (length at.printed) ≡ b → CountsBy at.done at.printed
-      by true less = one-more (at.acknowledged (less-of (length (text_upto era.run at.done)) (length at.printed) less))
-      by false not = (at.done, recovers-by at.done whole, inl refl, λ less. absurd (not-less (length (text_upto era.run at.done)) (length at.printed) not less))
+      by true less = one-more (at.acknowledged (ltb-true (length (text_upto era.run at.done)) (length at.printed) less))
+      by false not = (at.done, recovers-by at.done whole, inl refl, λ less. absurd (omega (arith, ltb-false (length (text_upto era.run at.done)) (length at.printed) not)))
 
   pub counts-of : (n : ℕ) × Counts era n
   counts-of =
@@ -93,14 +86,10 @@ module _ (era : Era) (is : IsEra era) where
 
   -- what is known at its start is known when it is over
   known-still : (name : Name) → KnownBy era.run.account name → KnownBy at.account name
-  known-still name known = by at.whole
+  known-still name known = elim at.whole [ inl whole ↦ upto at.done whole | inr more ↦ upto (at.done + 1) more ]
     where
       upto : (n : ℕ) → at.account ≡ account_upto era.run n → KnownBy at.account name
       upto n same = subst (λ (a : State). KnownBy a name) (sym same) (knows-after_all era.run.account (reports_upto era.run n) name known)
-
-      by : (at.account ≡ account_upto era.run at.done) ⊎ (at.account ≡ account_upto era.run (at.done + 1)) → KnownBy at.account name
-      by (inl whole) = upto at.done whole
-      by (inr more) = upto (at.done + 1) more
 
   -- a put that was cut is done or isn't
   pub era-cut : (r : Stored) → change_next era.run (done_in era) ≡ puts r
@@ -192,9 +181,10 @@ logs-once-along history here eras counts opens follow counted =
 eq-self : (a b : ℕ) → nat_eq a b ≡ false → a ≡ b → ⊥
 eq-self a b apart same = grind (arith, nat_tests)
 
-not-under : (change : StoreChange) (id : ℕ) → is_put_by change id ≡ false → PutsUnder change id → ⊥
-not-under (puts r) id apart under = eq-self r.id id apart under
-not-under change id apart under = under
+not-put : (change : StoreChange) (id : ℕ) (store : List Stored) → (is_put_by change id ≡ false) ⊎ (bytes_under id store ≡ None) → HasPut change id store → ⊥
+not-put (puts r) id store (inl apart) put = eq-self r.id id apart put.0
+not-put (puts r) id store (inr none) (same, stands) = cc
+not-put change id store never put = put
 
 module _ (era : Era) (is : IsEra era) (last : ℕ → Option (List ℕ)) (keeps : KeepsRecords last (KnownBy era.run.account) era.here.store) where
   abbrev next : StoreChange
@@ -209,30 +199,37 @@ module _ (era : Era) (is : IsEra era) (last : ℕ → Option (List ℕ)) (keeps 
   abbrev IsKept : ℕ → List ℕ → List ℕ → Type 0
   IsKept id bytes own = (bytes_under id era.left.store ≡ Some bytes) ⊎ KnownBy is.leaves.account (stored_name own)
 
-  kept-here : (id : ℕ) (bytes own : List ℕ) → last_upto era.run (done_in era) id ≡ Some bytes → read_under id (filled bytes) ≡ Ok own → ¬ PutsUnder next id → IsKept id bytes own
+  kept-here : (id : ℕ) (bytes own : List ℕ) → last_upto era.run (done_in era) id ≡ Some bytes → read_under id (filled bytes) ≡ Ok own → HasPut next id era.left.store ⊎ IsKept id bytes own
   kept-here =
-      subst (λ (n : ℕ). (id : ℕ) (bytes own : List ℕ) → last_upto era.run n id ≡ Some bytes → read_under id (filled bytes) ≡ Ok own → ¬ PutsUnder (change_next era.run n) id → IsKept id bytes own)
+      subst (λ (n : ℕ). (id : ℕ) (bytes own : List ℕ) → last_upto era.run n id ≡ Some bytes → read_under id (filled bytes) ≡ Ok own → HasPut (change_next era.run n) id era.left.store ⊎ IsKept id bytes own)
       (sym (done-is era is)) is.leaves.kept
 
   pub era-kept : KeepsRecords (λ id. laid_in id (last id) era) (KnownBy is.leaves.account) era.left.store
   era-kept id bytes own there reads = by (is_put_by next id) refl there
     where
-      kept : is_put_by next id ≡ false → laid-by (bytes_under id era.run.store) id ≡ Some bytes → IsKept id bytes own
-      kept apart laid = kept-here id bytes own laid reads (not-under next id apart)
+      NotPut : Type 0
+      NotPut = HasPut next id era.left.store → ⊥
 
-      stood : is_put_by next id ≡ false → ((a : Option (List ℕ)) → laid-by a id ≡ a)
+      kept : NotPut → laid-by (bytes_under id era.run.store) id ≡ Some bytes → IsKept id bytes own
+      kept apart laid = elim (kept-here id bytes own laid reads) [ inl put ↦ absurd (apart put) | inr stays ↦ stays ]
+
+      stood : NotPut → ((a : Option (List ℕ)) → laid-by a id ≡ a)
           → (bytes_under id era.here.store ≡ Some bytes) ⊎ KnownBy era.run.account (stored_name own) → IsKept id bytes own
       stood apart stays (inl stands) = kept apart (stays (bytes_under id era.run.store) ∙ ap (bytes_under id) is.store ∙ stands)
       stood apart stays (inr known) = inr (known-still era is (stored_name own) known)
 
-      from : is_put_by next id ≡ false → laid-by (last id) id ≡ Some bytes
+      from : NotPut → laid-by (last id) id ≡ Some bytes
           → (((a b : Option (List ℕ)) → laid-by a id ≡ laid-by b id) ⊎ ((a : Option (List ℕ)) → laid-by a id ≡ a)) → IsKept id bytes own
       from apart laid (inl any) = kept apart (any (bytes_under id era.run.store) (last id) ∙ laid)
       from apart laid (inr stays) = stood apart stays (keeps id bytes own (sym (stays (last id)) ∙ laid) reads)
 
-      by : (b : Bool) → is_put_by next id ≡ b → (if b then bytes_under id era.left.store else laid-by (last id) id) ≡ Some bytes → IsKept id bytes own
-      by true anew stands = inl stands
-      by false apart laid = from apart laid (all-changed id changes)
+      anew : (o : Option (List ℕ)) → bytes_under id era.left.store ≡ o → option_or o (laid-by (last id) id) ≡ Some bytes → IsKept id bytes own
+      anew None none laid = from (not-put next id era.left.store (inr none)) laid (all-changed id changes)
+      anew (Some it) is same = inl (is ∙ same)
+
+      by : (b : Bool) → is_put_by next id ≡ b → (if b then option_or (bytes_under id era.left.store) (laid-by (last id) id) else laid-by (last id) id) ≡ Some bytes → IsKept id bytes own
+      by true is laid = anew (bytes_under id era.left.store) refl laid
+      by false apart laid = from (not-put next id era.left.store (inl apart)) laid (all-changed id changes)
 
 kept-along : (eras : List Era) (last : ℕ → Option (List ℕ)) (account now : State) (here : Left) → Recovers account here → KeepsRecords last (KnownBy account) here.store
     → AreEras here eras → Recovers now (left_after here eras)

@@ -16,8 +16,7 @@ use Rattle.ras_account.proofs.ModuleOrderLemmas.{module-orders}
 use Rattle.ras_facts.specs.declared.entry.Entry.{Entry}
 use Rattle.ras_journal.specs.Recovered.{Recovers}
 use Rattle.ras_events.specs.Preparing.{orders_along_entries}
-use Rattle.ras_events.proofs.HistoryLemmas.{orders_by_history}
-use Rattle.ras_run.specs.Places.{Start}
+use Rattle.ras_run.specs.Sites.{Start}
 use Rattle.ras_daemon.specs.Machine.{Run}
 use Rattle.ras_daemon.specs.RunOf.{run_of}
 use Rattle.ras_daemon.specs.Runs.{BeginsWith, ordered}
@@ -33,8 +32,7 @@ module _ (given : History → List Order) (grows : (h : History) (e : Entry) →
       → given (with_entries history (reports_upto run n)) ≡ given history ++ orders_upto run n
   given-follow run history is n =
       let entries : List Entry = reports_upto run n in
-      orders-entries given grows history entries
-      ∙ ap (λ (os : List Order). given history ++ os) (sym (orders_by_history history entries) ∙ ap (λ (a : State). orders_along_entries a entries) (sym is))
+      orders-entries given grows history entries ∙ ap (λ (a : State). given history ++ orders_along_entries a entries) (sym is)
 
   given-along : (eras : List Era) (counts : List ℕ) (history : History) (here : Left) → Recovers (account_of history) here → AreEras here eras → CountsEach eras counts
       → given (with_entries history (reported_in eras counts)) ≡ given history ++ ordered_in eras counts

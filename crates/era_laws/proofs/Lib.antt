@@ -1,5 +1,6 @@
 pub mod EraLemmas
 pub mod EraOrderLemmas
+pub mod FirstEventLemmas
 pub mod FoundLemmas
 pub mod PollLemmas
 pub mod PrintLemmas

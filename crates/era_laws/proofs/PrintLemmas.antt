@@ -1,9 +1,8 @@
 -- Printed texts as pieces: new reports, orders to replace modules, and other lines.
-use Rattle.std.proofs.Common.{◌≡◌, ℕ, Bool, true, false, if◌then◌else◌, List, [], ◌∷◌, ◌++◌, Option, None, Some, codes, decimal, length, count_by, flat_map, refl, sym, ap, subst, ◌∙◌, append-nil}
+use Rattle.std.proofs.Common.{◌≡◌, ℕ, Bool, true, false, if◌then◌else◌, List, [], ◌∷◌, ◌++◌, codes, decimal, length, count_by, flat_map, refl, sym, ap, subst, ◌∙◌, append-nil}
 use Rattle.std.specs.Prelude.{nat_eq}
 use Rattle.std.specs.Int.{to_be_bytes, w64}
 use Rattle.std.specs.List.{AllByRecursion, starts_with}
-use Rattle.std.specs.Option.{option_map_or}
 use Rattle.std.proofs.lemmas.List.Concat.{flat_map-append}
 use Rattle.hex.specs.Hex.{encode_lower}
 use Rattle.cper_records.specs.declared.refusals.RecordRefused.TheVariants.{Short, Signature, Length, DescriptorOut, SectionOut, Section}
@@ -34,16 +33,17 @@ use Rattle.ras_events.specs.declared.made.Piece.{Piece}
 use Rattle.ras_events.specs.declared.made.Piece.TheVariants.{Counted, Unread}
 use Rattle.ras_events.specs.Making.{entries_in}
 use Rattle.ras_events.specs.Preparing.{event_text_in, orders_along_entries, text_along}
-use Rattle.ras_events.proofs.ByteLemmas.{decimal_unbroken, hexadecimal_unbroken, is_unbroken, lacks_from, unbroken-append, unbroken_both}
+use Rattle.ras_events.proofs.ByteLemmas.{decimal_unbroken, hexadecimal_unbroken, is_unbroken, lacks_from, unbroken-append}
 use Rattle.ras_events.proofs.PieceLemmas.{address_unbroken, name_unbroken}
+use Rattle.ras_events.proofs.QuietLemmas.{all_both}
 use Rattle.ras_exit.specs.declared.exit.Exit.{Exit}
 use Rattle.ras_exit.specs.declared.exit.Exit.TheVariants.{BadLine, Damaged, Done, ErstBusy, ErstRefused, ErstStatus, Full, TooLong, Usage}
-use Rattle.ras_exit.specs.declared.reason.Reason.{Reason}
-use Rattle.ras_exit.specs.declared.reason.Reason.TheVariants as reason
-use Rattle.ras_exit.specs.Reasons.{reason_number, reason_text, reason_word}
+use Rattle.ras_exit.specs.Reasons.{reason_text}
 use Rattle.ras_exit.specs.StopLine.{stop_line}
+use Rattle.ras_daemon.proofs.StopLemmas.{reason-unbroken}
 use Rattle.ras_daemon.specs.RunOutput.{closing_line}
 use Rattle.ras_daemon.specs.Runs.{facts_of}
+use Rattle.ras_daemon.proofs.AgainLemmas.{facts_of-append}
 use Rattle.era_laws.specs.Printed.{IsPrint, Print, log, other, print_text, replace, told_in}
 
 -- a text is these pieces, and these are the new reports among them
@@ -54,10 +54,6 @@ pub record HasPrints (text : List ℕ) (told : List Fact) : Type 0 where
   pub tells : told_in prints ≡ told
 
 -- ---- texts that follow one another
-
-all-both : {X : Type 0} (P : X → Type 0) (xs ys : List X) → AllByRecursion P xs → AllByRecursion P ys → AllByRecursion P (xs ++ ys)
-all-both P [] ys one more = more
-all-both P (x ∷ xs) ys one more = (one.0, all-both P xs ys one.1 more)
 
 told-both : (xs ys : List Print) → told_in (xs ++ ys) ≡ told_in xs ++ told_in ys
 told-both [] ys = refl
@@ -71,7 +67,7 @@ prints-none = record { prints = []; each = tt; whole = refl; tells = refl }
 pub prints-both : (one more : List ℕ) (first second : List Fact) → HasPrints one first → HasPrints more second → HasPrints (one ++ more) (first ++ second)
 prints-both one more first second a b = record {
   prints = a.prints ++ b.prints;
-  each = all-both IsPrint a.prints b.prints a.each b.each;
+  each = all_both IsPrint a.prints b.prints a.each b.each;
   whole = (λ i. a.whole i ++ b.whole i) ∙ sym (flat_map-append print_text a.prints b.prints);
   tells = told-both a.prints b.prints ∙ (λ i. a.tells i ++ b.tells i);
 }
@@ -154,31 +150,23 @@ prints-unread id why =
 
 -- ---- an event: the new reports are those of the entries that are new at their places
 
-facts-cons : (entry : Entry) (entries : List Entry) → facts_of (entry ∷ entries) ≡ facts_of (entry ∷ []) ++ facts_of entries
-facts-cons (FactEntry fact) entries = refl
-facts-cons (PageLimit limit) entries = refl
-facts-cons (Retire boot) entries = refl
-facts-cons (ModuleLimit limit) entries = refl
-
-pub not-fresh : (a : State) (entry : Entry) → is_fresh_in a entry ≡ false → account_after a entry ≡ a
-not-fresh a entry is = ap (λ (b : Bool). if b then account_after_fresh (account_with_count a) entry else a) is
-
 prints-along : (a : State) (pieces : List Piece) → HasPrints (text_along a pieces) (facts_of (fresh_entries_in a (entries_in pieces)))
 prints-along a [] = prints-none
 prints-along a (Unread id why ∷ pieces) =
     prints-both (unreadable_line id why) (text_along a pieces) [] (facts_of (fresh_entries_in a (entries_in pieces))) (prints-unread id why) (prints-along a pieces)
-prints-along a (Counted entry details ∷ pieces) = by (is_fresh_in a entry) refl (prints-along (account_after a entry) pieces)
+prints-along a (Counted entry details ∷ pieces) = by (is_fresh_in a entry) (prints-along (account_after a entry) pieces)
   where
-    by : (b : Bool) → is_fresh_in a entry ≡ b → HasPrints (text_along (account_after a entry) pieces) (facts_of (fresh_entries_in (account_after a entry) (entries_in pieces)))
-        → HasPrints ((if b then entry_lines details a entry else repeat_line a entry) ++ text_along (account_after a entry) pieces)
-        (facts_of (if b then entry ∷ fresh_entries_in (account_after a entry) (entries_in pieces) else fresh_entries_in a (entries_in pieces)))
-    by true is others =
-        let after : List Entry = fresh_entries_in (account_after a entry) (entries_in pieces) in
-        subst (HasPrints (entry_lines details a entry ++ text_along (account_after a entry) pieces)) (sym (facts-cons entry after))
-        (prints-both (entry_lines details a entry) (text_along (account_after a entry) pieces) (facts_of (entry ∷ [])) (facts_of after) (prints-entry details a entry) others)
-    by false is others =
-        prints-both (repeat_line a entry) (text_along (account_after a entry) pieces) [] (facts_of (fresh_entries_in a (entries_in pieces))) (prints-repeat a entry)
-        (subst (λ (b : State). HasPrints (text_along (account_after a entry) pieces) (facts_of (fresh_entries_in b (entries_in pieces)))) (not-fresh a entry is) others)
+    after : Bool → State
+    after b = if b then account_after_fresh (account_with_count a) entry else a
+
+    by : (b : Bool) → HasPrints (text_along (after b) pieces) (facts_of (fresh_entries_in (after b) (entries_in pieces)))
+        → HasPrints ((if b then entry_lines details a entry else repeat_line a entry) ++ text_along (after b) pieces)
+        (facts_of (if b then entry ∷ fresh_entries_in (after b) (entries_in pieces) else fresh_entries_in a (entries_in pieces)))
+    by true others =
+        let later : List Entry = fresh_entries_in (after true) (entries_in pieces) in
+        subst (HasPrints (entry_lines details a entry ++ text_along (after true) pieces)) (sym (facts_of-append (entry ∷ []) later))
+        (prints-both (entry_lines details a entry) (text_along (after true) pieces) (facts_of (entry ∷ [])) (facts_of later) (prints-entry details a entry) others)
+    by false others = prints-both (repeat_line a entry) (text_along a pieces) [] (facts_of (fresh_entries_in a (entries_in pieces))) (prints-repeat a entry) others
 
 -- a text that tells nothing, behind another
 pub prints-behind : (one more : List ℕ) (told : List Fact) → HasPrints one told → HasPrints more [] → HasPrints (one ++ more) told
@@ -196,22 +184,12 @@ prints-done number = prints-line (codes "done " ++ decimal number) (decimal_unbr
 
 -- ---- the last line of a run
 
-kind-unbroken : (why : Reason) → is_unbroken (reason_word why) ≡ true
-kind-unbroken reason.LongLine = refl
-kind-unbroken why = refl
-
-number-unbroken : (number : Option ℕ) → is_unbroken (option_map_or (λ n. codes "." ++ decimal n) number []) ≡ true
-number-unbroken None = refl
-number-unbroken (Some number) = unbroken_both (codes ".") (decimal number) refl (decimal_unbroken number)
-
 prints-refused : (line : ℕ) (why : List ℕ) → is_unbroken why ≡ true → HasPrints (line_with (codes "stop 2 line=" ++ decimal line ++ codes " reason=" ++ why)) []
 prints-refused line why told = prints-line (codes "stop 2 line=" ++ decimal line ++ codes " reason=" ++ why) (simp (unbroken-append, decimal_unbroken, told)) refl
 
 prints-stop : (exit : Exit) → HasPrints (stop_line exit) []
 prints-stop Usage = prints-line (codes "stop 1 usage") refl refl
-prints-stop (BadLine line why) =
-    prints-refused line (reason_text why)
-    (unbroken_both (reason_word why) (option_map_or (λ n. codes "." ++ decimal n) (reason_number why) []) (kind-unbroken why) (number-unbroken (reason_number why)))
+prints-stop (BadLine line why) = prints-refused line (reason_text why) (reason-unbroken why)
 prints-stop (Damaged file place) =
     prints-line (codes "stop 7 file=" ++ decimal file ++ codes " place=" ++ decimal place) (simp (unbroken-append, decimal_unbroken)) refl
 prints-stop (ErstRefused line) = prints-line (codes "stop 9 line=" ++ decimal line) (decimal_unbroken line) refl

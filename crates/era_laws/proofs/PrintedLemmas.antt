@@ -1,24 +1,23 @@
 -- What an era prints of its events is text of those that are counted.
-use Rattle.std.proofs.Common.{◌≡◌, ℕ, zero, suc, ◌+◌, ◌<◌, ◌≤◌, ◌==◌, nat_lt, Bool, true, false, if◌then◌else◌, List, [], ◌∷◌, ◌++◌, length, map, take, drop, get_or, filter, codes, decimal, Option, None, Some, Result, Ok, Err, refl, sym, ap, subst, ◌∙◌, inl, inr, append_assoc, length-append, arith}
-use Rattle.std.specs.Prelude.{◌⊎◌, All, is_some}
+use Rattle.std.proofs.Common.{◌≡◌, ℕ, zero, suc, ◌+◌, ◌<◌, ◌≤◌, ◌==◌, nat_lt, Bool, true, false, if◌then◌else◌, List, [], ◌∷◌, ◌++◌, length, map, take, drop, filter, codes, decimal, Option, None, Some, refl, sym, ap, subst, ◌∙◌, inl, inr, append_assoc, length-append, arith}
+use Rattle.std.specs.Prelude.{◌⊎◌, All, unwrap_or}
 use Rattle.std.specs.List.{AllByRecursion, IsDistinct, flat_map, slice_split, zip}
-use Rattle.std.proofs.lemmas.Bool.Decides.{nat_tests}
+use Rattle.std.proofs.lemmas.Bool.{ltb-false, ltb-true}
 use Rattle.std.proofs.lemmas.List.{take-append-drop}
+use Rattle.std.proofs.Math.ListN.{drop_of_length-le}
 use Rattle.std.proofs.lemmas.List.Concat.{flat_map-append}
 use Rattle.std.proofs.lemmas.List.Elements.{All-from_recursion, filter-append, recursion_from_All}
 use Rattle.board_core.specs.Stop.{Left}
-use Rattle.ras_base.specs.Places.{places, places_behind}
 use Rattle.ras_base.specs.Prefix.{IsPrefixOf}
 use Rattle.ras_base.specs.Text.{line_with}
 use Rattle.ras_account.specs.Account.{State, account_of, names_of}
-use Rattle.ras_account.specs.Continued.{account_after, account_after_all, is_fresh_in}
+use Rattle.ras_account.specs.Continued.{account_after, account_after_all, account_after_fresh, account_with_count, is_fresh_in}
 use Rattle.ras_account.specs.Fresh.{fresh_entries}
 use Rattle.ras_account.specs.History.{History}
 use Rattle.ras_account.specs.Numbers.{fresh_entries_in}
 use Rattle.ras_account.proofs.FreshLemmas.{names_of-append}
 use Rattle.ras_facts.specs.declared.details.Detail.{Detail}
 use Rattle.ras_facts.specs.declared.entry.Entry.{Entry}
-use Rattle.ras_facts.specs.declared.entry.Entry.TheVariants.{Fact as FactEntry, Limit as PageLimit, Retire, ModuleLimit}
 use Rattle.ras_facts.specs.declared.fact.Fact.{Fact}
 use Rattle.ras_facts.specs.declared.items.Item.{Item}
 use Rattle.ras_facts.specs.declared.name.Name.{Name}
@@ -29,115 +28,102 @@ use Rattle.ras_script.proofs.LineAndWordLemmas.{some_part, split_between}
 use Rattle.ras_texts.specs.Orders.{standing_lines}
 use Rattle.ras_texts.specs.Reports.{detail_text, empty_line, told_line}
 use Rattle.ras_texts.specs.Text.{done_line, item_head, item_line, label_text, name_text, page_text}
-use Rattle.ras_events.specs.declared.event.Event.{Event}
-use Rattle.ras_events.specs.declared.event.Event.TheVariants.{Nothing, Counted, Polled, Reopened}
-use Rattle.ras_events.specs.declared.event.LineRefusal.{LineRefusal}
+use Rattle.ras_events.specs.declared.made.Piece.{Piece}
+use Rattle.ras_events.specs.Deeds.{Asking, nothing, polls, reopens}
 use Rattle.ras_events.specs.DoneLines.{done_count, ended_lines, is_done_line}
 use Rattle.ras_events.specs.Making.{entries_in, polled}
-use Rattle.ras_events.specs.Reports.{NumberedLine, Place, entries_at, event_at, made_in, settings_told}
-use Rattle.ras_events.specs.Stores.{laid}
+use Rattle.ras_events.specs.Described.{NumberedLine}
 use Rattle.ras_events.proofs.DoneLemmas.{done_counts}
-use Rattle.ras_exit.specs.declared.exit.Exit.{Exit}
-use Rattle.ras_run.specs.Output.{event_done, event_text_at, output_at}
-use Rattle.ras_run.specs.Places.{Start, account_at}
-use Rattle.ras_run.specs.Status.{places_before_refusal, refusal_at}
-use Rattle.ras_run.proofs.PlaceLemmas.{account-snoc}
+use Rattle.ras_run.specs.Deeds.{counted_by, text_by}
+use Rattle.ras_run.specs.Output.{done_at, output_at, text_at}
+use Rattle.ras_run.specs.Places.{Place, deed_at, entries_at, site_after, site_at}
+use Rattle.ras_run.specs.Sites.{Site, Start, first_site}
+use Rattle.ras_run.specs.Status.{refusal_at}
 use Rattle.ras_daemon.specs.Machine.{Run, RunEvent, text_of, text_upto}
 use Rattle.ras_daemon.specs.RunOutput.{output_upto}
 use Rattle.ras_daemon.specs.RunStatus.{run_exit}
 use Rattle.ras_daemon.specs.Runs.{event_count, facts_of, logged}
-use Rattle.ras_daemon.specs.Script.{events_of, is_event, reads_of}
-use Rattle.ras_daemon.proofs.AgainLemmas.{facts_of-append}
+use Rattle.ras_script.specs.Line.{is_asking}
+use Rattle.ras_events.proofs.DoneLemmas.{last_kept}
+use Rattle.ras_daemon.specs.Script.{events_of, reads_of}
+use Rattle.ras_daemon.proofs.AgainLemmas.{facts_of-append, names-facts}
 use Rattle.ras_daemon.proofs.EventLemmas.{place-done}
-use Rattle.ras_daemon.proofs.ListLemmas.{take-whole}
 use Rattle.ras_daemon.proofs.MachineLemmas.{text-same}
-use Rattle.ras_daemon.proofs.RunLawLemmas.{events-front, reports-none}
+use Rattle.ras_daemon.proofs.RunLawLemmas.{prints-none as silent, reports-none}
 use Rattle.era_laws.specs.Eras.{AreEras, Counts, CountsEach, Era, IsEra, TakesScript, done_in, logged_in, logs_upto, printed_in}
 use Rattle.era_laws.specs.Printed.{IsPrint, Print, Prints, PrintsEach, TakesSome, log, names_told, other, print_text, replace, told_in}
 use Rattle.era_laws.proofs.EraLemmas.{each-counts, logs-once-along, printed-is}
-use Rattle.era_laws.proofs.PrintLemmas.{HasPrints, not-fresh, prints-behind, prints-both, prints-closing, prints-done, prints-event, prints-none, prints-standing}
+use Rattle.era_laws.proofs.FirstEventLemmas.{events, events-cut, events-some, first_events, left, taken-or}
+use Rattle.era_laws.proofs.PrintLemmas.{HasPrints, prints-behind, prints-both, prints-closing, prints-done, prints-event, prints-none, prints-standing}
 use Rattle.era_laws.proofs.TakesLemmas.{takes-count, takes-logs}
-
--- ---- the accounts of places that follow one another
-
-abbrev Follow : Start → State → List Place → Type 0
-Follow start a [] = Unit {0}
-Follow start a (p ∷ ps) = (account_at start p.0 ≡ a) × Follow start (account_after_all a (entries_at start.store p)) ps
-
-follow-behind : (start : Start) (before reads : List NumberedLine) → Follow start (account_at start before) (places_behind before reads)
-follow-behind start before [] = tt
-follow-behind start before (read ∷ reads) =
-    (refl, subst (λ (a : State). Follow start a (places_behind (before ++ read ∷ []) reads)) (account-snoc start before read) (follow-behind start (before ++ read ∷ []) reads))
-
-follow-events : (start : Start) (ps : List Place) (a : State) → Follow start a ps → Follow start a (filter is_event ps)
-follow-events start [] a follow = tt
-follow-events start (p ∷ ps) a follow = by (is_event p) refl (follow-events start ps (account_after_all a (entries_at start.store p)) follow.1)
-  where
-    by : (b : Bool) → is_event p ≡ b → Follow start (account_after_all a (entries_at start.store p)) (filter is_event ps)
-        → Follow start a (if b then p ∷ filter is_event ps else filter is_event ps)
-    by true is rest = (follow.0, rest)
-    by false is rest = subst (λ (entries : List Entry). Follow start (account_after_all a entries) (filter is_event ps)) (reports-none start.store p is) rest
-
-follow-front : (start : Start) (ps qs : List Place) (a : State) → Follow start a (ps ++ qs) → Follow start a ps
-follow-front start [] qs a follow = tt
-follow-front start (p ∷ ps) qs a follow = (follow.0, follow-front start ps qs (account_after_all a (entries_at start.store p)) follow.1)
-
-events-follow : (start : Start) (script : List ℕ) (n : ℕ) → Follow start start.account (take n (events_of start script))
-events-follow start script n =
-    let (rest, whole) = events-front start script n in
-    follow-front start (take n (events_of start script)) rest start.account
-    (subst (Follow start start.account) (sym whole) (follow-events start (places (reads_of script)) start.account (follow-behind start [] (reads_of script))))
 
 -- ---- what events print
 
 fresh-append : (a : State) (xs ys : List Entry) → fresh_entries_in a (xs ++ ys) ≡ fresh_entries_in a xs ++ fresh_entries_in (account_after_all a xs) ys
 fresh-append a [] ys = refl
-fresh-append a (x ∷ xs) ys = by (is_fresh_in a x) refl (fresh_entries_in (account_after_all (account_after a x) xs) ys) (fresh-append (account_after a x) xs ys)
+fresh-append a (x ∷ xs) ys = by (is_fresh_in a x) (fresh-append (account_after a x) xs ys)
   where
-    by : (b : Bool) → is_fresh_in a x ≡ b → (rest : List Entry) → fresh_entries_in (account_after a x) (xs ++ ys) ≡ fresh_entries_in (account_after a x) xs ++ rest
-        → (if b then x ∷ fresh_entries_in (account_after a x) (xs ++ ys) else fresh_entries_in a (xs ++ ys))
-        ≡ (if b then x ∷ fresh_entries_in (account_after a x) xs else fresh_entries_in a xs) ++ rest
-    by true is rest others = ap (λ (es : List Entry). x ∷ es) others
-    by false is rest others = subst (λ (b : State). fresh_entries_in b (xs ++ ys) ≡ fresh_entries_in b xs ++ rest) (not-fresh a x is) others
+    after : Bool → State
+    after b = if b then account_after_fresh (account_with_count a) x else a
 
-module _ (start : Start) (before : List NumberedLine) (number : ℕ) where
-  abbrev told-by : Result Event LineRefusal → List Fact
-  told-by event = facts_of (fresh_entries_in (account_at start before) (entries_in (made_in (settings_told before).topology (laid start.store before) event)))
+    by : (b : Bool) → fresh_entries_in (after b) (xs ++ ys) ≡ fresh_entries_in (after b) xs ++ fresh_entries_in (account_after_all (after b) xs) ys
+        → (if b then x ∷ fresh_entries_in (after b) (xs ++ ys) else fresh_entries_in a (xs ++ ys))
+        ≡ (if b then x ∷ fresh_entries_in (after b) xs else fresh_entries_in a xs) ++ fresh_entries_in (account_after_all (after b) xs) ys
+    by true rest = ap (λ (es : List Entry). x ∷ es) rest
+    by false rest = rest
 
-  text-prints : (event : Result Event LineRefusal) → HasPrints (event_text_at start before event) (told-by event)
-  text-prints (Ok (Counted made)) = prints-event (account_at start before) made
-  text-prints (Ok (Polled seconds)) = prints-event (account_at start before) (polled (settings_told before).topology seconds (laid start.store before))
-  text-prints (Ok Reopened) = prints-standing (account_at start before)
-  text-prints (Ok event) = prints-none
-  text-prints (Err why) = prints-none
+-- a line at its place tells what is new of what it reports
+abbrev told-at : Place → List Fact
+told-at place = facts_of (fresh_entries_in place.0.account (entries_at place))
 
-  done-prints : (event : Result Event LineRefusal) → HasPrints (event_done number event) []
-  done-prints (Ok Nothing) = prints-none
-  done-prints (Ok event) = prints-done number
-  done-prints (Err why) = prints-none
+module _ (site : Site) where
+  abbrev told-by : Asking → Option (List Piece) → List Fact
+  told-by asks reported = facts_of (fresh_entries_in site.account (entries_in (unwrap_or (counted_by site asks reported) [])))
 
-  event-prints : (event : Result Event LineRefusal) → HasPrints (event_text_at start before event ++ event_done number event) (told-by event)
-  event-prints event = prints-behind (event_text_at start before event) (event_done number event) (told-by event) (text-prints event) (done-prints event)
+  text-prints : (asks : Asking) (reported : Option (List Piece)) → HasPrints (text_by site.account asks (counted_by site asks reported)) (told-by asks reported)
+  text-prints nothing (Some made) = prints-event site.account made
+  text-prints (polls seconds) reported = prints-event site.account (polled site.settings.topology seconds site.store)
+  text-prints reopens reported = prints-standing site.account
+  text-prints asks reported = prints-none
 
-places-print : (start : Start) (ps : List Place) (a : State) → Follow start a ps
-    → HasPrints (flat_map (output_at start) ps) (facts_of (fresh_entries_in a (flat_map (entries_at start.store) ps)))
-places-print start [] a follow = prints-none
-places-print start (p ∷ ps) a follow =
-    let entries : List Entry = entries_at start.store p in
-    let others : List Entry = flat_map (entries_at start.store) ps in
-    let after : State = account_after_all a entries in
-    subst (HasPrints (output_at start p ++ flat_map (output_at start) ps))
-    (sym (ap facts_of (fresh-append a entries others) ∙ facts_of-append (fresh_entries_in a entries) (fresh_entries_in after others)))
-    (prints-both (output_at start p) (flat_map (output_at start) ps) (facts_of (fresh_entries_in a entries)) (facts_of (fresh_entries_in after others))
-    (subst (λ (b : State). HasPrints (output_at start p) (facts_of (fresh_entries_in b entries))) follow.0 (event-prints start p.0 p.1.0 (event_at p)))
-    (places-print start ps after follow.1))
+place-text : (p : Place) → HasPrints (text_at p) (told-at p)
+place-text p = text-prints p.0 (deed_at p).asks (deed_at p).reported
+
+place-prints : (p : Place) → HasPrints (output_at p) (told-at p)
+place-prints p = prints-behind (text_at p) (done_at p) (told-at p) (place-text p) (done (deed_at p).has_done_line)
+  where
+    done : (b : Bool) → HasPrints (if b then done_line p.1.0 else []) []
+    done true = prints-done p.1.0
+    done false = prints-none
+
+-- the first events print pieces, and tell what is new of all that they report
+abbrev ArePrinted : ℕ → Site → List NumberedLine → Type 0
+ArePrinted n site reads = HasPrints (flat_map output_at (first_events n site reads)) (facts_of (fresh_entries_in site.account (flat_map entries_at (first_events n site reads))))
+
+events-print : (n : ℕ) (site : Site) (reads : List NumberedLine) → ArePrinted n site reads
+events-print zero site reads = prints-none
+events-print (suc n) site [] = prints-none
+events-print (suc n) site (read ∷ reads) = elim (taken-or (site, read)) [
+  | inr refused ↦ rw refused.1 prints-none
+  | inl taken ↦
+      let entries : List Entry = entries_at (site, read) in
+      let next : Site = site_after site read in
+      let later : List Place = first_events (left (is_asking read.1) n) next reads in
+      let more : List Entry = fresh_entries_in next.account (flat_map entries_at later) in
+      rw (events-cut n site read reads output_at silent taken)
+      (subst (HasPrints (output_at (site, read) ++ flat_map output_at later))
+      (sym (ap (λ (es : List Entry). facts_of (fresh_entries_in site.account es)) (events-cut n site read reads entries_at reports-none taken)
+      ∙ ap facts_of (fresh-append site.account entries (flat_map entries_at later))
+      ∙ facts_of-append (fresh_entries_in site.account entries) more))
+      (prints-both (output_at (site, read)) (flat_map output_at later) (told-at (site, read)) (facts_of more)
+      (place-prints (site, read)) (events-print (left (is_asking read.1) n) next reads)))
+]
 
 -- the first events of a script
 output-prints : (start : Start) (script : List ℕ) (n : ℕ) → HasPrints (output_upto start script n) (facts_of (logged start script n))
 output-prints start script n =
-    let events : List Place = take n (events_of start script) in
-    prints-both (standing_lines start.account) (flat_map (output_at start) events) [] (facts_of (logged start script n))
-    (prints-standing start.account) (places-print start events start.account (events-follow start script n))
+    prints-both (standing_lines start.account) (flat_map output_at (take n (events_of start script))) [] (facts_of (logged start script n))
+    (prints-standing start.account) (events-print n (first_site start) (reads_of script))
 
 -- ---- their done lines
 
@@ -145,20 +131,12 @@ output-prints start script n =
 abbrev KeepsDone : List ℕ → Type 0
 KeepsDone text = (more : List ℕ) → done_count more ≤ done_count (text ++ more)
 
-last-kept : (xs more : List (List ℕ)) → 0 < length more → without_last (xs ++ more) ≡ xs ++ without_last more
-last-kept [] more some = refl
-last-kept (x ∷ xs) more some = first (xs ++ more) (omega (arith, length-append xs more)) ∙ ap (λ (ys : List (List ℕ)). x ∷ ys) (last-kept xs more some)
-  where
-    first : (ys : List (List ℕ)) → 0 < length ys → without_last (x ∷ ys) ≡ x ∷ without_last ys
-    first [] less = absurd (omega arith)
-    first (y ∷ ys) less = refl
-
 keeps-line : (line : List ℕ) → KeepsDone (line_with line)
 keeps-line line more =
     let parts : List ℕ → List (List ℕ) = slice_split (λ b. b == 10) in
     let ended : ended_lines (line_with line ++ more) ≡ parts line ++ ended_lines more =
     ap ended_lines (append_assoc line (10 ∷ []) more) ∙ ap without_last (split_between 10 line more)
-    ∙ last-kept (parts line) (parts more) (some_part (λ b. b == 10) more) in
+    ∙ last_kept (parts line) (parts more) (some_part (λ b. b == 10) more) in
     let size : done_count (line_with line ++ more) ≡ length (filter is_done_line (parts line)) + done_count more =
     ap length (ap (filter is_done_line) ended ∙ filter-append is_done_line (parts line) (ended_lines more))
     ∙ length-append (filter is_done_line (parts line)) (filter is_done_line (ended_lines more)) in
@@ -195,51 +173,45 @@ keeps-print (other line) = keeps-line line
 keeps-prints : (text : List ℕ) (told : List Fact) → HasPrints text told → KeepsDone text
 keeps-prints text told has = subst (λ (printed : List ℕ). KeepsDone printed) (sym has.whole) (keeps-all print_text keeps-print has.prints)
 
--- an event has a done line
-abbrev IsDone : Place → Type 0
-IsDone p = event_done p.1.0 (event_at p) ≡ done_line p.1.0
-
-events-done : (start : Start) (ps : List Place) → AllByRecursion IsDone (filter is_event (places_before_refusal start ps))
-events-done start [] = tt
-events-done start (p ∷ ps) = by (places_before_refusal start ps) (refusal_at start p) refl (events-done start ps)
-  where
-    event : (others : List Place) (b : Bool) → is_event p ≡ b → refusal_at start p ≡ None → AllByRecursion IsDone (filter is_event others)
-        → AllByRecursion IsDone (if b then p ∷ filter is_event others else filter is_event others)
-    event others true is taken all = (place-done start p taken is, all)
-    event others false is taken all = all
-
-    by : (others : List Place) (refusal : Option Exit) → refusal_at start p ≡ refusal → AllByRecursion IsDone (filter is_event others)
-        → AllByRecursion IsDone (filter is_event (if is_some refusal then [] else p ∷ others))
-    by others None taken all = event others (is_event p) refl taken all
-    by others (Some exit) refused all = tt
-
 -- so as many done lines are printed as events
-count-places : (start : Start) (ps : List Place) (n : ℕ) (more : List ℕ) → AllByRecursion IsDone ps → n ≤ length ps
-    → n + done_count more ≤ done_count (flat_map (output_at start) (take n ps) ++ more)
-count-places start ps zero more all few = omega arith
-count-places start [] (suc n) more all few = absurd (omega arith)
-count-places start (p ∷ ps) (suc n) more all few =
-    let text : List ℕ = event_text_at start p.0 (event_at p) in
-    let others : List ℕ = flat_map (output_at start) (take n ps) in
-    let split : output_at start p ++ (others ++ more) ≡ text ++ (done_line p.1.0 ++ (others ++ more)) =
-    ap (λ (done : List ℕ). (text ++ done) ++ (others ++ more)) all.0 ∙ append_assoc text (done_line p.1.0) (others ++ more) in
-    omega (
-      arith,
-      ap done_count (append_assoc (output_at start p) others more ∙ split),
-      keeps-prints text _ (text-prints start p.0 p.1.0 (event_at p)) (done_line p.1.0 ++ (others ++ more)),
-      done_counts p.1.0 (others ++ more),
-      count-places start ps n more all.1 (omega (arith, few)),
-    )
+count-events : (n : ℕ) (site : Site) (reads : List NumberedLine) (more : List ℕ) → n ≤ length (events site reads)
+    → n + done_count more ≤ done_count (flat_map output_at (first_events n site reads) ++ more)
+count-events zero site reads more few = omega arith
+count-events (suc n) site [] more few = absurd (omega arith)
+count-events (suc n) site (read ∷ reads) more few =
+    let (taken, fewer) = events-some n site read reads few in
+    by taken (is_asking read.1) refl (count-events (left (is_asking read.1) n) (site_after site read) reads more fewer)
+  where
+    p : Place
+    p = (site, read)
+
+    later : ℕ → List ℕ
+    later m = flat_map output_at (first_events m (site_after site read) reads)
+
+    by : refusal_at p ≡ None → (b : Bool) → is_asking read.1 ≡ b → left b n + done_count more ≤ done_count (later (left b n) ++ more)
+        → suc n + done_count more ≤ done_count (flat_map output_at (first_events (suc n) site (read ∷ reads)) ++ more)
+    by taken false silent rest = rw (taken, silent) rest
+    by taken true event rest =
+        let others : List ℕ = later n ++ more in
+        rw (taken, event) (omega (
+          arith,
+          ap done_count
+              (append_assoc (output_at p) (later n) more
+              ∙ ap (λ (done : List ℕ). (text_at p ++ done) ++ others) (place-done p taken event)
+              ∙ append_assoc (text_at p) (done_line p.1.0) others),
+          keeps-prints (text_at p) (told-at p) (place-text p) (done_line p.1.0 ++ others),
+          done_counts p.1.0 others,
+          rest,
+        ))
 
 count-output : (start : Start) (script : List ℕ) (n : ℕ) (more : List ℕ) → n ≤ event_count start script → n ≤ done_count (output_upto start script n ++ more)
 count-output start script n more few =
-    let events : List Place = events_of start script in
-    let text : List ℕ = flat_map (output_at start) (take n events) in
+    let text : List ℕ = flat_map output_at (take n (events_of start script)) in
     omega (
       arith,
       ap done_count (append_assoc (standing_lines start.account) text more),
       keeps-prints (standing_lines start.account) [] (prints-standing start.account) (text ++ more),
-      count-places start events n more (events-done start (places (reads_of script))) few,
+      count-events n (first_site start) (reads_of script) more few,
     )
 
 -- ---- an era
@@ -248,12 +220,10 @@ count-output start script n more few =
 compare : (xs ys r s : List ℕ) → xs ++ r ≡ ys ++ s → IsPrefixOf xs ys ⊎ ((more : List ℕ) × (1 ≤ length more) × (xs ≡ ys ++ more))
 compare [] ys r s is = inl (ys, refl)
 compare (x ∷ xs) [] r s is = inr (x ∷ xs, omega arith, refl)
-compare (x ∷ xs) (y ∷ ys) r s is = by (ap (λ (t : List ℕ). get_or t 0 0) is) (compare xs ys r s (ap (λ (t : List ℕ). drop 1 t) is))
-  where
-    by : x ≡ y → IsPrefixOf xs ys ⊎ ((more : List ℕ) × (1 ≤ length more) × (xs ≡ ys ++ more))
-        → IsPrefixOf (x ∷ xs) (y ∷ ys) ⊎ ((more : List ℕ) × (1 ≤ length more) × (x ∷ xs ≡ (y ∷ ys) ++ more))
-    by same (inl (rest, whole)) = inl (rest, λ i. same i ∷ whole i)
-    by same (inr (more, some, whole)) = inr (more, some, λ i. same i ∷ whole i)
+compare (x ∷ xs) (y ∷ ys) r s is =
+    let same : x ≡ y = cc in
+    let later : xs ++ r ≡ ys ++ s = cc in
+    elim (compare xs ys r s later) [ inl front ↦ inl (front.0, λ i. same i ∷ front.1 i) | inr over ↦ inr (over.0, over.1, λ i. same i ∷ over.2 i) ]
 
 -- the text of a run from its first events on
 text-split : (run : Run) (n : ℕ) → text_of run ≡ text_upto run n ++ (flat_map (λ (event : RunEvent). event.prints) (drop n run.does) ++ run.closing)
@@ -267,19 +237,8 @@ text-split run n =
 
 text-whole : (run : Run) (n : ℕ) → length run.does ≤ n → text_of run ≡ text_upto run n ++ run.closing
 text-whole run n all =
-    let text : List RunEvent → List ℕ = flat_map (λ (event : RunEvent). event.prints) in
-    sym (append_assoc run.opening (text run.does) run.closing)
-    ∙ ap (λ (events : List RunEvent). (run.opening ++ text events) ++ run.closing) (sym (take-whole run.does n all))
-
-at-most : (a b : ℕ) → nat_lt a b ≡ false → b ≤ a
-at-most a b is = grind (arith, nat_tests)
-
-less-than : (a b : ℕ) → nat_lt a b ≡ true → a < b
-less-than a b is = grind (arith, nat_tests)
-
-no-more : (n done : ℕ) → n ≤ done → (n ≡ done) ⊎ (n ≡ done + 1) → n ≡ done
-no-more n done few (inl same) = same
-no-more n done few (inr next) = absurd (omega (arith, few, next))
+    text-split run n
+    ∙ ap (λ (events : List RunEvent). text_upto run n ++ (flat_map (λ (event : RunEvent). event.prints) events ++ run.closing)) (drop_of_length-le run.does all)
 
 module _ (era : Era) (is : IsEra era) (script : List ℕ) (takes : TakesScript script era) (n : ℕ) (counts : Counts era n) where
   abbrev start : Start
@@ -301,7 +260,7 @@ module _ (era : Era) (is : IsEra era) (script : List ℕ) (takes : TakesScript s
 
   closing-prints : HasPrints run.closing []
   closing-prints =
-      subst (λ (r : Run). HasPrints r.closing []) (sym takes.is) (prints-closing (account_at start (reads_of script)) (run_exit start script))
+      subst (λ (r : Run). HasPrints r.closing []) (sym takes.is) (prints-closing (site_at start (reads_of script)).account (run_exit start script))
 
   printed-front : IsPrefixOf (printed_in era) (text_of run)
   printed-front = subst (λ (text : List ℕ). IsPrefixOf text (text_of run)) (sym (printed-is era is)) is.leaves.begins
@@ -324,26 +283,26 @@ module _ (era : Era) (is : IsEra era) (script : List ℕ) (takes : TakesScript s
   overrun less more some whole =
       let few : n ≤ done_count (output_upto start script n ++ more) = count-output start script n more (omega (arith, less, takes-count script era takes)) in
       let printed : printed_in era ≡ output_upto start script n ++ more = whole ∙ ap (λ (text : List ℕ). text ++ more) text-is in
-      let same : n ≡ done_in era = no-more n (done_in era) (subst (λ (text : List ℕ). n ≤ done_count text) (sym printed) few) counts.whole in
+      let most : n ≤ done_in era = subst (λ (text : List ℕ). n ≤ done_count text) (sym printed) few in
+      let same : n ≡ done_in era = elim counts.whole [ inl whole ↦ whole | inr next ↦ absurd (omega (arith, most, next)) ] in
       let longer : length (text_upto run n) < length (printed_in era) = omega (arith, ap length whole, length-append (text_upto run n) more, some) in
       let next : n ≡ done_in era + 1 = counts.acknowledged (subst (λ (k : ℕ). length (text_upto run k) < length (printed_in era)) same longer) in
       omega (arith, same, next)
 
   within : n < length run.does → IsPrefixOf (printed_in era) (text_upto run n)
-  within less = by (compare (printed_in era) (text_upto run n) printed-front.0 (flat_map (λ (event : RunEvent). event.prints) (drop n run.does) ++ run.closing) (printed-front.1 ∙ text-split run n))
-    where
-      by : IsPrefixOf (printed_in era) (text_upto run n) ⊎ ((more : List ℕ) × (1 ≤ length more) × (printed_in era ≡ text_upto run n ++ more)) → IsPrefixOf (printed_in era) (text_upto run n)
-      by (inl front) = front
-      by (inr (more, some, whole)) = absurd (overrun less more some whole)
+  within less = elim (compare (printed_in era) (text_upto run n) printed-front.0 (flat_map (λ (event : RunEvent). event.prints) (drop n run.does) ++ run.closing) (printed-front.1 ∙ text-split run n)) [
+    | inl front ↦ front
+    | inr over ↦ absurd (overrun less over.0 over.1 over.2)
+  ]
 
-  pub era-prints : IsPrinted
+  era-prints : IsPrinted
   era-prints = by (nat_lt n (length run.does)) refl
     where
       by : (b : Bool) → nat_lt n (length run.does) ≡ b → IsPrinted
-      by true less = printed-of (text_upto run n) upto-prints (within (less-than n (length run.does) less))
+      by true less = printed-of (text_upto run n) upto-prints (within (ltb-true n (length run.does) less))
       by false not =
           printed-of (text_upto run n ++ run.closing) (prints-behind (text_upto run n) run.closing told upto-prints closing-prints)
-          (subst (IsPrefixOf (printed_in era)) (text-whole run n (at-most n (length run.does) not)) printed-front)
+          (subst (IsPrefixOf (printed_in era)) (text-whole run n (ltb-false n (length run.does) not)) printed-front)
 
 -- ---- along eras
 
@@ -360,13 +319,6 @@ prints-along (era ∷ eras) (n ∷ counts) here (begins, is, follow) (one, other
 pub era-printed : (here : Left) (eras : List Era) (counts : List ℕ) → AreEras here eras → CountsEach eras counts → All TakesSome eras
     → (prints : List (List Print)) × PrintsEach eras prints × (flat_map told_in prints ≡ facts_of (logged_in eras counts))
 era-printed here eras counts follow counted takes = prints-along eras counts here follow counted (recursion_from_All TakesSome eras takes)
-
-names-facts : (entries : List Entry) → names_of entries ≡ map (λ (fact : Fact). fact.name) (facts_of entries)
-names-facts [] = refl
-names-facts (FactEntry fact ∷ entries) = ap (λ (names : List Name). fact.name ∷ names) (names-facts entries)
-names-facts (PageLimit limit ∷ entries) = names-facts entries
-names-facts (Retire boot ∷ entries) = names-facts entries
-names-facts (ModuleLimit limit ∷ entries) = names-facts entries
 
 pub printed-once : (history : History) (here : Left) (eras : List Era) → Recovers (account_of history) here → AreEras here eras → All TakesSome eras
     → (prints : List (List Print)) × PrintsEach eras prints × IsDistinct same_name (names_of (fresh_entries history) ++ names_told prints)

@@ -1,33 +1,34 @@
 -- One script that is taken from its first line again after each stop.
-use Rattle.std.proofs.Common.{◌≡◌, ℕ, ◌+◌, ◌≤◌, List, [], ◌∷◌, ◌++◌, length, take, refl, sym, ap, ◌∙◌, subst, inl, inr, append-nil, arith}
-use Rattle.std.specs.Prelude.{◌⊎◌, filter}
+use Rattle.std.proofs.Common.{◌≡◌, ℕ, ◌≤◌, List, [], ◌∷◌, ◌++◌, length, take, refl, sym, ap, ◌∙◌, subst, inl, inr, append-nil, arith}
+use Rattle.std.specs.Prelude.{filter}
 use Rattle.std.specs.List.{AllByRecursion, flat_map}
 use Rattle.std.proofs.lemmas.List.{append_cancel_left}
-use Rattle.std.proofs.lemmas.List.Elements.{All-from_recursion, filter-append, recursion_from_All}
+use Rattle.std.proofs.lemmas.List.Concat.{flat_map-append}
+use Rattle.std.proofs.lemmas.List.Elements.{recursion_from_All}
 use Rattle.board_core.specs.Stop.{Left}
-use Rattle.ras_base.specs.Places.{places, places_behind}
 use Rattle.ras_base.specs.Prefix.{IsPrefixOf}
-use Rattle.ras_base.specs.Steps.PlacesLemmas.{places_behind-append}
 use Rattle.ras_base.specs.Steps.PrefixLemmas.{IsPrefixOf-trans}
 use Rattle.ras_account.specs.Account.{State, account_of}
 use Rattle.ras_account.specs.Fresh.{fresh_entries}
 use Rattle.ras_account.specs.History.{History, with_entries}
 use Rattle.ras_facts.specs.declared.entry.Entry.{Entry}
 use Rattle.ras_journal.specs.Recovered.{Recovers}
-use Rattle.ras_events.specs.Reports.{NumberedLine, Place, entries_at}
+use Rattle.ras_events.specs.Described.{NumberedLine}
+use Rattle.ras_run.specs.Sites.{Site, Start, first_site}
+use Rattle.ras_run.specs.Places.{Place, entries_at, places_from, reports, site_along}
+use Rattle.ras_run.proofs.PlaceLemmas.{places-append}
+use Rattle.ras_daemon.specs.Script.{events_of, is_event, places_of, reads_in, reads_of}
 use Rattle.ras_events.specs.Sizes.{IsFact}
-use Rattle.ras_run.specs.Places.{Start}
 use Rattle.ras_script.specs.Lines.{script_lines}
 use Rattle.ras_daemon.specs.Headline.{reported}
 use Rattle.ras_daemon.specs.Machine.{Run, account_upto}
 use Rattle.ras_daemon.specs.RunOf.{run_of}
-use Rattle.ras_daemon.specs.Runs.{CountTheSame, IsNoPoll, IsTakenWhole, PollsNothing, ReportsFacts, event_count, facts_of, logged}
-use Rattle.ras_daemon.specs.Script.{events_of, is_event, reads_in, reads_of}
+use Rattle.ras_daemon.specs.Runs.{CountTheSame, IsTakenWhole, PollsNothing, ReportsFacts, event_count, facts_of, logged}
 use Rattle.ras_daemon.proofs.AgainLemmas.{counts-again, facts-again, facts_of-append}
 use Rattle.ras_daemon.proofs.HistoryLemmas.{again-counted, with_entries-append}
-use Rattle.ras_daemon.proofs.ListLemmas.{all-front, take-whole}
+use Rattle.ras_daemon.proofs.ListLemmas.{all-front, flat_map-passing, take-whole}
 use Rattle.ras_daemon.proofs.PlaceLemmas.{reads-append, reads_behind}
-use Rattle.ras_daemon.proofs.RunLawLemmas.{accounts-follow, events-front, logs-follow, prefix-flat_map, reported-any, taken-events}
+use Rattle.ras_daemon.proofs.RunLawLemmas.{accounts-follow, events-front, logs-follow, prefix-flat_map, reported-whole, reports-none, script-reports, taken-events}
 use Rattle.era_laws.specs.Eras.{AreEras, Counts, CountsEach, Era, IsReplayed, TakesFirst, TakesScript, done_in, logged_in, logs_upto, reported_in, reports_upto}
 use Rattle.era_laws.proofs.EraLemmas.{counts-of, leaves-history, logs-along, one-account}
 use Rattle.era_laws.proofs.TakesLemmas.{takes-count, takes-reports, whole-account, whole-logs}
@@ -38,56 +39,35 @@ module _ (script : List ℕ) (polls : PollsNothing script) (one : Start) (whole 
   abbrev all : List Entry
   all = reported one script (event_count one script)
 
-  abbrev by-any : List Place → List Entry
-  by-any = flat_map (entries_at [])
-
-  whole-reports : (next : Start) (n : ℕ) → event_count next script ≤ n → reported next script n ≡ by-any (events_of next script)
-  whole-reports next n most = reported-any next [] script n polls ∙ ap by-any (take-whole (events_of next script) n most)
-
-  all-reports : all ≡ by-any (filter is_event (places (reads_of script)))
-  all-reports = whole-reports one (event_count one script) (omega arith) ∙ ap by-any (taken-events one script whole)
+  any-reports : (next : Start) → reports (first_site next) (reads_of script) ≡ all
+  any-reports next = script-reports next one script polls ∙ sym (reported-whole one script whole)
 
   -- a run that takes the script whole reports all of it
-  pub last-reports : (next : Start) (n : ℕ) → IsTakenWhole next script → event_count next script ≤ n → reported next script n ≡ all
-  last-reports next n taken most = whole-reports next n most ∙ ap by-any (taken-events next script taken) ∙ sym all-reports
+  last-reports : (next : Start) (n : ℕ) → IsTakenWhole next script → event_count next script ≤ n → reported next script n ≡ all
+  last-reports next n taken most =
+      ap (flat_map entries_at) (take-whole (events_of next script) n most ∙ taken-events next script taken)
+      ∙ flat_map-passing is_event entries_at reports-none (places_of next script) ∙ any-reports next
 
   -- and a run of its first lines a beginning of it
-  module _ (own : List ℕ) (first : IsPrefixOf (script_lines own).whole (script_lines script).whole) where
-    abbrev more : List NumberedLine
-    more = reads_behind (script_lines own).whole first.0
-
-    reads-split : reads_of script ≡ reads_of own ++ more
-    reads-split = ap reads_in (sym first.1) ∙ reads-append (script_lines own).whole first.0
-
-    own-polls : PollsNothing own
-    own-polls =
-        All-from_recursion IsNoPoll (reads_of own)
-        (all-front IsNoPoll (reads_of own) more (subst (AllByRecursion IsNoPoll) reads-split (recursion_from_All IsNoPoll (reads_of script) polls)))
-
-    own-events : IsPrefixOf (filter is_event (places (reads_of own))) (filter is_event (places (reads_of script)))
-    own-events = (
-      filter is_event (places_behind (reads_of own) more),
-      sym (filter-append is_event (places (reads_of own)) (places_behind (reads_of own) more))
-          ∙ ap (filter is_event) (sym (ap places reads-split ∙ places_behind-append [] (reads_of own) more)),
-    )
-
-    pub reports-front : (next : Start) (n : ℕ) → IsPrefixOf (reported next own n) all
-    reports-front next n =
-        let events : List Place = filter is_event (places (reads_of script)) in
-        subst (λ (es : List Entry). IsPrefixOf es all) (sym (reported-any next [] own n own-polls))
-        (subst (IsPrefixOf (by-any (take n (events_of next own)))) (sym all-reports)
-        (prefix-flat_map (entries_at []) (take n (events_of next own)) events
-        (IsPrefixOf-trans (take n (events_of next own)) (filter is_event (places (reads_of own))) events (events-front next own n) own-events)))
+  reports-front : (own : List ℕ) → IsPrefixOf (script_lines own).whole (script_lines script).whole → (next : Start) (n : ℕ) → IsPrefixOf (reported next own n) all
+  reports-front own first next n =
+      let site : Site = first_site next in
+      let more : List NumberedLine = reads_behind (script_lines own).whole first.0 in
+      let events : List Place = take n (events_of next own) in
+      let split : reports site (reads_of own) ++ reports (site_along site (reads_of own)) more ≡ all =
+      sym (flat_map-append entries_at (places_of next own) (places_from (site_along site (reads_of own)) more))
+      ∙ ap (flat_map entries_at) (sym (places-append site (reads_of own) more) ∙ ap (places_from site) (sym (reads-append (script_lines own).whole first.0) ∙ ap reads_in first.1))
+      ∙ any-reports next in
+      IsPrefixOf-trans (reported next own n) (reports site (reads_of own)) all
+      (subst (IsPrefixOf (reported next own n)) (flat_map-passing is_event entries_at reports-none (places_of next own))
+      (prefix-flat_map entries_at events (filter is_event (places_of next own)) (events-front next own n)))
+      (reports (site_along site (reads_of own)) more, split)
 
   -- ---- one run after another, and one that isn't stopped
 
   module _ (last : Era) (takes : TakesScript script last) (taken : IsTakenWhole takes.start script) (done : length last.run.does ≤ done_in last) where
     most : (n : ℕ) → Counts last n → event_count takes.start script ≤ n
-    most n one = subst (λ (count : ℕ). count ≤ n) (takes-count script last takes) (by one.whole)
-      where
-        by : (n ≡ done_in last) ⊎ (n ≡ done_in last + 1) → length last.run.does ≤ n
-        by (inl is) = omega arith
-        by (inr is) = omega arith
+    most n one = subst (λ (count : ℕ). count ≤ n) (takes-count script last takes) (elim one.whole [ inl is ↦ omega arith | inr is ↦ omega arith ])
 
     -- what the last run reports
     ends : (n : ℕ) → Counts last n → reports_upto last.run n ≡ all

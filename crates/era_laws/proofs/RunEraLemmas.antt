@@ -14,7 +14,7 @@ use Rattle.ras_daemon.specs.Promises.{RunStops}
 use Rattle.ras_daemon.specs.RunOf.{run_of}
 use Rattle.ras_daemon.specs.RunStatus.{start_of}
 use Rattle.ras_daemon.proofs.HeadlineLemmas.{headline-nothing}
-use Rattle.ras_run.specs.Places.{Start}
+use Rattle.ras_run.specs.Sites.{Start}
 use Rattle.era_laws.specs.Eras.{IsEra, era_of}
 
 pub stops-recover : (clock : Clock) (account : State) (t : Told) → Recovers account t.here → ((left : Left) → LeftNow clock left → left ≡ t.here) → StopsRecover (start_of account t) clock

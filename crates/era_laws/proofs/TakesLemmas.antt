@@ -4,19 +4,19 @@ use Rattle.std.specs.List.{flat_map}
 use Rattle.std.proofs.lemmas.List.{length-map, take-map}
 use Rattle.std.proofs.lemmas.List.Folds.{flat_map-map}
 use Rattle.ras_account.specs.Numbers.{fresh_entries_in}
-use Rattle.ras_run.specs.Places.{Start}
+use Rattle.ras_run.specs.Sites.{Start}
+use Rattle.ras_daemon.specs.Script.{events_of}
 use Rattle.ras_daemon.specs.Headline.{account_with, reported}
 use Rattle.ras_daemon.specs.Machine.{Run, RunEvent, account_upto}
 use Rattle.ras_daemon.specs.RunOf.{run_event_at, run_of}
 use Rattle.ras_daemon.specs.Runs.{event_count, logged}
-use Rattle.ras_daemon.specs.Script.{events_of}
 use Rattle.ras_daemon.proofs.MachineLemmas.{account-same}
 use Rattle.era_laws.specs.Eras.{Era, TakesScript, logs_upto, reports_upto}
 
 pub reports-same : (start : Start) (script : List ℕ) (n : ℕ) → reports_upto (run_of start script) n ≡ reported start script n
 reports-same start script n =
-    ap (flat_map (λ (event : RunEvent). event.reports)) (take-map (run_event_at start) n (events_of start script))
-    ∙ flat_map-map (λ (event : RunEvent). event.reports) (run_event_at start) (take n (events_of start script))
+    ap (flat_map (λ (event : RunEvent). event.reports)) (take-map run_event_at n (events_of start script))
+    ∙ flat_map-map (λ (event : RunEvent). event.reports) run_event_at (take n (events_of start script))
 
 pub logs-same : (start : Start) (script : List ℕ) (n : ℕ) → logs_upto (run_of start script) n ≡ logged start script n
 logs-same start script n = ap (fresh_entries_in start.account) (reports-same start script n)
@@ -27,7 +27,7 @@ module _ (start : Start) (script : List ℕ) where
   whole = run_of start script
 
   count-same : length whole.does ≡ event_count start script
-  count-same = length-map (events_of start script) (run_event_at start)
+  count-same = length-map (events_of start script) run_event_at
 
   pub whole-account : account_upto whole (length whole.does) ≡ account_with start script (event_count start script)
   whole-account = account-same start script (length whole.does) ∙ ap (account_with start script) count-same

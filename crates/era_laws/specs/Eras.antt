@@ -2,6 +2,7 @@
 -- before it.
 use Rattle.std.specs.Prelude.{◌≡◌, ℕ, ◌+◌, ◌<◌, ◌≤◌, ◌⊎◌, nat_eq, Bool, false, if◌then◌else◌, List, [], ◌∷◌, ◌++◌, length, drop, take, All, Contains, Option, Ok, ⊤}
 use Rattle.std.specs.List.{flat_map, fold}
+use Rattle.std.specs.Option.{option_or}
 use Rattle.board_core.specs.Stop.{Left}
 use Rattle.board_core.specs.Told.{Told}
 use Rattle.erst_store.specs.Store.{Stored, bytes_under}
@@ -16,7 +17,7 @@ use Rattle.ras_panic.specs.Reading.{stored_name}
 use Rattle.ras_events.specs.Preparing.{orders_along_entries}
 use Rattle.ras_events.specs.Stores.{read_stored}
 use Rattle.ras_base.specs.Prefix.{IsPrefixOf}
-use Rattle.ras_run.specs.Places.{Start}
+use Rattle.ras_run.specs.Sites.{Start}
 use Rattle.ras_script.specs.Lines.{script_lines}
 use Rattle.ras_events.specs.DoneLines.{done_count}
 use Rattle.ras_daemon.specs.Headline.{Headline}
@@ -113,11 +114,11 @@ is_put_by change id = false
 
 -- The bytes last stored under an identifier when an era is over, if `before` was stored at its start: by its
 -- events that are done. If the next event puts a record there too, the crash may have come before or after it
--- was stored, so what was left there counts.
+-- was stored. Then what was left there counts, and if nothing was left there, the older record.
 abbrev pub laid_in : ℕ → Option (List ℕ) → Era → Option (List ℕ)
 laid_in id before era =
-    if is_put_by (change_next era.run (done_in era)) id then bytes_under id era.left.store
-    else fold (last_changed id) before (changes_upto era.run (done_in era))
+    let older = fold (last_changed id) before (changes_upto era.run (done_in era)) in
+    if is_put_by (change_next era.run (done_in era)) id then option_or (bytes_under id era.left.store) older else older
 
 -- the bytes last stored under an identifier after all eras, over the records that are here
 abbrev pub last_laid_in : Left → List Era → ℕ → Option (List ℕ)

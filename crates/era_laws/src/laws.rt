@@ -22,7 +22,7 @@ ghost use Rattle.ras_account.specs.Orders.{orders, orders_since_mark};
 ghost use Rattle.ras_journal.specs.Recovered.{Recovers};
 ghost use Rattle.ras_recover.specs.Recovering.{SyncsFirst};
 ghost use Rattle.ras_exit.specs.declared.exit.Exit.{Exit};
-ghost use Rattle.ras_run.specs.Places.{Start};
+ghost use Rattle.ras_run.specs.Sites.{Start};
 ghost use Rattle.ras_daemon.specs.Headline.{AtOpening, Settles, StopsRecover, reported};
 ghost use Rattle.ras_daemon.specs.Machine.{account_upto, change_next, puts, store_changed};
 ghost use Rattle.ras_daemon.specs.Machine.{store_upto};

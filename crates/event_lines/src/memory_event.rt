@@ -1,8 +1,9 @@
 //! Reads the texts of the events `mc_event` and `extlog_mem_event`, memory errors that the firmware
 //! reported.
 
-ghost use Rattle.std.specs.Prelude.{◌≡◌, ◌<◌, length, IfSome};
+ghost use Rattle.std.specs.Prelude.{◌≡◌, ◌+◌, ◌<◌, ◌≤◌, length, IfSome};
 ghost use Rattle.std.specs.Option.{option_map};
+ghost use Rattle.bank_lines.specs.LogHeads.{mark_place};
 ghost use Rattle.event_lines.specs.Memory.{addressed_error_of, addresses_in, behind_controller, behind_first};
 ghost use Rattle.event_lines.specs.Memory.{controller_error_of, controller_of, detail_in, kind_before, extlog_error_of};
 ghost use Rattle.event_lines.specs.Memory.{mask_and_location};
@@ -11,8 +12,9 @@ use crate::memory_words::{
     address_told, grain_mask, grain_of, kind_named, low_bit_mask, low_bit_of, type_severity,
     whole_address_told,
 };
-use bank_lines::{cut, mark_place, value_after};
+use bank_lines::{cut, value_after};
 use block_lines::{ErrorLocation, MemoryError, location_of, severity_of};
+use memchr::memmem;
 use ras_script::hexadecimal;
 
 // Returns what a memory controller's event has in its parentheses, if a parenthesis ends it.
@@ -40,7 +42,7 @@ fn behind_first(text: &[u8]) -> Option<&[u8]>
     ensures behind { option_map (λ behind. behind.now) result ≡ behind_first text.now }
     ensures shorter { IfSome result (λ behind. length behind.now < length text.now) }
 {
-    let place = mark_place(b" (mc:", text)?;
+    let place = place_of(b" (mc:", text)?;
     Some(&text[place + 5..])
 }
 
@@ -85,7 +87,7 @@ pub(crate) fn controller_error(text: &[u8], controller: &[u8], places: &[u8]) ->
 fn kind_before(text: &[u8; 4], message: &[u8]) -> Option<u8>
     ensures { result ≡ kind_before text.now message.now }
 {
-    let place = mark_place(text, message)?;
+    let place = place_of(text, message)?;
     kind_named(&message[..place])
 }
 
@@ -97,7 +99,7 @@ pub(crate) fn extlog_error(text: &[u8]) -> Option<MemoryError>
     let (severity, rest) = cut(b' ', value_after(b" ", rest)?);
     let message = value_after(b"error: ", rest)?;
     let mark = b" physical addr: ";
-    let place = mark_place(mark, message)?;
+    let place = place_of(mark, message)?;
     addressed_error(
         severity_of(severity),
         kind_named(&message[..place]),
@@ -129,6 +131,16 @@ fn mask_and_location(text: &[u8]) -> Option<(Option<u64>, ErrorLocation)>
     let bit = low_bit_of(bit)?;
     let places = value_after(b" ", rest)?;
     // A line that is cut lacks it.
-    mark_place(b"FRU: ", places)?;
+    place_of(b"FRU: ", places)?;
     Some((low_bit_mask(bit), location_of(places)))
+}
+
+// Returns the first place of a text within another, as `mark_place` does. The compiler inlines
+// `mark_place`, which every line of a trace calls, only while all its calls look for one text.
+fn place_of(text: &[u8], within: &[u8]) -> Option<usize>
+    requires { 0 < length text.now }
+    ensures place { result ≡ mark_place text.now within.now }
+    ensures fits { IfSome result (λ place. place + length text.now ≤ length within.now) }
+{
+    memmem::find(within, text)
 }

@@ -67,7 +67,7 @@ pub enum Refusal {
     Other,
 }
 
-/// What only the model is told: how the process has its files.
+/// A note for the model alone: how the process has its files.
 #[derive(Clone, Copy)]
 pub enum Note {
     /// The file of this name, which was locked, counts as locked.

@@ -15,8 +15,8 @@ use Rattle.ras_exit.specs.Causes.{BoardCause, Causes, SourceCause}
 use Rattle.ras_exit.specs.Telling.{PrintMoment}
 use Rattle.ras_exit.proofs.EndingLemmas.{on_answer, on_cut}
 use Rattle.line_filters.specs.Filter.{Filter}
-use Rattle.line_filters.specs.Filters.{Filters, IsFilterExit, OfBoth, StopsFiltering, TakesOf, closing_text, filter_exit, filter_output}
-use Rattle.line_filters.specs.Steps.Filtering.{Ends, EndsBoth, LinesEnd, exit_of, has_failed}
+use Rattle.line_filters.specs.Filters.{Filters, IsFilterExit, OfBoth, StopsFiltering, TakesOf, closing_text, exit_of, filter_exit, filter_output}
+use Rattle.line_filters.specs.Steps.Filtering.{Ends, EndsBoth, LinesEnd, has_failed}
 use Rattle.line_filters.proofs.MomentLemmas.{stops_more}
 use Rattle.line_filters.proofs.StepLemmas.{on_more}
 

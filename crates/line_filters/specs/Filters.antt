@@ -16,6 +16,11 @@ use Rattle.ras_exit.specs.StopLine.{stop_line}
 use Rattle.ras_exit.specs.Telling.{OnlyText, PrintMoment, Tells}
 use Rattle.line_filters.specs.Filter.{Filter}
 
+-- how a call ends whose lines ended so: if all were taken, it is done
+abbrev pub exit_of : Result (Unit {0}) Exit → Exit
+exit_of (Ok done) = Done
+exit_of (Err exit) = exit
+
 -- the texts before the first refused line
 abbrev pub texts_in : List (Result (List ℕ) LineRefused) → List (List ℕ)
 texts_in [] = []

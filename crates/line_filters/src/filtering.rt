@@ -6,9 +6,9 @@ ghost use Rattle.ras_script.specs.declared.reader.TheConstants.{LONGEST_LINE, LO
 ghost use Rattle.ras_exit.specs.Causes.{BoardCause, Causes, SourceCause};
 ghost use Rattle.board_core.specs.Device.{LeavesDevice};
 ghost use Rattle.ras_exit.specs.Endings.{IsAnswer, IsCut};
-ghost use Rattle.line_filters.specs.Filters.{Filters, IsFilterExit, OfBoth, StopsFiltering, TakesOf, closing_text};
+ghost use Rattle.line_filters.specs.Filters.{Filters, IsFilterExit, OfBoth, StopsFiltering, TakesOf, closing_text, exit_of};
 ghost use Rattle.line_filters.specs.Numbered.{no_lines};
-ghost use Rattle.line_filters.specs.Steps.Filtering.{Ends, EndsBoth, GathersBoth, IsTakeExit, PrintsWaiting, TakesLine, exit_of, has_failed};
+ghost use Rattle.line_filters.specs.Steps.Filtering.{Ends, EndsBoth, GathersBoth, IsTakeExit, PrintsWaiting, TakesLine, has_failed};
 
 use crate::{LineFilter, NumberedLines};
 use board_core::{Board, Source};
@@ -83,8 +83,8 @@ fn take_lines<S: Source, B: Board, F: LineFilter>(
     }
 }
 
-// How a call ends, by how its lines ended.
-fn exit_of(ended: Result<(), Exit>) -> Exit
+/// Returns how a call ends whose lines ended so.
+pub fn exit_of(ended: Result<(), Exit>) -> Exit
     ensures { result ≡ exit_of ended }
 {
     match ended {

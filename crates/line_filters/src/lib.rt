@@ -7,5 +7,5 @@ mod filtering;
 mod lines;
 
 pub use filter::LineFilter;
-pub use filtering::filter_lines;
+pub use filtering::{exit_of, filter_lines};
 pub use lines::NumberedLines;

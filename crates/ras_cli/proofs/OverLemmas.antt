@@ -40,7 +40,7 @@ use Rattle.ras_recover.specs.Recovering.{SyncsFirst}
 use Rattle.ras_daemon.specs.Reporting.{ReportMoment, Reports, report_output}
 use Rattle.listing_texts.specs.declared.listing.Listing.{Listing}
 use Rattle.ras_run.specs.Files.{files_refusal}
-use Rattle.ras_run.specs.Places.{Start}
+use Rattle.ras_run.specs.Sites.{Start}
 
 -- ---- when the promises are made
 

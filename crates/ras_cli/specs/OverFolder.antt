@@ -16,7 +16,7 @@ use Rattle.ras_journal.specs.Recovered.{Recovers}
 use Rattle.ras_daemon.specs.Reporting.{ReportMoment, report_exit, report_output}
 use Rattle.listing_texts.specs.declared.listing.Listing.{Listing}
 use Rattle.ras_run.specs.Files.{files_refusal}
-use Rattle.ras_run.specs.Places.{Start}
+use Rattle.ras_run.specs.Sites.{Start}
 use Rattle.ras_daemon.specs.Commands.{ByTask}
 use Rattle.ras_daemon.specs.Headline.{AtOpening, Headline, IsWhole, StopsRecover}
 use Rattle.ras_daemon.specs.Promises.{EndsRefused}

@@ -35,7 +35,7 @@ pub record IsSame (one other : History) : Type 0 where
   pub module_limit : module_limit_after one ≡ module_limit_after other
 
 -- facts have names, and these are the names of entries
-names-facts : (es : List Entry) → names_of es ≡ map (λ (fact : FactOf). fact.name) (facts_of es)
+pub names-facts : (es : List Entry) → names_of es ≡ map (λ (fact : FactOf). fact.name) (facts_of es)
 names-facts [] = refl
 names-facts (Fact fact ∷ es) = ap (λ (ns : List Name). fact.name ∷ ns) (names-facts es)
 names-facts (PageLimit limit ∷ es) = names-facts es

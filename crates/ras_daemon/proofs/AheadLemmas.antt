@@ -6,9 +6,10 @@ use Rattle.std.specs.Option.{option_map}
 use Rattle.std.proofs.lemmas.Bool.Decides.{nat_tests}
 use Rattle.board_core.specs.Doing.{Seen}
 use Rattle.board_core.specs.Told.{Relates, Told}
-use Rattle.ras_base.specs.Places.{places, places_behind}
 use Rattle.ras_account.specs.Accounts.{IsAccount}
-use Rattle.ras_events.specs.Reports.{NumberedLine}
+use Rattle.ras_run.specs.Sites.{Site, Start, first_site}
+use Rattle.ras_run.specs.Places.{places_from, site_after}
+use Rattle.ras_daemon.specs.Script.{reads_in}
 use Rattle.ras_script.specs.declared.reader.TheConstants.{LONGEST_LINE}
 use Rattle.ras_script.specs.Line.{line_of}
 use Rattle.ras_script.specs.Splitting.{lines_of}
@@ -17,13 +18,11 @@ use Rattle.ras_texts.specs.Orders.{standing_lines}
 use Rattle.ras_events.specs.DoneLines.{done_count}
 use Rattle.ras_exit.specs.declared.exit.Exit.{Exit}
 use Rattle.ras_exit.specs.declared.exit.Exit.TheVariants.{SourceFault}
-use Rattle.ras_run.specs.Places.{Start}
 use Rattle.ras_daemon.specs.Ahead.{TakesAhead, end_of_event, events_in, is_event_line}
 use Rattle.ras_exit.specs.Telling.{PrintsPart}
 use Rattle.ras_daemon.specs.Steps.Doing.{Ends}
 use Rattle.ras_daemon.specs.RunOutput.{run_output}
 use Rattle.ras_daemon.specs.Steps.Running.{EndsAhead, ReadAhead, first_size, lines_from, outputs}
-use Rattle.ras_daemon.specs.Script.{reads_in}
 use Rattle.ras_daemon.proofs.SaidLemmas.{Printed}
 use Rattle.ras_daemon.proofs.CountLemmas.{count-first, events_among}
 
@@ -65,12 +64,12 @@ fault_before see exit result line a b (inl (answer, inr (inr short))) fault = le
 -- ---- which event isn't done
 
 -- how many lines are events, as lines and at their places
-events-places : (before : List NumberedLine) (n : ℕ) (lines : List (List ℕ)) → events_among (places_behind before (enumerate_from n (map line_of lines))) ≡ events_in lines
-events-places before n [] = refl
-events-places before n (line ∷ lines) = by (is_event_line line) refl (events-places (before ++ (n, line_of line) ∷ []) (n + 1) lines)
+events-places : (site : Site) (n : ℕ) (lines : List (List ℕ)) → events_among (places_from site (enumerate_from n (map line_of lines))) ≡ events_in lines
+events-places site n [] = refl
+events-places site n (line ∷ lines) = by (is_event_line line) refl (events-places (site_after site (n, line_of line)) (n + 1) lines)
   where
-    by : (t : Bool) → is_event_line line ≡ t → events_among (places_behind (before ++ (n, line_of line) ∷ []) (enumerate_from (n + 1) (map line_of lines))) ≡ events_in lines
-        → events_among (places_behind before (enumerate_from n (map line_of (line ∷ lines)))) ≡ events_in (line ∷ lines)
+    by : (t : Bool) → is_event_line line ≡ t → events_among (places_from (site_after site (n, line_of line)) (enumerate_from (n + 1) (map line_of lines))) ≡ events_in lines
+        → events_among (places_from site (enumerate_from n (map line_of (line ∷ lines)))) ≡ events_in (line ∷ lines)
     by true is rest = rw is (ap suc rest)
     by false is rest = rw is rest
 
@@ -122,8 +121,8 @@ takes_ahead exit start script left t now account ahead =
     let orders : List ℕ = standing_lines start.account in
     let lines : List ℕ = outputs start (reads_in ahead.done) in
     let part : List ℕ = ahead.text.0 in
-    let counts : done_count ((orders ++ lines) ++ part) ≡ events_among (places (reads_in ahead.done)) + done_count part = count-first start script (reads_in ahead.done) ahead.first account part in
-    let same : events_among (places (reads_in ahead.done)) ≡ events_in ahead.done = events-places [] 1 ahead.done in
+    let counts : done_count ((orders ++ lines) ++ part) ≡ events_among (places_from (first_site start) (reads_in ahead.done)) + done_count part = count-first start script (reads_in ahead.done) ahead.first account part in
+    let same : events_among (places_from (first_site start) (reads_in ahead.done)) ≡ events_in ahead.done = events-places (first_site start) 1 ahead.done in
     let few : events_in ahead.done ≤ done_count ((orders ++ lines) ++ part) = omega arith in
     let least : IfSome (end_of_event (done_count ((orders ++ lines) ++ part)) (ahead.done ++ ahead.more)) (λ end. length (script_of ahead.done) + first_size ahead.more ≤ end) = end_after ahead.done ahead.more (done_count ((orders ++ lines) ++ part)) few in
     record {

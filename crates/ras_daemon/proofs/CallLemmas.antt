@@ -7,8 +7,6 @@ use Rattle.board_core.specs.Clock.{Adds, Always, Clock, LeftNow, Rests}
 use Rattle.board_core.specs.Steps.ClockLemmas.{adds_weaker}
 use Rattle.board_core.specs.Stop.{Left}
 use Rattle.board_core.specs.Told.{Told}
-use Rattle.erst_store.specs.Store.{Stored}
-use Rattle.ras_base.specs.Places.{places}
 use Rattle.ras_account.specs.Account.{State}
 use Rattle.ras_account.specs.Accounts.{IsAccount}
 use Rattle.ras_journal.specs.Recovered.{Recovers}
@@ -16,16 +14,17 @@ use Rattle.ras_recover.specs.Opening.{OpeningSynced}
 use Rattle.ras_recover.specs.OpeningActs.{AreOpeningActs}
 use Rattle.ras_recover.specs.Recovering.{SyncsFirst}
 use Rattle.ras_texts.specs.Orders.{standing_lines}
-use Rattle.ras_events.specs.Reports.{NumberedLine}
+use Rattle.ras_events.specs.Described.{NumberedLine}
+use Rattle.ras_run.specs.Sites.{Start}
+use Rattle.ras_run.specs.Places.{site_at}
 use Rattle.ras_events.specs.DoneLines.{done_count}
 use Rattle.ras_exit.specs.declared.exit.Exit.{Exit}
 use Rattle.ras_exit.specs.Endings.{CallEnding, EndsBy, IfAnswered, OnAnswer, OnlyFault, OnWhole, UnlessFaulted, answered, ending_of, faulted, source_failed, starved}
 use Rattle.ras_exit.specs.Telling.{PrintsPart}
 use Rattle.ras_exit.proofs.EndingLemmas.{memory_ran_out}
 use Rattle.ras_run.specs.Output.{output_at}
-use Rattle.ras_run.specs.Places.{Start, account_at, store_at}
 use Rattle.ras_daemon.specs.Ahead.{TakesAhead}
-use Rattle.ras_daemon.specs.Headline.{AtOpening, Headline, IsWhole, NeverOpens, Settles, StopsRecover, account_with}
+use Rattle.ras_daemon.specs.Headline.{AtOpening, Headline, IsWhole, NeverOpens, Settles, StopsRecover}
 use Rattle.ras_daemon.specs.Machine.{change_next, store_upto}
 use Rattle.ras_daemon.specs.RunOf.{run_of}
 use Rattle.ras_daemon.specs.Promises.{HasOpened, Ran, RunStops, StillTell}
@@ -42,7 +41,7 @@ use Rattle.ras_daemon.specs.StoreDuring.{store_at_end}
 use Rattle.ras_daemon.specs.Steps.Running.{AreAll, AreFirst, EndsEarly, EndsIn, EndsAhead, EndsSo, OpenMoment, RunEnds, RunMoment, lines_from, outputs}
 use Rattle.ras_daemon.proofs.HeadlineLemmas.{closing-quiet, headline, headline-since, moment-prints}
 use Rattle.ras_daemon.proofs.ScriptLemmas.{takes_stops}
-use Rattle.ras_daemon.proofs.CountLemmas.{account-first, count-first, events_among}
+use Rattle.ras_daemon.proofs.CountLemmas.{account-first, count-first, events_before}
 use Rattle.ras_daemon.proofs.FirstLinesLemmas.{closing-same}
 use Rattle.ras_daemon.proofs.CourseLemmas.{end-store, kept-at-end}
 use Rattle.ras_daemon.proofs.StoreLemmas.{store-first}
@@ -53,10 +52,19 @@ use Rattle.ras_events.proofs.DoneLemmas.{none_done}
 -- ---- where a run comes to an answer
 
 -- all that it prints
-pub text-so : (start : Start) (script : List ℕ) (exit : Exit) (before : List NumberedLine) → AreAll start script exit before
-    → standing_lines start.account ++ (outputs start before ++ closing_line (account_at start before) exit) ≡ run_output start script
+text-so : (start : Start) (script : List ℕ) (exit : Exit) (before : List NumberedLine) → AreAll start script exit before
+    → standing_lines start.account ++ (outputs start before ++ closing_line (site_at start before).account exit) ≡ run_output start script
 text-so start script exit before all = λ i.
-    standing_lines start.account ++ (flat_map (output_at start) (sym all.all i) ++ closing-same start script exit before all i)
+    standing_lines start.account ++ (flat_map output_at (sym all.all i) ++ closing-same start script exit before all i)
+
+-- by all that it prints, the events of its lines are done
+pub lines-counted : (start : Start) (script : List ℕ) (exit : Exit) (before : List NumberedLine) → AreAll start script exit before → IsAccount start.account → done_count (run_output start script) ≡ events_before start before
+lines-counted start script exit before all account =
+    let last : List ℕ = closing_line (site_at start before).account exit in
+    let none : done_count last ≡ 0 = none_done last last [] (closing-quiet (site_at start before).account exit) (append-nil last) in
+    ap done_count (sym (text-so start script exit before all) ∙ sym (append_assoc (standing_lines start.account) (outputs start before) last))
+    ∙ count-first start script before all.first account last
+    ∙ omega (arith, none)
 
 -- it was printed
 output-so : (start : Start) (script : List ℕ) (exit : Exit) (old now : Told) → EndsSo start script exit old.here.out now → now.here.out ≡ old.here.out ++ run_output start script
@@ -77,50 +85,37 @@ module _ (start : Start) (script : List ℕ) (old now : Told) where
   pub ends-output : (exit : Exit) → RunEnds start script exit old.here.out now → OnAnswer exit (now.here.out ≡ old.here.out ++ run_output start script)
   ends-output exit = ends-answer exit (now.here.out ≡ old.here.out ++ run_output start script) (output-so start script exit old now)
 
-  -- whole events, by their number
-  abbrev store-with : Exit → ℕ → List Stored
-  store-with exit n = store_at_end exit (change_next (run_of start script) n) (store_upto (run_of start script) n)
-
-  whole-by : (exit : Exit) (printed : List ℕ) (n : ℕ) → now.here.out ≡ old.here.out ++ printed → done_count printed ≡ n → Recovers (account_with start script n) now.here
-      → now.here.store ≡ store-with exit n → IsWhole (run_of start script) exit old now
-  whole-by exit printed n text count recovers store = record {
+  -- whole events, those of first lines
+  whole-lines : (exit : Exit) (before : List NumberedLine) (printed : List ℕ) → AreFirst start script before → Recovers (site_at start before).account now.here
+      → now.here.store ≡ store_at_end exit (change_next (run_of start script) (events_before start before)) (store_upto (run_of start script) (events_before start before))
+      → done_count printed ≡ events_before start before → now.here.out ≡ old.here.out ++ printed → IsWhole (run_of start script) exit old now
+  whole-lines exit before printed first recovers store count text = record {
     printed = printed;
     text = text;
-    done = n;
+    done = events_before start before;
     counted = count;
-    recovers = subst (λ (account : State). Recovers account now.here) (sym (account-same start script n)) recovers;
+    recovers = subst (λ (account : State). Recovers account now.here) (sym (account-same start script (events_before start before) ∙ account-first start script before first)) recovers;
     store = store;
   }
 
-  whole-lines : (exit : Exit) (before : List NumberedLine) (last : List ℕ) → AreFirst start script before → IsAccount start.account
-      → Recovers (account_at start before) now.here → now.here.store ≡ store-with exit (events_among (places before)) → done_count last ≡ 0
-      → now.here.out ≡ old.here.out ++ ((standing_lines start.account ++ outputs start before) ++ last) → IsWhole (run_of start script) exit old now
-  whole-lines exit before last first account recovers store none text =
-      whole-by exit ((standing_lines start.account ++ outputs start before) ++ last) (events_among (places before)) text
-      (count-first start script before first account last ∙ omega (arith, none))
-      (subst (λ (a : State). Recovers a now.here) (sym (account-first start script before first account)) recovers)
-      store
-
   whole-so : (exit : Exit) → EndsSo start script exit old.here.out now → IsWhole (run_of start script) exit old now
   whole-so exit ends =
-      let last : List ℕ = closing_line (account_at start ends.before) exit in
-      whole-lines exit ends.before last ends.all.first ends.account ends.recovers (end-store start script exit ends.before now.here.store ends.all ends.account ends.store)
-      (none_done last last [] (closing-quiet (account_at start ends.before) exit) (append-nil last))
-      (ends.text ∙ ap (λ (text : List ℕ). old.here.out ++ text) (sym (append_assoc (standing_lines start.account) (outputs start ends.before) last)))
+      whole-lines exit ends.before (run_output start script) ends.all.first ends.recovers (end-store start script exit ends.before now.here.store ends.all ends.store)
+      (lines-counted start script exit ends.before ends.all ends.account) (output-so start script exit old now ends)
 
   early-lines : (exit : Exit) → (exit ≡ ErstBusy → ⊥) → EndsEarly start script old.here.out now → IsWhole (run_of start script) exit old now
   early-lines exit free ends = by ends.text
     where
-      left : (n : ℕ) → store_at start ends.before ≡ store_upto (run_of start script) n → now.here.store ≡ store-with exit n
-      left n is = ends.store ∙ is ∙ sym (kept-at-end exit (change_next (run_of start script) n) (store_upto (run_of start script) n) free)
+      whole : (printed : List ℕ) → done_count printed ≡ events_before start ends.before → now.here.out ≡ old.here.out ++ printed → IsWhole (run_of start script) exit old now
+      whole printed count text =
+          whole-lines exit ends.before printed ends.first ends.recovers
+          (ends.store ∙ sym (store-first start script ends.before ends.first) ∙ sym (kept-at-end exit (change_next (run_of start script) (events_before start ends.before)) _ free)) count text
 
       by : (IsAccount start.account × (now.here.out ≡ old.here.out ++ (standing_lines start.account ++ outputs start ends.before))) ⊎ ((now.here.out ≡ old.here.out) × (ends.before ≡ [])) → IsWhole (run_of start script) exit old now
       by (inl (account, text)) =
-          whole-lines exit ends.before [] ends.first account ends.recovers (left (events_among (places ends.before)) (sym (store-first start script ends.before ends.first account))) refl
-          (text ∙ ap (λ (more : List ℕ). old.here.out ++ more) (sym (append-nil (standing_lines start.account ++ outputs start ends.before))))
-      by (inr (text, none)) =
-          whole-by exit [] 0 (text ∙ sym (append-nil old.here.out)) refl (subst (λ (reads : List NumberedLine). Recovers (account_at start reads) now.here) none ends.recovers)
-          (left 0 (ap (store_at start) none))
+          let printed : List ℕ = standing_lines start.account ++ outputs start ends.before in
+          whole (printed ++ []) (count-first start script ends.before ends.first account [] ∙ omega arith) (text ∙ ap (λ (more : List ℕ). old.here.out ++ more) (sym (append-nil printed)))
+      by (inr (text, none)) = whole [] (sym (ap (events_before start) none)) (text ∙ sym (append-nil old.here.out))
 
   pub ends-whole : (exit : Exit) → RunEnds start script exit old.here.out now → OnWhole exit (IsWhole (run_of start script) exit old now)
   ends-whole exit ends = by (ending_of exit) refl ends

@@ -1,55 +1,41 @@
 -- What else holds of a run, by what `rasd` promises of it.
-use Rattle.std.proofs.Common.{◌≡◌, ℕ, List, [], length, Option, None, Some, ◌∙◌, refl, sym, ap, subst, append_assoc, append-nil, arith, inl, inr}
+use Rattle.std.proofs.Common.{◌≡◌, ℕ, List, length, Option, None, Some, ◌∙◌, refl, sym, ap, subst, inl, inr}
 use Rattle.std.proofs.lemmas.List.{append_cancel_left}
 use Rattle.std.specs.Prelude.{◌≢◌, ◌⊎◌}
 use Rattle.board_core.specs.Cause.{Faults}
 use Rattle.board_core.specs.Clock.{Always, LeftNow}
 use Rattle.board_core.specs.Doing.{Seen}
 use Rattle.board_core.specs.Told.{Told}
-use Rattle.ras_account.specs.Accounts.{IsAccount}
 use Rattle.ras_journal.specs.Recovered.{HasFewLinks}
-use Rattle.ras_events.specs.Reports.{NumberedLine, Place}
+use Rattle.ras_run.specs.Sites.{Start}
+use Rattle.ras_run.specs.Places.{Place}
+use Rattle.ras_daemon.specs.Script.{events_of}
 use Rattle.ras_exit.specs.declared.exit.Exit.{Exit}
 use Rattle.ras_exit.specs.declared.exit.Exit.TheVariants.{Done, ErstStatus, NoMemory}
 use Rattle.ras_exit.specs.Causes.{BoardCause, BoardCauseBy, SourceCause, SourceCauseBy}
 use Rattle.ras_exit.specs.Endings.{CallEnding, IfAnswered, OnAnswer, answered, ending_of, faulted, source_failed, starved}
 use Rattle.ras_exit.proofs.EndingLemmas.{memory_ran_out}
-use Rattle.ras_run.specs.Places.{Start, account_at}
-use Rattle.ras_texts.specs.Orders.{standing_lines}
 use Rattle.ras_events.specs.DoneLines.{done_count}
-use Rattle.ras_events.proofs.DoneLemmas.{none_done}
 use Rattle.ras_daemon.specs.Commands.{MayEnd}
 use Rattle.ras_daemon.specs.declared.word.Task.{Task}
 use Rattle.ras_daemon.specs.declared.word.Task.TheVariants.{Run, Report, Load, Pcie, Klog, TraceLines, KlogLines, GhesLines, MceLine, Help, Version}
 use Rattle.ras_daemon.specs.Headline.{laid_with}
 use Rattle.ras_daemon.specs.Promises.{Caused, IsQuiet, IsQuietBoard, Ran, RunStops}
 use Rattle.ras_daemon.specs.RunActs.{DidAll, DidRun}
-use Rattle.ras_daemon.specs.RunOutput.{closing_line, run_output}
+use Rattle.ras_daemon.specs.RunOutput.{run_output}
 use Rattle.ras_daemon.specs.RunStatus.{run_exit}
-use Rattle.ras_daemon.specs.Steps.Running.{AreAll, outputs}
 use Rattle.ras_daemon.specs.Runs.{event_count}
-use Rattle.ras_daemon.specs.Script.{events_of}
-use Rattle.ras_daemon.proofs.CallLemmas.{text-so}
-use Rattle.ras_daemon.proofs.CountLemmas.{count-first, events_among}
-use Rattle.ras_daemon.proofs.HeadlineLemmas.{closing-quiet}
+use Rattle.ras_daemon.proofs.CallLemmas.{lines-counted}
+use Rattle.ras_daemon.proofs.CountLemmas.{events_among}
 use Rattle.ras_daemon.proofs.MachineLemmas.{store-same}
 
 -- ---- its done lines number its events
 
-counted-so : (start : Start) (script : List ℕ) (exit : Exit) (before : List NumberedLine) → AreAll start script exit before → IsAccount start.account
-    → done_count (run_output start script) ≡ length (events_of start script)
-counted-so start script exit before all account =
-    let standing : List ℕ = standing_lines start.account in
-    let last : List ℕ = closing_line (account_at start before) exit in
-    let none : done_count last ≡ 0 = none_done last last [] (closing-quiet (account_at start before) exit) (append-nil last) in
-    ap done_count (sym (text-so start script exit before all) ∙ sym (append_assoc standing (outputs start before) last))
-    ∙ count-first start script before all.first account last
-    ∙ omega (arith, none, ap (λ (ps : List Place). events_among ps) all.all)
-
 all_counted : (start : Start) (script : List ℕ) (before now : Told) → DidAll start script before now → done_count (run_output start script) ≡ length (events_of start script)
 all_counted start script before now did =
-    counted-so start script (run_exit start script) did.takes.before
+    lines-counted start script (run_exit start script) did.takes.before
     (record { first = record { rest = did.takes.rest; splits = did.takes.splits; accepted = did.takes.accepted }; all = did.takes.all; exit_is = refl }) did.holds.account
+    ∙ ap (λ (ps : List Place). events_among ps) (sym did.takes.all)
 
 pub did_counted : (start : Start) (script : List ℕ) (ending : CallEnding) (before now : Told) → DidRun start script ending before now → IfAnswered ending (done_count (run_output start script) ≡ length (events_of start script))
 did_counted start script answered before now did = all_counted start script before now did

@@ -3,36 +3,34 @@ use Rattle.std.proofs.Common.{◌≡◌, ◌≤◌, ℕ, zero, suc, Bool, true, 
 use Rattle.std.specs.Prelude.{◌⊎◌}
 use Rattle.erst_store.specs.Store.{Stored}
 use Rattle.board_core.specs.Stop.{Begins, Left}
-use Rattle.ras_base.specs.Places.{places}
-use Rattle.ras_account.specs.Accounts.{IsAccount}
 use Rattle.ras_facts.specs.declared.name.Name.{Name}
 use Rattle.ras_journal.specs.Recovered.{Recovers}
 use Rattle.ras_script.specs.declared.line.Line.TheVariants as asks
 use Rattle.ras_script.specs.Lines.{Ending, script_ended, script_lines, line_too_long, script_too_long}
 use Rattle.ras_texts.specs.Text.{done_line}
 use Rattle.ras_events.specs.declared.event.Event.{Event}
-use Rattle.ras_events.specs.declared.event.Event.TheVariants.{Polled, Put, Saved}
+use Rattle.ras_events.specs.declared.event.Event.TheVariants.{Polled}
 use Rattle.ras_events.specs.declared.event.LineRefusal.{LineRefusal}
-use Rattle.ras_events.specs.Reports.{NumberedLine, Place, event_at}
+use Rattle.ras_events.specs.Described.{NumberedLine}
+use Rattle.ras_run.specs.Sites.{Site, Start}
+use Rattle.ras_run.specs.Places.{Place, deed_at, event_at, site_after, site_at}
+use Rattle.ras_run.specs.Deeds.{clears_by, deed_done, store_asked}
+use Rattle.ras_daemon.specs.Script.{is_event, reads_of}
 use Rattle.ras_events.specs.Stores.{is_readable, unreadable, without_first}
 use Rattle.ras_exit.specs.ScriptEnd.{ending_exit, script_exit}
 use Rattle.ras_exit.specs.declared.exit.Exit.{Exit}
 use Rattle.ras_exit.specs.declared.exit.Exit.TheVariants.{ErstBusy}
-use Rattle.ras_events.specs.Deeds.{deed_of}
+use Rattle.ras_events.specs.Deeds.{Asking, deed_of, polls, puts, saves}
 use Rattle.ras_run.specs.Moments.{Course, CourseMoment, IsBegun, clears_store, course_at, refused_store, store_cleared, store_left, stored_by}
-use Rattle.ras_run.specs.Output.{event_done, output_at}
-use Rattle.ras_run.specs.Places.{Start, account_at, store_at}
+use Rattle.ras_run.specs.Output.{output_at}
 use Rattle.ras_run.specs.Status.{refusal_at}
 use Rattle.ras_run.specs.Taking.{IsAccepted}
 use Rattle.ras_run.proofs.LineLawLemmas.{refused_is}
-use Rattle.ras_run.proofs.PlaceLemmas.{store-snoc}
-use Rattle.ras_run.proofs.StoreLemmas.{taken_store}
-use Rattle.ras_daemon.specs.Machine.{Run, StoreChange, change_next, store_upto}
+use Rattle.ras_daemon.specs.Machine.{StoreChange, change_next, store_upto}
 use Rattle.ras_daemon.specs.RunOf.{change_at, change_by, run_of}
 use Rattle.ras_daemon.specs.Steps.Running.{AreAccepted, AreAll, StoreAtEnd}
-use Rattle.ras_daemon.specs.Script.{is_event, reads_of}
 use Rattle.ras_daemon.specs.StoreDuring.{KnownBy, store_at_end}
-use Rattle.ras_daemon.proofs.CountLemmas.{events_among}
+use Rattle.ras_daemon.proofs.CountLemmas.{events_before}
 use Rattle.ras_daemon.proofs.KeptLemmas.{StoreNow, known-polled}
 use Rattle.ras_daemon.proofs.RunLawLemmas.{no-event}
 use Rattle.ras_daemon.proofs.StoreLemmas.{IsBegunWith, line-next, store-first}
@@ -40,7 +38,7 @@ use Rattle.ras_daemon.proofs.StoreLemmas.{IsBegunWith, line-next, store-first}
 -- ---- the moments of a line
 
 -- a line that has no done line leaves the store
-no-done : (number count : ℕ) (store : List Stored) (event : Result Event LineRefusal) → event_done number event ≡ []
+no-done : (number count : ℕ) (store : List Stored) (event : Result Event LineRefusal) → deed_done number (deed_of event) ≡ []
     → (if clears_store event then without_first count (stored_by event store) else stored_by event store)
     ≡ (if clears_store event then unreadable (stored_by event store) else stored_by event store)
 no-done number count store (Ok (Polled seconds)) none = absurd (let is : done_line number ≡ [] = none in cc)
@@ -64,21 +62,21 @@ without-all rs = without-most rs (length rs) (omega arith)
 
 -- A line is accepted, its news are kept, the first of the records that it clears are cleared, and a
 -- beginning of its output is printed. All are cleared before the last of it is printed.
-pub record InLine (start : Start) (before : List NumberedLine) (read : NumberedLine) (out : List ℕ) (left : Left) : Type 0 where
-  pub accepted : IsAccepted start (before, read)
-  pub recovers : Recovers (account_at start (before ++ read ∷ [])) left
+pub record InLine (place : Place) (out : List ℕ) (left : Left) : Type 0 where
+  pub accepted : IsAccepted place
+  pub recovers : Recovers (site_after place.0 place.1).account left
   pub count : ℕ
-  pub store : left.store ≡ store_cleared (course_at start (before, read)) count
-  pub text : Begins (output_at start (before, read)) out left.out
-  pub whole : text.missing ≡ [] → left.store ≡ store_left (course_at start (before, read))
+  pub store : left.store ≡ store_cleared (course_at place) count
+  pub text : Begins (output_at place) out left.out
+  pub whole : text.missing ≡ [] → left.store ≡ store_left (course_at place)
 
-module _ (start : Start) (before : List NumberedLine) (read : NumberedLine) (out : List ℕ) (left : Left) where
+module _ (place : Place) (out : List ℕ) (left : Left) where
   abbrev course : Course
-  course = course_at start (before, read)
+  course = course_at place
 
   -- before the done line
   uncleared : (count : ℕ) (missing : List ℕ) → left.store ≡ store_cleared course count → missing ++ course.done ≡ [] → left.store ≡ store_left course
-  uncleared count missing is none = is ∙ no-done read.0 count (store_at start before) (event_at (before, read)) (nothing-behind missing course.done none)
+  uncleared count missing is none = is ∙ no-done place.1.0 count place.0.store (event_at place) (nothing-behind missing course.done none)
     where
       nothing-behind : (xs ys : List ℕ) → xs ++ ys ≡ [] → ys ≡ []
       nothing-behind [] ys none = none
@@ -98,7 +96,7 @@ module _ (start : Start) (before : List NumberedLine) (read : NumberedLine) (out
       by true = sym (without-all course.stored)
       by false = refl
 
-  pub line-course : CourseMoment (IsAccepted start (before, read)) course out left → IsBegun course out left ⊎ InLine start before read out left
+  pub line-course : CourseMoment (IsAccepted place) course out left → IsBegun course out left ⊎ InLine place out left
   line-course (inl begun) = inl begun
   line-course (inr (accepted, inl kept)) =
       let same : left.store ≡ store_cleared course 0 = kept.store ∙ sym none-cleared in inr (record {
@@ -139,95 +137,90 @@ module _ (start : Start) (before : List NumberedLine) (read : NumberedLine) (out
 -- ---- a line among those of a script
 
 -- what an event puts is put
-put-passes : (Known : Name → Type 0) (event : Result Event LineRefusal) (laid store : List Stored) → store ≡ stored_by event laid → StoreNow (change_by (deed_of event).asks) Known laid store
-put-passes Known (Ok (Put id bytes)) laid store is = inr is
-put-passes Known (Ok (Saved id bytes)) laid store is = inr is
-put-passes Known (Ok event) laid store is = inl is
-put-passes Known (Err why) laid store is = inl is
+put-passes : (Known : Name → Type 0) (asks : Asking) (laid store : List Stored) → store ≡ store_asked asks laid → StoreNow (change_by asks) Known laid store
+put-passes Known (puts r) laid store is = inr is
+put-passes Known (saves r) laid store is = inr is
+put-passes Known asks laid store is = inl is
 
 -- what the device of one that is refused did, if it was busy for too long
-busy-left : (event : Result Event LineRefusal) (laid : List Stored) → stored_by event laid ≡ store_at_end ErstBusy (change_by (deed_of event).asks) laid
-busy-left (Ok (Put id bytes)) laid = refl
-busy-left (Ok (Saved id bytes)) laid = refl
-busy-left (Ok event) laid = refl
-busy-left (Err why) laid = refl
+busy-left : (asks : Asking) (laid : List Stored) → store_asked asks laid ≡ store_at_end ErstBusy (change_by asks) laid
+busy-left (puts r) laid = refl
+busy-left (saves r) laid = refl
+busy-left asks laid = refl
 
 -- a line that is refused is an event
-refused-event : (start : Start) (place : Place) (exit : Exit) → refusal_at start place ≡ Some exit → is_event place ≡ true
-refused-event start (before, (number, Ok asks.Nothing)) exit refused = absurd cc
-refused-event start place exit refused = refl
+refused-event : (place : Place) (exit : Exit) → refusal_at place ≡ Some exit → is_event place ≡ true
+refused-event (site, (number, Ok asks.Nothing)) exit refused = absurd cc
+refused-event place exit refused = refl
 
 -- where no device was busy
 pub kept-at-end : (exit : Exit) (next : StoreChange) (store : List Stored) → (exit ≡ ErstBusy → ⊥) → store_at_end exit next store ≡ store
 kept-at-end ErstBusy next store free = absurd (free refl)
 kept-at-end exit next store free = refl
 
-module _ (start : Start) (script : List ℕ) (before rest : List NumberedLine) (read : NumberedLine) (splits : before ++ read ∷ rest ≡ reads_of script) (accepted : AreAccepted start before) (account : IsAccount start.account) where
+module _ (start : Start) (script : List ℕ) (before rest : List NumberedLine) (read : NumberedLine) (splits : before ++ read ∷ rest ≡ reads_of script) (accepted : AreAccepted start before) where
+  abbrev here : Site
+  here = site_at start before
+
+  abbrev line : Place
+  line = (here, read)
+
   abbrev next : StoreChange
-  next = change_next (run_of start script) (events_among (places before))
+  next = change_next (run_of start script) (events_before start before)
 
   abbrev laid : List Stored
-  laid = store_upto (run_of start script) (events_among (places before))
+  laid = store_upto (run_of start script) (events_before start before)
 
-  laid-here : laid ≡ store_at start before
-  laid-here = store-first start script before (record { rest = read ∷ rest; splits = splits; accepted = accepted }) account
+  laid-here : laid ≡ here.store
+  laid-here = store-first start script before (record { rest = read ∷ rest; splits = splits; accepted = accepted })
 
-  next-is : is_event (before, read) ≡ true → IsBegunWith (refusal_at start (before, read)) → next ≡ change_at (before, read)
+  next-is : is_event line ≡ true → IsBegunWith (refusal_at line) → next ≡ change_at line
   next-is = line-next start script before rest read splits accepted
-
-  abbrev KnownBehind : Name → Type 0
-  KnownBehind = KnownBy (account_at start (before ++ read ∷ []))
 
   -- ---- where its news are kept
 
-  event-passes : (event : Result Event LineRefusal) (store : List Stored) (count : ℕ) → event_at (before, read) ≡ event
-      → store ≡ (if clears_store event then without_first count (stored_by event (store_at start before)) else stored_by event (store_at start before))
-      → StoreNow (change_by (deed_of event).asks) KnownBehind (store_at start before) store
-  event-passes (Ok (Polled seconds)) store count there is = inr (record { count = count; is = is }, known-polled start before read seconds there)
-  event-passes (Ok (Put id bytes)) store count there is = inr is
-  event-passes (Ok (Saved id bytes)) store count there is = inr is
-  event-passes (Ok event) store count there is = inl is
-  event-passes (Err why) store count there is = inl is
+  abbrev KnownBehind : Name → Type 0
+  KnownBehind = KnownBy (site_after here read).account
 
-  pub part-now : (store : List Stored) (count : ℕ) → is_event (before, read) ≡ true → refusal_at start (before, read) ≡ None
-      → store ≡ store_cleared (course_at start (before, read)) count → StoreNow next KnownBehind laid store
-  part-now store count event taken is = rw (laid-here, next-is event (rw taken tt)) (event-passes (event_at (before, read)) store count refl is)
+  asks-pass : (asks : Asking) (store : List Stored) (count : ℕ) → (deed_at line).asks ≡ asks
+      → store ≡ (if clears_by asks then without_first count (store_asked asks here.store) else store_asked asks here.store) → StoreNow (change_by asks) KnownBehind here.store store
+  asks-pass (polls seconds) store count there is = inr (record { count = count; is = is }, known-polled line seconds there)
+  asks-pass (puts r) store count there is = inr is
+  asks-pass (saves r) store count there is = inr is
+  asks-pass asks store count there is = inl is
 
-  -- the store that the line leaves
-  pub left-next : refusal_at start (before, read) ≡ None → store_at start (before ++ read ∷ []) ≡ store_left (course_at start (before, read))
-  left-next taken = store-snoc start before read ∙ sym (taken_store start (before, read) (store_at start before) taken)
+  pub part-now : (store : List Stored) (count : ℕ) → is_event line ≡ true → refusal_at line ≡ None → store ≡ store_cleared (course_at line) count → StoreNow next KnownBehind laid store
+  part-now store count event taken is = rw (laid-here, next-is event (rw taken tt)) (asks-pass (deed_at line).asks store count refl is)
 
   -- ---- while it is begun
 
   module _ (Known : Name → Type 0) (store : List Stored) where
-    put-now : is_event (before, read) ≡ true → IsBegunWith (refusal_at start (before, read)) → store ≡ stored_by (event_at (before, read)) (store_at start before) → StoreNow next Known laid store
-    put-now event begun is = rw (laid-here, next-is event begun) (put-passes Known (event_at (before, read)) (store_at start before) store is)
+    put-now : is_event line ≡ true → IsBegunWith (refusal_at line) → store ≡ stored_by (event_at line) here.store → StoreNow next Known laid store
+    put-now event begun is = rw (laid-here, next-is event begun) (put-passes Known (deed_at line).asks here.store store is)
 
-    stored-now : store ≡ stored_by (event_at (before, read)) (store_at start before) → StoreNow next Known laid store
-    stored-now is = by (refusal_at start (before, read)) refl
+    stored-now : store ≡ stored_by (event_at line) here.store → StoreNow next Known laid store
+    stored-now is = by (refusal_at line) refl
       where
-        taken-now : refusal_at start (before, read) ≡ None → (event : Bool) → is_event (before, read) ≡ event → StoreNow next Known laid store
+        taken-now : refusal_at line ≡ None → (event : Bool) → is_event line ≡ event → StoreNow next Known laid store
         taken-now taken true event = put-now event (rw taken tt) is
-        taken-now taken false not = inl (is ∙ ap (λ (e : Result Event LineRefusal). stored_by e (store_at start before)) (no-event (before, read) not) ∙ sym laid-here)
+        taken-now taken false not = inl (is ∙ ap (λ (e : Result Event LineRefusal). stored_by e here.store) (no-event line not) ∙ sym laid-here)
 
-        by : (refusal : Option Exit) → refusal_at start (before, read) ≡ refusal → StoreNow next Known laid store
-        by None taken = taken-now taken (is_event (before, read)) refl
-        by (Some ErstBusy) refused = put-now (refused-event start (before, read) ErstBusy refused) (rw refused tt) is
-        by (Some exit) refused = inl (is ∙ refused_is start (before, read) exit (event_at (before, read)) refused ∙ sym laid-here)
+        by : (refusal : Option Exit) → refusal_at line ≡ refusal → StoreNow next Known laid store
+        by None taken = taken-now taken (is_event line) refl
+        by (Some ErstBusy) refused = put-now (refused-event line ErstBusy refused) (rw refused tt) is
+        by (Some exit) refused = inl (is ∙ refused_is line exit (event_at line) refused ∙ sym laid-here)
 
-    pub refused-left : (exit : Exit) → store ≡ refused_store exit (event_at (before, read)) (store_at start before) → StoreNow next Known laid store
+    pub refused-left : (exit : Exit) → store ≡ refused_store exit (event_at line) here.store → StoreNow next Known laid store
     refused-left ErstBusy is = stored-now is
     refused-left exit is = inl (is ∙ sym laid-here)
 
-  pub begun-now : (Known : Name → Type 0) (left : Left) (out : List ℕ) → IsBegun (course_at start (before, read)) out left → StoreNow next Known laid left.store
+  pub begun-now : (Known : Name → Type 0) (left : Left) (out : List ℕ) → IsBegun (course_at line) out left → StoreNow next Known laid left.store
   begun-now Known left out begun = elim begun.store [ inl same ↦ inl (same ∙ sym laid-here) | inr became ↦ stored-now Known left.store became ]
 
   -- ---- where the run ends with it
 
-  pub refused-end : (store : List Stored) (exit : Exit) → refusal_at start (before, read) ≡ Some exit
-      → store ≡ refused_store exit (event_at (before, read)) (store_at start before) → store ≡ store_at_end exit next laid
-  refused-end store ErstBusy refused is =
-      rw (laid-here, next-is (refused-event start (before, read) ErstBusy refused) (rw refused tt)) (is ∙ busy-left (event_at (before, read)) (store_at start before))
+  pub refused-end : (store : List Stored) (exit : Exit) → refusal_at line ≡ Some exit → store ≡ refused_store exit (event_at line) here.store → store ≡ store_at_end exit next laid
+  refused-end store ErstBusy refused is = rw (laid-here, next-is (refused-event line ErstBusy refused) (rw refused tt)) (is ∙ busy-left (deed_at line).asks here.store)
   refused-end store exit refused is = is ∙ sym laid-here
 
 -- ---- where a run ends
@@ -241,18 +234,19 @@ script-end script = by (length (script_lines script).whole) (script_lines script
     by count line_too_long is = cc
     by count script_too_long is = cc
 
-module _ (start : Start) (script : List ℕ) (exit : Exit) (before : List NumberedLine) (store : List Stored) (all : AreAll start script exit before) (account : IsAccount start.account) where
-  abbrev run : Run
-  run = run_of start script
+module _ (start : Start) (script : List ℕ) (exit : Exit) (before : List NumberedLine) (store : List Stored) (all : AreAll start script exit before) where
+  abbrev last : StoreChange
+  last = change_next (run_of start script) (events_before start before)
+
+  abbrev laid_last : List Stored
+  laid_last = store_upto (run_of start script) (events_before start before)
 
   -- a run that comes to an answer
-  pub end-store : StoreAtEnd start script before exit store → store ≡ store_at_end exit (change_next run (events_among (places before))) (store_upto run (events_among (places before)))
-  end-store (inl (ends, same)) =
-      same ∙ sym (store-first start script before all.first account)
-      ∙ sym (kept-at-end exit (change_next run (events_among (places before))) (store_upto run (events_among (places before))) (λ busy. script-end script (sym ends ∙ busy)))
-  end-store (inr left) = refused-end start script before left.rest left.read left.splits all.first.accepted account store exit left.refused left.is
+  pub end-store : StoreAtEnd start script before exit store → store ≡ store_at_end exit last laid_last
+  end-store (inl (ends, same)) = same ∙ sym (store-first start script before all.first) ∙ sym (kept-at-end exit last laid_last (λ busy. script-end script (sym ends ∙ busy)))
+  end-store (inr left) = refused-end start script before left.rest left.read left.splits all.first.accepted store exit left.refused left.is
 
   -- while its last line is printed
-  pub end-now : (Known : Name → Type 0) → StoreAtEnd start script before exit store → StoreNow (change_next run (events_among (places before))) Known (store_upto run (events_among (places before))) store
-  end-now Known (inl (ends, same)) = inl (same ∙ sym (store-first start script before all.first account))
-  end-now Known (inr left) = refused-left start script before left.rest left.read left.splits all.first.accepted account Known store exit left.is
+  pub end-now : (Known : Name → Type 0) → StoreAtEnd start script before exit store → StoreNow last Known laid_last store
+  end-now Known (inl (ends, same)) = inl (same ∙ sym (store-first start script before all.first))
+  end-now Known (inr left) = refused-left start script before left.rest left.read left.splits all.first.accepted Known store exit left.is

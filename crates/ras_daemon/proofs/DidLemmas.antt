@@ -18,14 +18,14 @@ use Rattle.ras_recover.proofs.OpeningCallsLemmas.{opens_calls, reads_all, recove
 use Rattle.ras_exit.specs.Endings.{CallEnding, EndsBy, IfAnswered, OnlyFault, answered, ending_of, faulted, source_failed, starved}
 use Rattle.ras_exit.specs.declared.exit.Exit.{Exit}
 use Rattle.ras_exit.specs.declared.exit.Exit.TheVariants.{DiskFault, SourceFault}
-use Rattle.ras_base.specs.Places.{places}
-use Rattle.ras_run.specs.LineActs.{HoldsAfter}
-use Rattle.ras_run.specs.Places.{Start}
+use Rattle.ras_run.specs.LineActs.{HoldsAt}
+use Rattle.ras_run.specs.Sites.{Start, first_site}
+use Rattle.ras_run.specs.Places.{places_from}
+use Rattle.ras_daemon.specs.Script.{reads_in, reads_of}
 use Rattle.ras_daemon.specs.Steps.Doing.{DoesRun, Opens}
 use Rattle.ras_daemon.specs.Promises.{HasOpened}
 use Rattle.ras_texts.specs.Orders.{standing_lines}
 use Rattle.ras_daemon.specs.Steps.Running.{EndsAhead, ReadAhead, lines_from, outputs}
-use Rattle.ras_daemon.specs.Script.{reads_in, reads_of}
 use Rattle.ras_daemon.specs.RunActs.{AreRunActs, AreRunCalls, AreScriptActs, DidAll, DidOf, DidRun, ListsAccesses, TookAll, last_acts, orders_acts, script_asked}
 use Rattle.ras_daemon.specs.RunStatus.{run_exit}
 use Rattle.ras_daemon.proofs.RunLemmas.{not_starved}
@@ -70,10 +70,10 @@ opened_did start script ending t there now makes (acts, are, did) =
     )
 
 -- all that a run did
-opened_all : (start : Start) (script : List ℕ) (t there now : Told) → MakesOpening t there → HoldsAfter start [] there → TookAll start script there now → DidAll start script t now
+opened_all : (start : Start) (script : List ℕ) (t there now : Told) → MakesOpening t there → HoldsAt (first_site start) there → TookAll start script there now → DidAll start script t now
 opened_all start script t there now makes holds took =
     let first = opened_acts t there makes in
-    record { first = first.0; opens = first.1; holds = subst (HoldsAfter start []) first.2 holds; takes = subst (λ (u : Told). TookAll start script u now) first.2 took }
+    record { first = first.0; opens = first.1; holds = subst (HoldsAt (first_site start)) first.2 holds; takes = subst (λ (u : Told). TookAll start script u now) first.2 took }
 
 -- whether or not, acts of a run
 pub did_acts : (start : Start) (script : List ℕ) (ending : CallEnding) (t now : Told) → DidRun start script ending t now → RunDid start script ending t now
@@ -82,7 +82,7 @@ did_acts start script answered t now d =
     let acts : List Act =
     orders_acts start ++ (d.takes.along ++ (script_asked start script (after_acts d.takes.along (after_acts (orders_acts start) u)) ++ last_acts start (reads_of script) (run_exit start script))) in (
       d.first ++ acts,
-      run_acts start script t d.first acts d.opens (record { along = d.takes.along; lines = rw d.takes.all (acts_along start (places d.takes.before) (after_acts (orders_acts start) u) d.takes.along d.takes.lines); is = refl }),
+      run_acts start script t d.first acts d.opens (record { along = d.takes.along; lines = rw d.takes.all (acts_along (places_from (first_site start) d.takes.before) (after_acts (orders_acts start) u) d.takes.along d.takes.lines); is = refl }),
       d.takes.is ∙ sym (after-append d.first acts t),
     )
 did_acts start script (faulted kind) t now d = d

@@ -8,17 +8,17 @@ use Rattle.board_core.specs.Doing.{Act, Moment, Seen, after_acts}
 use Rattle.board_core.specs.Stop.{Left}
 use Rattle.board_core.specs.Told.{Told}
 use Rattle.board_core.proofs.DoingLemmas.{after-append, moment_parts}
-use Rattle.ras_base.specs.Places.{places, places_behind}
 use Rattle.ras_journal.specs.Recovered.{HasFewLinks}
 use Rattle.ras_recover.specs.DiskCalls.{with_calls}
 use Rattle.ras_recover.specs.Opening.{Opening, OpeningSynced}
 use Rattle.ras_recover.specs.Recovering.{both_syncs}
 use Rattle.ras_recover.proofs.OpeningFewLemmas.{opened_few}
-use Rattle.ras_events.specs.Reports.{NumberedLine, event_at}
+use Rattle.ras_events.specs.Described.{NumberedLine}
+use Rattle.ras_run.specs.Sites.{Site, Start, first_site}
+use Rattle.ras_run.specs.Places.{Place, places_from, site_after, site_at}
 use Rattle.ras_exit.specs.Endings.{CallEnding, answered, ending_of, faulted}
 use Rattle.ras_exit.specs.declared.exit.Exit.{Exit}
-use Rattle.ras_run.specs.LineActs.{HoldsAfter}
-use Rattle.ras_run.specs.Places.{Start, account_at}
+use Rattle.ras_run.specs.LineActs.{HoldsAt}
 use Rattle.ras_run.specs.Taking.{IsAccepted}
 use Rattle.ras_run.proofs.LineFewLemmas.{asking_few, few_same, line_few, line_few_done, print_few, printed_few}
 use Rattle.ras_run.proofs.LineLawLemmas.{line_holds}
@@ -27,30 +27,30 @@ use Rattle.ras_daemon.specs.Steps.Doing.{AreAllAsked, DoesFirst, DoesPart, DoesR
 use Rattle.ras_daemon.specs.RunActs.{AreDoneAlong, AreScriptActs, orders_acts}
 use Rattle.ras_daemon.specs.RunOutput.{closing_line}
 use Rattle.ras_daemon.specs.Steps.Running.{AreFirst}
-use Rattle.ras_daemon.proofs.AlongActLemmas.{along_done}
-use Rattle.ras_daemon.proofs.ScriptLemmas.{IsLast, asked_none, left_at_end, printed_holds}
+use Rattle.ras_daemon.proofs.ScriptLemmas.{IsLast, asked_none, left_at_end, lines_hold, printed_holds}
 
 -- ---- along accepted lines
 
-along_few : (start : Start) (before reads : List NumberedLine) (t : Told) (acts : List Act) → AllByRecursion (IsAccepted start) (places_behind before reads) → HoldsAfter start before t → HasFewLinks t.here
-    → AreDoneAlong start (places_behind before reads) t acts → HasFewLinks (after_acts acts t).here × ((left : Left) → Moment acts t left → HasFewLinks left)
-along_few start before [] t acts all holds few is = (
+along_few : (site : Site) (reads : List NumberedLine) (t : Told) (acts : List Act) → AllByRecursion IsAccepted (places_from site reads) → HoldsAt site t → HasFewLinks t.here
+    → AreDoneAlong (places_from site reads) t acts → HasFewLinks (after_acts acts t).here × ((left : Left) → Moment acts t left → HasFewLinks left)
+along_few site [] t acts all holds few is = (
   subst (λ (l : List Act). HasFewLinks (after_acts l t).here) (sym is) few,
   λ left moment. absurd (subst (λ (l : List Act). Moment l t left) is moment),
 )
-along_few start before (read ∷ reads) t acts all holds few (here, rest, is, at, along) =
-    let later = along_few start (before ++ read ∷ []) reads (after_acts here t) rest all.1 (line_holds start before read.0 read.1 t holds at.0 here at.1 all.0) (line_few_done start before read.0 read.1 t holds at.0 few here at.1 all.0) along in (
+along_few site (read ∷ reads) t acts all holds few (here, rest, is, at, along) =
+    let place : Place = (site, read) in
+    let later = along_few (site_after site read) reads (after_acts here t) rest all.1 (line_holds place t holds at.0 here at.1 all.0) (line_few_done place t holds at.0 few here at.1 all.0) along in (
       subst (λ (u : Told). HasFewLinks u.here) (sym (ap (λ (l : List Act). after_acts l t) is ∙ after-append here rest t)) later.0,
       λ left moment. elim (moment_parts here rest t left (subst (λ (l : List Act). Moment l t left) is moment)) [
-        | inl now ↦ line_few start before read.0 read.1 t holds at.0 few here at.1 all.0 left now
+        | inl now ↦ line_few place t holds at.0 few here at.1 all.0 left now
         | inr behind ↦ later.1 left behind
       ],
     )
 
 -- ---- the acts of a script
 
-module _ (start : Start) (script : List ℕ) (t : Told) (before : List NumberedLine) (first : AreFirst start script before) (along : List Act) (lines : AreDoneAlong start (places before) (after_acts (orders_acts start) t) along)
-    (asked : List Act) (asks : MayAsk start script before (after_acts along (after_acts (orders_acts start) t)) asked) (last : List Act) (holds : HoldsAfter start [] t) (few : HasFewLinks t.here) where
+module _ (start : Start) (script : List ℕ) (t : Told) (before : List NumberedLine) (first : AreFirst start script before) (along : List Act) (lines : AreDoneAlong (places_from (first_site start) before) (after_acts (orders_acts start) t) along)
+    (asked : List Act) (asks : MayAsk start script before (after_acts along (after_acts (orders_acts start) t)) asked) (last : List Act) (holds : HoldsAt (first_site start) t) (few : HasFewLinks t.here) where
   abbrev behind_orders : Told
   behind_orders = after_acts (orders_acts start) t
 
@@ -61,24 +61,21 @@ module _ (start : Start) (script : List ℕ) (t : Told) (before : List NumberedL
   behind_asked = after_acts asked behind_lines
 
   among : HasFewLinks behind_lines.here × ((left : Left) → Moment along behind_orders left → HasFewLinks left)
-  among = along_few start [] before behind_orders along first.accepted (printed_holds start [] (standing_lines start.account) t holds) (printed_few (standing_lines start.account) t few) lines
-
-  lines_hold : HoldsAfter start before behind_lines
-  lines_hold = along_done start [] before behind_orders along first.accepted (printed_holds start [] (standing_lines start.account) t holds) lines
+  among = along_few (first_site start) before behind_orders along first.accepted (printed_holds (first_site start) (standing_lines start.account) t holds) (printed_few (standing_lines start.account) t few) lines
 
   asking : (left : Left) → MayAsk start script before behind_lines asked → Moment asked behind_lines left → HasFewLinks left
   asking left (inl silent) moment = absurd (subst (λ (l : List Act). Moment l behind_lines left) silent moment)
-  asking left (inr has) moment = asking_few before (event_at (before, has.read)) behind_lines among.0 left (subst (λ (l : List Act). Moment l behind_lines left) has.is moment)
+  asking left (inr has) moment = asking_few (site_at start before, has.read) behind_lines among.0 left (subst (λ (l : List Act). Moment l behind_lines left) has.is moment)
 
   -- once all is asked
   asked_few : (end : Exit) → AreAllAsked start script end before behind_lines asked → HasFewLinks behind_asked.here
   asked_few end all =
-      let found = left_at_end start script before first behind_lines lines_hold asked end all in
+      let found = left_at_end start script before first behind_lines (lines_hold start script t before first along lines asked asks last holds) asked end all in
       few_same behind_lines.here behind_asked.here (ap (λ (l : Left). l.file0) found.2) (ap (λ (l : Left). l.file1) found.2) among.0
 
   last_few : (left : Left) → IsLast start script before behind_lines asked last → Moment last behind_asked left → HasFewLinks left
   last_few left (inl none) moment = absurd (subst (λ (l : List Act). Moment l behind_asked left) none moment)
-  last_few left (inr (end, all, is)) moment = print_few (closing_line (account_at start before) end) behind_asked left (asked_few end all) (subst (λ (l : List Act). Moment l behind_asked left) is moment)
+  last_few left (inr (end, all, is)) moment = print_few (closing_line (site_at start before).account end) behind_asked left (asked_few end all) (subst (λ (l : List Act). Moment l behind_asked left) is moment)
 
   pub script_few : (left : Left) → IsLast start script before behind_lines asked last → Moment (orders_acts start ++ (along ++ (asked ++ last))) t left → HasFewLinks left
   script_few left is_last moment = elim (moment_parts (orders_acts start) (along ++ (asked ++ last)) t left moment) [
@@ -98,12 +95,12 @@ module _ (start : Start) (script : List ℕ) (t : Told) (before : List NumberedL
       let here : (after_acts (orders_acts start ++ (along ++ (asked ++ last))) t).here ≡ behind_lines.here =
       ap (λ (u : Told). u.here)
       (after-append (orders_acts start) (along ++ (asked ++ last)) t ∙ after-append along (asked ++ last) behind_orders ∙ after-append asked last behind_lines ∙ ap (λ (l : List Act). after_acts l behind_asked) none)
-      ∙ asked_none start script before first behind_lines lines_hold asked silent in
+      ∙ asked_none start script before first behind_lines (lines_hold start script t before first along lines asked asks last holds) asked silent in
       subst HasFewLinks (sym here) among.0
 
 -- ---- a script that was taken
 
-module _ {X : Type 0} (see : X → Seen) (start : Start) (script : List ℕ) (t : Told) (exit : Exit) (old new : X) (rests : Rests t (see old).told (see old).clock) (holds : HoldsAfter start [] t) (few : HasFewLinks t.here) where
+module _ {X : Type 0} (see : X → Seen) (start : Start) (script : List ℕ) (t : Told) (exit : Exit) (old new : X) (rests : Rests t (see old).told (see old).clock) (holds : HoldsAt (first_site start) t) (few : HasFewLinks t.here) where
   abbrev acts_by : DoesScript see start script t exit old new → List Act
   acts_by d = orders_acts start ++ (d.along ++ (d.asked ++ d.last))
 

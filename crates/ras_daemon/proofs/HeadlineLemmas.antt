@@ -1,5 +1,5 @@
 -- What stops of a run leave, from what stands at its moments.
-use Rattle.std.proofs.Common.{◌≡◌, ℕ, ◌+◌, ◌<◌, ◌≤◌, List, [], ◌∷◌, ◌++◌, length, take, refl, sym, ap, ◌∙◌, subst, append_assoc, append-nil, arith, inl, inr, length-append, true}
+use Rattle.std.proofs.Common.{◌≡◌, ℕ, ◌+◌, ◌<◌, ◌≤◌, List, [], ◌∷◌, ◌++◌, length, take, refl, sym, ap, ◌∙◌, subst, append_assoc, append-nil, arith, inl, inr, length-append}
 use Rattle.std.specs.Prelude.{◌⊎◌, filter}
 use Rattle.std.specs.List.{flat_map}
 use Rattle.std.proofs.lemmas.List.Concat.{flat_map-append}
@@ -7,8 +7,6 @@ use Rattle.std.proofs.lemmas.List.Elements.{filter-append}
 use Rattle.board_core.specs.Clock.{Clock, LeftNow}
 use Rattle.board_core.specs.Stop.{Left}
 use Rattle.erst_store.specs.Store.{Stored}
-use Rattle.ras_base.specs.Places.{places, places_behind}
-use Rattle.ras_base.specs.Steps.PlacesLemmas.{places-snoc}
 use Rattle.ras_base.specs.Prefix.{IsPrefixOf}
 use Rattle.ras_base.specs.Steps.PrefixLemmas.{IsPrefixOf-trans}
 use Rattle.ras_account.specs.Account.{State}
@@ -16,14 +14,16 @@ use Rattle.ras_account.specs.Accounts.{IsAccount}
 use Rattle.ras_account.specs.Continued.{account_after_all}
 use Rattle.ras_journal.specs.Recovered.{Recovers}
 use Rattle.ras_texts.specs.Orders.{standing_lines}
-use Rattle.ras_events.specs.Reports.{NumberedLine, Place, entries_at}
+use Rattle.ras_events.specs.Described.{NumberedLine}
+use Rattle.ras_run.specs.Sites.{Site, Start, first_site}
+use Rattle.ras_run.specs.Places.{Place, entries_at, places_from, site_after, site_at}
+use Rattle.ras_daemon.specs.Script.{events_of, is_event, reads_of}
 use Rattle.ras_events.specs.DoneLines.{done_count}
 use Rattle.ras_events.specs.QuietLines.{AreQuietLines}
 use Rattle.ras_exit.specs.declared.exit.Exit.{Exit}
 use Rattle.ras_exit.specs.declared.exit.Exit.TheVariants.{Done, Usage}
 use Rattle.ras_run.specs.Output.{output_at}
-use Rattle.ras_run.specs.Moments.{IsBegun, course_at}
-use Rattle.ras_run.specs.Places.{Start, account_at, store_at}
+use Rattle.ras_run.proofs.PlaceLemmas.{places-append, site-snoc}
 use Rattle.ras_run.specs.Status.{places_before_refusal}
 use Rattle.ras_exit.specs.Telling.{PrintsPart}
 use Rattle.ras_daemon.specs.Headline.{AtOpening, Headline, StopsRecover, account_with}
@@ -31,15 +31,14 @@ use Rattle.ras_daemon.specs.Machine.{StoreChange, change_next, last_upto, store_
 use Rattle.ras_daemon.specs.RunOf.{run_of}
 use Rattle.ras_daemon.specs.RunOutput.{closing_line, lines_output, output_upto, run_output}
 use Rattle.ras_daemon.specs.RunStatus.{run_exit}
-use Rattle.ras_daemon.specs.Steps.Running.{AreAccepted, AreAll, AreFirst, AtEnd, AtLine, AtStart, BetweenLines, OpenMoment, RunMoment, lines_from, outputs}
-use Rattle.ras_daemon.specs.Script.{events_of, is_event, reads_of}
+use Rattle.ras_daemon.specs.Steps.Running.{AreAll, AreFirst, AtEnd, AtLine, AtStart, BetweenLines, OpenMoment, RunMoment, lines_from, outputs}
 use Rattle.ras_daemon.specs.StoreDuring.{KeepsRecords, KnownBy}
-use Rattle.ras_daemon.proofs.CountLemmas.{account-first, count-first, events_among, output-first, tells-last}
-use Rattle.ras_daemon.proofs.EventLemmas.{PrintsEvent, Tells}
+use Rattle.ras_daemon.proofs.CountLemmas.{account-first, count-first, events_among, events_before, output-first, placed}
+use Rattle.ras_daemon.proofs.EventLemmas.{PrintsEvent, Tells, account-along, tells}
 use Rattle.ras_daemon.proofs.ListLemmas.{take-whole}
-use Rattle.ras_daemon.proofs.FirstLinesLemmas.{closing-same, first-before, first-without}
+use Rattle.ras_daemon.proofs.FirstLinesLemmas.{closing-same, first-before}
 use Rattle.ras_daemon.proofs.PlaceLemmas.{first_more, outputs-snoc}
-use Rattle.ras_daemon.proofs.CourseLemmas.{InLine, begun-now, end-now, left-next, line-course, part-now}
+use Rattle.ras_daemon.proofs.CourseLemmas.{InLine, begun-now, end-now, line-course, part-now}
 use Rattle.ras_daemon.proofs.KeptLemmas.{StoreNow, cleared-during, first-kept, kept-during, kept-weaker, known-next, none-kept, store-during}
 use Rattle.ras_daemon.proofs.MachineLemmas.{account-same, output-same, text-same}
 use Rattle.ras_daemon.proofs.StoreLemmas.{store-first}
@@ -58,38 +57,38 @@ joined-twice one two three four = append_assoc (one ++ two) three four ∙ appen
 
 begins-start : (start : Start) (script part missing : List ℕ) → part ++ missing ≡ at_start start → IsPrefixOf part (run_output start script)
 begins-start start script part missing is =
-    let others : List ℕ = lines_output start (reads_of script) ++ closing_line (account_at start (reads_of script)) (run_exit start script) in
+    let others : List ℕ = lines_output start (reads_of script) ++ closing_line (site_at start (reads_of script)).account (run_exit start script) in
     (missing ++ others, sym (append_assoc part missing others) ∙ ap (λ (text : List ℕ). text ++ others) is)
 
 module _ (start : Start) (script : List ℕ) (before : List NumberedLine) where
   lines-split : (first : AreFirst start script before)
-      → lines_output start (reads_of script) ≡ outputs start before ++ flat_map (output_at start) (places_before_refusal start (places_behind before first.rest))
+      → lines_output start (reads_of script) ≡ outputs start before ++ flat_map output_at (places_before_refusal (places_from (site_at start before) first.rest))
   lines-split first =
-      ap (flat_map (output_at start)) (first-before start script before first)
-      ∙ flat_map-append (output_at start) (places before) (places_before_refusal start (places_behind before first.rest))
+      ap (flat_map output_at) (first-before start script before first)
+      ∙ flat_map-append output_at (placed start before) (places_before_refusal (places_from (site_at start before) first.rest))
 
   -- all that lines print is a beginning
   pub begins-between : AreFirst start script before → IsPrefixOf (at_start start ++ outputs start before) (run_output start script)
   begins-between first =
-      let rest : List ℕ = flat_map (output_at start) (places_before_refusal start (places_behind before first.rest)) in
-      let closing : List ℕ = closing_line (account_at start (reads_of script)) (run_exit start script) in (
+      let rest : List ℕ = flat_map output_at (places_before_refusal (places_from (site_at start before) first.rest)) in
+      let closing : List ℕ = closing_line (site_at start (reads_of script)).account (run_exit start script) in (
         rest ++ closing,
         append_assoc (at_start start) (outputs start before) (rest ++ closing)
             ∙ ap (λ (text : List ℕ). at_start start ++ text) (sym (append_assoc (outputs start before) rest closing) ∙ ap (λ (text : List ℕ). text ++ closing) (sym (lines-split first))),
       )
 
   -- and a beginning of the last line behind all of them
-  pub begins-end : (exit : Exit) → AreAll start script exit before → (part missing : List ℕ) → part ++ missing ≡ closing_line (account_at start before) exit
+  pub begins-end : (exit : Exit) → AreAll start script exit before → (part missing : List ℕ) → part ++ missing ≡ closing_line (site_at start before).account exit
       → IsPrefixOf ((at_start start ++ outputs start before) ++ part) (run_output start script)
   begins-end exit all part missing is = (
     missing,
     joined-twice (at_start start) (outputs start before) part missing
-        ∙ (λ i. at_start start ++ (flat_map (output_at start) (sym all.all i) ++ (is ∙ closing-same start script exit before all) i)),
+        ∙ (λ i. at_start start ++ (flat_map output_at (sym all.all i) ++ (is ∙ closing-same start script exit before all) i)),
   )
 
 -- and a beginning of what the next line prints
 pub begins-in : (start : Start) (script : List ℕ) (before : List NumberedLine) (read : NumberedLine) → AreFirst start script (before ++ read ∷ [])
-    → (part missing : List ℕ) → part ++ missing ≡ output_at start (before, read)
+    → (part missing : List ℕ) → part ++ missing ≡ output_at (site_at start before, read)
     → IsPrefixOf ((at_start start ++ outputs start before) ++ part) (run_output start script)
 begins-in start script before read first part missing is =
     IsPrefixOf-trans ((at_start start ++ outputs start before) ++ part) (at_start start ++ outputs start (before ++ read ∷ [])) (run_output start script) (
@@ -99,42 +98,9 @@ begins-in start script before read first part missing is =
     )
     (begins-between start script (before ++ read ∷ []) first)
 
--- ---- what a moment has printed is a beginning
-
+-- behind a text
 behind-here : (here start lines part : List ℕ) → ((here ++ start) ++ lines) ++ part ≡ here ++ ((start ++ lines) ++ part)
 behind-here here start lines part = joined-twice here start lines part ∙ ap (λ (text : List ℕ). here ++ text) (sym (append_assoc start lines part))
-
-pub moment-prints : (clock : Clock) (start : Start) (script : List ℕ) (here left : Left) → (LeftNow clock left → left.out ≡ here.out)
-    → RunMoment clock start script here left → PrintsPart (run_output start script) here.out left.out
-moment-prints clock start script here left same (inl now) = ([], begins-start start script [] (at_start start) refl, same now ∙ sym (append-nil here.out))
-moment-prints clock start script here left same (inr (inl opening)) = ([], begins-start start script [] (at_start start) refl, opening.text ∙ sym (append-nil here.out))
-moment-prints clock start script here left same (inr (inr (account, inl at))) =
-    (at.text.part, begins-start start script at.text.part at.text.missing at.text.splits, at.text.is)
-moment-prints clock start script here left same (inr (inr (account, inr (inl (inl between))))) = (
-  at_start start ++ outputs start between.before,
-  begins-between start script between.before between.first,
-  between.text ∙ append_assoc here.out (at_start start) (outputs start between.before),
-)
-moment-prints clock start script here left same (inr (inr (account, inr (inl (inr at))))) =
-    by (line-course start at.before at.read (lines_from start here.out ++ outputs start at.before) left at.course)
-  where
-    by : IsBegun (course_at start (at.before, at.read)) (lines_from start here.out ++ outputs start at.before) left ⊎ InLine start at.before at.read (lines_from start here.out ++ outputs start at.before) left
-        → PrintsPart (run_output start script) here.out left.out
-    by (inl begun) = (
-      at_start start ++ outputs start at.before,
-      begins-between start script at.before (record { rest = at.read ∷ at.rest; splits = at.splits; accepted = at.accepted }),
-      begun.text ∙ append_assoc here.out (at_start start) (outputs start at.before),
-    )
-    by (inr in-line) = (
-      (at_start start ++ outputs start at.before) ++ in-line.text.part,
-      begins-in start script at.before at.read (first_more start script at.before at.rest at.read at.splits at.accepted in-line.accepted) in-line.text.part in-line.text.missing in-line.text.splits,
-      in-line.text.is ∙ behind-here here.out (at_start start) (outputs start at.before) in-line.text.part,
-    )
-moment-prints clock start script here left same (inr (inr (account, inr (inr end)))) = (
-  (at_start start ++ outputs start end.before) ++ end.text.part,
-  begins-end start script end.before end.exit end.all end.text.part end.text.missing end.text.splits,
-  end.text.is ∙ behind-here here.out (at_start start) (outputs start end.before) end.text.part,
-)
 
 -- the last line says of no event that it is done
 pub closing-quiet : (account : State) (exit : Exit) → AreQuietLines (closing_line account exit)
@@ -188,127 +154,128 @@ module _ (start : Start) (script : List ℕ) (here left : Left) where
         (inl at.store) (none-kept start script (KnownBy start.account))
 
     -- behind whole lines, with nothing of the next one printed
-    headline-behind : (before : List NumberedLine) → AreFirst start script before → Recovers (account_at start before) left → left.out ≡ lines_from start here.out ++ outputs start before
-        → StoreNow (change_next (run_of start script) (events_among (places before))) (KnownBy (account_at start before)) (store_upto (run_of start script) (events_among (places before))) left.store
+    headline-behind : (before : List NumberedLine) → AreFirst start script before → Recovers (site_at start before).account left → left.out ≡ lines_from start here.out ++ outputs start before
+        → StoreNow (change_next (run_of start script) (events_before start before)) (KnownBy (site_at start before).account) (store_upto (run_of start script) (events_before start before)) left.store
         → Headline (run_of start script) here left
     headline-behind before first recovers text store =
-        let n : ℕ = events_among (places before) in
+        let n : ℕ = events_before start before in
         let printed : List ℕ = at_start start ++ outputs start before in
         let counted : done_count (printed ++ []) ≡ n + done_count [] = count-first start script before first account [] in
         headline-by printed n (text ∙ append_assoc here.out (at_start start) (outputs start before)) (begins-between start script before first)
         (sym (ap done_count (append-nil printed)) ∙ counted ∙ omega arith)
-        (account_at start before) recovers
-        (inl (sym (account-first start script before first account)))
-        (λ longer. absurd (omega (arith, longer, ap (λ (text : List ℕ). length text) (output-first start script before first account))))
-        store (first-kept start script before first account)
+        (site_at start before).account recovers
+        (inl (sym (account-first start script before first)))
+        (λ longer. absurd (omega (arith, longer, ap (λ (text : List ℕ). length text) (output-first start script before first))))
+        store (first-kept start script before first)
 
     pub headline-between : BetweenLines start script (lines_from start here.out) left → Headline (run_of start script) here left
     headline-between between =
-        headline-behind between.before between.first between.recovers between.text (inl (between.store ∙ sym (store-first start script between.before between.first account)))
+        headline-behind between.before between.first between.recovers between.text (inl (between.store ∙ sym (store-first start script between.before between.first)))
 
-    -- all that the next line prints: these are whole lines
-    headline-whole : (before : List NumberedLine) (read : NumberedLine) (part : List ℕ) → AreFirst start script (before ++ read ∷ []) → Recovers (account_at start (before ++ read ∷ [])) left
-        → left.out ≡ (lines_from start here.out ++ outputs start before) ++ part → part ≡ output_at start (before, read) → left.store ≡ store_at start (before ++ read ∷ []) → Headline (run_of start script) here left
-    headline-whole before read part first recovers text is store =
-        headline-between (record {
-          before = before ++ read ∷ [];
-          first = first;
-          recovers = recovers;
-          store = store;
-          text = text
-              ∙ append_assoc (lines_from start here.out) (outputs start before) part
-              ∙ ap (λ (more : List ℕ). lines_from start here.out ++ more) (ap (λ (more : List ℕ). outputs start before ++ more) is ∙ sym (outputs-snoc start before read));
-        })
+    -- while the next line is taken
+    module _ (at : AtLine start script (lines_from start here.out) left) where
+      abbrev place : Place
+      place = (site_at start at.before, at.read)
 
-    -- one event more is done once the next line is
-    event-more : (before : List NumberedLine) (read : NumberedLine) → is_event (before, read) ≡ true → events_among (places (before ++ read ∷ [])) ≡ events_among (places before) + 1
-    event-more before read is =
-        ap events_among (places-snoc before read)
-        ∙ ap (λ (ps : List Place). length ps) (filter-append is_event (places before) ((before, read) ∷ []))
-        ∙ rw is (length-append (filter is_event (places before)) ((before, read) ∷ []))
+      abbrev out : List ℕ
+      out = lines_from start here.out ++ outputs start at.before
 
-    -- a beginning of what the next line prints
-    headline-part : (before : List NumberedLine) (read : NumberedLine) (part missing : List ℕ) → AreFirst start script (before ++ read ∷ []) → Recovers (account_at start (before ++ read ∷ [])) left
-        → left.out ≡ (lines_from start here.out ++ outputs start before) ++ part → part ++ missing ≡ output_at start (before, read) → 1 ≤ length missing
-        → PrintsEvent start (before, read)
-        → StoreNow (change_next (run_of start script) (events_among (places before))) (KnownBy (account_at start (before ++ read ∷ []))) (store_upto (run_of start script) (events_among (places before))) left.store
-        → Headline (run_of start script) here left
-    headline-part before read part missing first recovers text splits some event store =
-        let n : ℕ = events_among (places before) in
-        let without : AreFirst start script before = first-without start script before read first in
-        let none : done_count part ≡ 0 = event_begun event.text part missing read.0 event.quiet (splits ∙ event.printed) some in
-        let more : account_at start (before ++ read ∷ []) ≡ account_with start script (n + 1) =
-        sym (account-first start script (before ++ read ∷ []) first account) ∙ ap (account_with start script) (event-more before read event.event) in
-        headline-by ((at_start start ++ outputs start before) ++ part) n (text ∙ behind-here here.out (at_start start) (outputs start before) part)
-        (begins-in start script before read first part missing splits)
-        (count-first start script before without account part ∙ omega (arith, none))
-        (account_at start (before ++ read ∷ [])) recovers (inr more) (λ longer. more) store
-        (kept-weaker (last_upto (run_of start script) n) (KnownBy (account_at start before)) (KnownBy (account_at start (before ++ read ∷ []))) (store_upto (run_of start script) n)
-        (known-next start before read) (first-kept start script before without account))
+      abbrev first : AreFirst start script at.before
+      first = record { rest = at.read ∷ at.rest; splits = at.splits; accepted = at.accepted }
 
-    module _ (before rest : List NumberedLine) (read : NumberedLine) (splits : before ++ read ∷ rest ≡ reads_of script) (accepted : AreAccepted start before) where
-      -- a line that is no event prints nothing
-      headline-next : (at : InLine start before read (lines_from start here.out ++ outputs start before) left) (missing : List ℕ) → at.text.missing ≡ missing → Tells start (before, read)
-          → Headline (run_of start script) here left
-      headline-next at [] none tells =
-          headline-whole before read at.text.part (first_more start script before rest read splits accepted at.accepted) at.recovers at.text.is
-          (sym (append-nil at.text.part) ∙ ap (λ (text : List ℕ). at.text.part ++ text) (sym none) ∙ at.text.splits)
-          (at.whole none ∙ sym (left-next start script before rest read splits accepted account at.accepted.taken))
-      headline-next at (b ∷ missing) more (inl event) =
-          headline-part before read at.text.part (b ∷ missing) (first_more start script before rest read splits accepted at.accepted) at.recovers at.text.is
-          (ap (λ (text : List ℕ). at.text.part ++ text) (sym more) ∙ at.text.splits) (omega arith) event
-          (part-now start script before rest read splits accepted account left.store at.count event.event at.accepted.taken at.store)
-      headline-next at (b ∷ missing) more (inr none) =
-          absurd (omega (
-            arith,
-            length-append at.text.part at.text.missing,
-            ap (λ (text : List ℕ). length text) more,
-            ap (λ (text : List ℕ). length text) (at.text.splits ∙ none.silent),
-          ))
+      module _ (line : InLine place out left) where
+        abbrev more : AreFirst start script (at.before ++ at.read ∷ [])
+        more = first_more start script at.before at.rest at.read at.splits at.accepted line.accepted
 
-      headline-in : IsBegun (course_at start (before, read)) (lines_from start here.out ++ outputs start before) left ⊎ InLine start before read (lines_from start here.out ++ outputs start before) left
-          → Headline (run_of start script) here left
-      headline-in (inl begun) =
-          headline-behind before (record { rest = read ∷ rest; splits = splits; accepted = accepted }) begun.recovers begun.text
-          (begun-now start script before rest read splits accepted account (KnownBy (account_at start before)) left (lines_from start here.out ++ outputs start before) begun)
-      headline-in (inr at) =
-          headline-next at at.text.missing refl (tells-last start script before read (first_more start script before rest read splits accepted at.accepted) account)
+        abbrev next : Site
+        next = site_after place.0 place.1
 
-    pub headline-line : AtLine start script (lines_from start here.out) left → Headline (run_of start script) here left
-    headline-line at =
-        headline-in at.before at.rest at.read at.splits at.accepted
-        (line-course start at.before at.read (lines_from start here.out ++ outputs start at.before) left at.course)
+        next-site : next ≡ site_at start (at.before ++ at.read ∷ [])
+        next-site = sym (site-snoc (first_site start) at.before at.read)
+
+        -- all that it prints: these are whole lines
+        whole-line : line.text.missing ≡ [] → Headline (run_of start script) here left
+        whole-line none =
+            headline-between (record {
+              before = at.before ++ at.read ∷ [];
+              first = more;
+              recovers = subst (λ (site : Site). Recovers site.account left) next-site line.recovers;
+              store = line.whole none ∙ ap (λ (site : Site). site.store) next-site;
+              text = line.text.is
+                  ∙ append_assoc (lines_from start here.out) (outputs start at.before) line.text.part
+                  ∙ ap (λ (text : List ℕ). lines_from start here.out ++ (outputs start at.before ++ text))
+                  (sym (append-nil line.text.part) ∙ ap (λ (text : List ℕ). line.text.part ++ text) (sym none) ∙ line.text.splits)
+                  ∙ ap (λ (text : List ℕ). lines_from start here.out ++ text) (sym (outputs-snoc start at.before at.read));
+            })
+
+        -- a beginning of that: one event more is done once the line is
+        part-line : 1 ≤ length line.text.missing → PrintsEvent place → Headline (run_of start script) here left
+        part-line some event =
+            let n : ℕ = events_before start at.before in
+            let none : done_count line.text.part ≡ 0 = event_begun event.text line.text.part line.text.missing at.read.0 event.quiet (line.text.splits ∙ event.printed) some in
+            let one : events_before start (at.before ++ at.read ∷ []) ≡ n + 1 =
+            ap events_among (places-append (first_site start) at.before (at.read ∷ []))
+            ∙ ap (λ (ps : List Place). length ps) (filter-append is_event (placed start at.before) (place ∷ []))
+            ∙ rw event.event (length-append (filter is_event (placed start at.before)) (place ∷ [])) in
+            let account-more : next.account ≡ account_with start script (n + 1) =
+            ap (λ (site : Site). site.account) next-site ∙ sym (account-first start script (at.before ++ at.read ∷ []) more) ∙ ap (account_with start script) one in
+            headline-by ((at_start start ++ outputs start at.before) ++ line.text.part) n (line.text.is ∙ behind-here here.out (at_start start) (outputs start at.before) line.text.part)
+            (begins-in start script at.before at.read more line.text.part line.text.missing line.text.splits)
+            (count-first start script at.before first account line.text.part ∙ omega (arith, none))
+            next.account line.recovers (inr account-more) (λ longer. account-more)
+            (part-now start script at.before at.rest at.read at.splits at.accepted left.store line.count event.event line.accepted.taken line.store)
+            (kept-weaker (last_upto (run_of start script) n) (KnownBy place.0.account) (KnownBy next.account) (store_upto (run_of start script) n) (known-next place) (first-kept start script at.before first))
+
+        -- a line that is no event prints nothing
+        headline-in : (missing : List ℕ) → line.text.missing ≡ missing → Tells place → Headline (run_of start script) here left
+        headline-in [] none tells = whole-line none
+        headline-in (b ∷ missing) some (inl event) = part-line (omega (arith, ap (λ (text : List ℕ). length text) some)) event
+        headline-in (b ∷ missing) some (inr none) =
+            absurd (omega (
+              arith,
+              length-append line.text.part line.text.missing,
+              ap (λ (text : List ℕ). length text) some,
+              ap (λ (text : List ℕ). length text) (line.text.splits ∙ none.silent),
+            ))
+
+      headline-line : Headline (run_of start script) here left
+      headline-line = elim (line-course place out left at.course) [
+        | inl begun ↦
+            headline-behind at.before first begun.recovers begun.text
+            (begun-now start script at.before at.rest at.read at.splits at.accepted (KnownBy place.0.account) left out begun)
+        | inr line ↦ headline-in line line.text.missing refl (tells place line.accepted (account-along (first_site start) at.before at.accepted account))
+      ]
 
     -- no event is behind the last one
-    events-all : (exit : Exit) (before : List NumberedLine) → AreAll start script exit before → events_of start script ≡ filter is_event (places before)
+    events-all : (exit : Exit) (before : List NumberedLine) → AreAll start script exit before → events_of start script ≡ filter is_event (placed start before)
     events-all exit before all = ap (λ (ps : List Place). filter is_event ps) all.all
 
     account-past : (exit : Exit) (before : List NumberedLine) → AreAll start script exit before
-        → account_with start script (events_among (places before) + 1) ≡ account_at start before
+        → account_with start script (events_before start before + 1) ≡ (site_at start before).account
     account-past exit before all =
-        let n : ℕ = events_among (places before) in
-        let events : List Place = filter is_event (places before) in
-        ap (λ (ps : List Place). account_after_all start.account (flat_map (entries_at start.store) ps))
+        let n : ℕ = events_before start before in
+        let events : List Place = filter is_event (placed start before) in
+        ap (λ (ps : List Place). account_after_all start.account (flat_map entries_at ps))
         (ap (take (n + 1)) (events-all exit before all)
         ∙ take-whole events (n + 1) (omega arith)
         ∙ sym (take-whole events n (omega arith))
         ∙ ap (take n) (sym (events-all exit before all)))
-        ∙ account-first start script before all.first account
+        ∙ account-first start script before all.first
 
     -- the last line
     pub headline-end : AtEnd start script (lines_from start here.out) left → Headline (run_of start script) here left
     headline-end at =
-        let n : ℕ = events_among (places at.before) in
-        let none : done_count at.text.part ≡ 0 = none_done (closing_line (account_at start at.before) at.exit) at.text.part at.text.missing (closing-quiet (account_at start at.before) at.exit) at.text.splits in
+        let n : ℕ = events_before start at.before in
+        let none : done_count at.text.part ≡ 0 = none_done (closing_line (site_at start at.before).account at.exit) at.text.part at.text.missing (closing-quiet (site_at start at.before).account at.exit) at.text.splits in
         headline-by ((at_start start ++ outputs start at.before) ++ at.text.part) n
         (at.text.is ∙ behind-here here.out (at_start start) (outputs start at.before) at.text.part)
         (begins-end start script at.before at.exit at.all at.text.part at.text.missing at.text.splits)
         (count-first start script at.before at.all.first account at.text.part ∙ omega (arith, none))
-        (account_at start at.before) at.recovers
-        (inl (sym (account-first start script at.before at.all.first account)))
+        (site_at start at.before).account at.recovers
+        (inl (sym (account-first start script at.before at.all.first)))
         (λ longer. sym (account-past at.exit at.before at.all))
-        (end-now start script at.exit at.before left.store at.all account (KnownBy (account_at start at.before)) at.store)
-        (first-kept start script at.before at.all.first account)
+        (end-now start script at.exit at.before left.store at.all (KnownBy (site_at start at.before).account) at.store)
+        (first-kept start script at.before at.all.first)
 
 -- ---- at every moment
 
@@ -324,3 +291,11 @@ pub headline : (clock : Clock) (start : Start) (script : List ℕ) (here left : 
     → RunMoment clock start script here left → Headline (run_of start script) here left
 headline clock start script here left stops text (inl now) = headline-nothing start script here left (text now) (stops left now).recovers (stops left now).store
 headline clock start script here left stops text (inr moment) = headline-since start script here left moment
+
+-- what it has printed is a beginning
+pub moment-prints : (clock : Clock) (start : Start) (script : List ℕ) (here left : Left) → (LeftNow clock left → left.out ≡ here.out)
+    → RunMoment clock start script here left → PrintsPart (run_output start script) here.out left.out
+moment-prints clock start script here left same (inl now) = ([], begins-start start script [] (at_start start) refl, same now ∙ sym (append-nil here.out))
+moment-prints clock start script here left same (inr moment) =
+    let leaves : Headline (run_of start script) here left = headline-since start script here left moment in
+    (leaves.printed, subst (IsPrefixOf leaves.printed) (output-same start script) leaves.begins, leaves.text)

@@ -1,11 +1,10 @@
 -- What runs log and order, one after the other.
 use Rattle.std.proofs.Common.{◌≡◌, Bool, true, false, not, ◌||◌, ◌&&◌, List, [], ◌∷◌, ◌++◌, refl, sym, ap, ◌∙◌, subst, append_assoc, append-nil}
 use Rattle.std.specs.Prelude.{if◌then◌else◌}
-use Rattle.std.specs.List.{AllByRecursion, IsDistinct, flat_map, list_any}
+use Rattle.std.specs.List.{AllByRecursion, IsDistinct, list_any}
 use Rattle.std.proofs.lemmas.List.Folds.{list_any-append}
 use Rattle.std.proofs.lemmas.List.Sums.{fold-append}
 use Rattle.std.proofs.lemmas.Map.Keys.{IsDistinct-push}
-use Rattle.ras_base.specs.Places.{places_behind}
 use Rattle.page_policy.specs.declared.rows.Order.{Order}
 use Rattle.ras_facts.specs.declared.entry.Entry.{Entry}
 use Rattle.ras_facts.specs.declared.entry.Entry.TheVariants.{Fact, Limit as PageLimit, Retire, ModuleLimit}
@@ -21,8 +20,9 @@ use Rattle.ras_account.specs.Numbers.{fresh_entries_in}
 use Rattle.ras_account.specs.Orders.{orders_behind}
 use Rattle.ras_account.proofs.AccountLemmas.{account_of-entries, account_of-entry, account_of-stale}
 use Rattle.ras_account.proofs.FreshLemmas.{among_fresh, is_fresh_in-account_of, names_of-append}
+use Rattle.ras_account.proofs.OrderLemmas.{orders_at-account_of}
 use Rattle.ras_events.specs.Sizes.{IsFact}
-use Rattle.ras_events.specs.Texts.{orders_of_entries}
+use Rattle.ras_events.specs.Preparing.{orders_along_entries}
 use Rattle.ras_daemon.proofs.ListLemmas.{all-weaker}
 
 -- ---- names of entries
@@ -151,17 +151,12 @@ again-counted h xs ys facts =
 
 -- a list of orders that grows by those of each entry
 module _ (given : History → List Order) (grows : (h : History) (e : Entry) → given (with_entry h e) ≡ given h ++ orders_behind h e) where
-  orders-along : (h : History) (before es : List Entry)
-      → given (with_entries h (before ++ es)) ≡ given (with_entries h before) ++ flat_map (λ p. orders_behind (with_entries h p.0) p.1) (places_behind before es)
-  orders-along h before [] = ap (λ (xs : List Entry). given (with_entries h xs)) (append-nil before) ∙ sym (append-nil (given (with_entries h before)))
-  orders-along h before (e ∷ es) =
-      let rest : List Order = flat_map (λ p. orders_behind (with_entries h p.0) p.1) (places_behind (before ++ e ∷ []) es) in
-      ap (λ (xs : List Entry). given (with_entries h xs)) (sym (append_assoc before (e ∷ []) es))
-      ∙ orders-along h (before ++ e ∷ []) es
-      ∙ ap (λ (g : History). given g ++ rest) (with_entries-append h before (e ∷ []))
-      ∙ ap (λ (os : List Order). os ++ rest) (grows (with_entries h before) e)
-      ∙ append_assoc (given (with_entries h before)) (orders_behind (with_entries h before) e) rest
-
   -- entries behind a history give their orders behind its own
-  pub orders-entries : (h : History) (es : List Entry) → given (with_entries h es) ≡ given h ++ orders_of_entries h es
-  orders-entries h es = orders-along h [] es
+  pub orders-entries : (h : History) (es : List Entry) → given (with_entries h es) ≡ given h ++ orders_along_entries (account_of h) es
+  orders-entries h [] = sym (append-nil (given h))
+  orders-entries h (e ∷ es) =
+      let rest : List Order = orders_along_entries (account_of (with_entry h e)) es in
+      orders-entries (with_entry h e) es
+      ∙ ap (λ (os : List Order). os ++ rest) (grows h e)
+      ∙ append_assoc (given h) (orders_behind h e) rest
+      ∙ (λ i. given h ++ (sym (orders_at-account_of h e) i ++ orders_along_entries (account_of-entry h e i) es))

@@ -1,10 +1,8 @@
 -- The record store while the event of a line is taken, and which of its records are kept.
-use Rattle.std.proofs.Common.{◌≡◌, ℕ, Bool, true, false, nat_eq, nat_lt, if◌then◌else◌, List, [], ◌∷◌, ◌++◌, length, map, Option, None, Some, Result, Ok, Err, refl, sym, ap, subst, ◌∙◌, inl, inr, append_assoc, append-nil}
-use Rattle.std.specs.Prelude.{◌⊎◌, IfOk, unwrap_or}
+use Rattle.std.proofs.Common.{◌≡◌, ℕ, Bool, true, false, nat_eq, nat_lt, if◌then◌else◌, List, [], ◌∷◌, length, map, Option, None, Some, Result, Ok, Err, refl, sym, ap, subst, ◌∙◌, inl, inr}
+use Rattle.std.specs.Prelude.{◌⊎◌, unwrap_or}
 use Rattle.std.specs.List.{AllByRecursion, cons_option, fold}
 use Rattle.std.specs.Option.{option_and_then, option_map, option_map_or}
-use Rattle.std.proofs.lemmas.List.{map-append}
-use Rattle.std.proofs.lemmas.List.Sums.{fold-append}
 use Rattle.cper_records.specs.Readable.{filled, read_under}
 use Rattle.cper_records.specs.declared.refusals.Unreadable.{Unreadable as Why}
 use Rattle.dimm_topology.specs.declared.row.Row.{Row}
@@ -13,10 +11,7 @@ use Rattle.erst_store.specs.Store.{Stored, bytes_under, is_full_for, is_reserved
 use Rattle.erst_store.specs.Steps.StoreLemmas.{found-with_record, under-with_record}
 use Rattle.erst_store.specs.declared.store.PutRefused.{PutRefused}
 use Rattle.erst_store.specs.declared.store.PutRefused.TheVariants.{ReservedId, StoreFull, TooLong}
-use Rattle.ras_base.specs.Places.{places, places_behind}
-use Rattle.ras_base.specs.Steps.PlacesLemmas.{places-snoc}
 use Rattle.ras_account.specs.Account.{State}
-use Rattle.ras_account.specs.Accounts.{IsAccount}
 use Rattle.ras_account.specs.Continued.{account_after, account_after_all, knows}
 use Rattle.ras_account.proofs.KnownLemmas.{knows-after_all, knows-own}
 use Rattle.ras_facts.specs.declared.bank.BankReport.{BankReport}
@@ -36,31 +31,35 @@ use Rattle.ras_facts.specs.declared.details.Detail.TheVariants.{Bank}
 use Rattle.ras_facts.specs.Reports.{bank_report, record_report}
 use Rattle.ras_script.specs.declared.line.Line.{Line}
 use Rattle.ras_script.specs.declared.line.Line.TheVariants as asks
-use Rattle.ras_events.specs.declared.event.Event.{Event}
-use Rattle.ras_events.specs.declared.event.Event.TheVariants.{Polled, Put, Saved}
-use Rattle.ras_events.specs.declared.event.LineRefusal.{LineRefusal}
 use Rattle.ras_events.specs.declared.made.Piece.{Piece}
-use Rattle.ras_events.specs.declared.settings.Settings.{Settings}
 use Rattle.ras_exit.specs.declared.exit.Exit.TheVariants.{ErstBusy, ErstStatus}
-use Rattle.ras_events.specs.Events.{event_of, panic_refusal}
+use Rattle.ras_events.specs.Events.{panic_refusal}
 use Rattle.ras_events.specs.Making.{entries_in, entry_in, piece_of, polled}
-use Rattle.ras_events.specs.Reports.{NumberedLine, entries_at, event_at, made_in, settings_told}
+use Rattle.ras_events.specs.Described.{NumberedLine}
+use Rattle.ras_run.specs.Sites.{Site, Start, first_site}
+use Rattle.ras_run.specs.Places.{Place, deed_at, entries_at, event_at, places_from, site_after, site_along, site_at}
 use Rattle.ras_events.specs.Stores.{read_stored, store_with, unreadable}
 use Rattle.ras_events.proofs.AskedLemmas.{Asks, of-line}
-use Rattle.ras_events.specs.Deeds.{deed_of}
-use Rattle.ras_run.specs.Places.{Start, account_at, store_at}
-use Rattle.ras_run.specs.Status.{event_refusal, put_refusal}
+use Rattle.ras_events.specs.Deeds.{Asking, deed_of, polls, saves}
+use Rattle.ras_events.specs.Deeds as asking
+use Rattle.ras_run.specs.Deeds.{counted_by, store_done}
+use Rattle.ras_exit.specs.declared.exit.Exit.{Exit}
+use Rattle.ras_run.proofs.LineLawLemmas.{deed_taken}
+use Rattle.ras_run.specs.Status.{asking_refusal, put_refusal, refusal_at}
 use Rattle.ras_run.specs.Taking.{IsAccepted}
-use Rattle.ras_run.proofs.PlaceLemmas.{account-snoc, store-snoc}
-use Rattle.ras_daemon.specs.Machine.{StoreChange, clears, keeps, last_changed, last_upto, puts, store_changed, store_upto}
+use Rattle.ras_daemon.specs.Machine.{StoreChange, clears, keeps, last_changed, last_upto, puts, store_upto}
 use Rattle.ras_daemon.specs.RunOf.{change_at, change_by, run_of}
 use Rattle.ras_daemon.specs.Steps.Running.{AreFirst}
-use Rattle.ras_daemon.specs.StoreDuring.{ClearsFirst, KeepsRecords, KnownBy, KnowsReadable, PutsUnder, StoreDuring}
-use Rattle.ras_daemon.proofs.CountLemmas.{events_among}
+use Rattle.ras_daemon.specs.StoreDuring.{ClearsFirst, HasPut, KeepsRecords, KnownBy, KnowsReadable, StoreDuring}
+use Rattle.ras_daemon.proofs.CountLemmas.{events_before, placed}
 use Rattle.ras_daemon.proofs.ListLemmas.{all-weaker}
-use Rattle.ras_daemon.proofs.MachineLemmas.{IsTaken, change-taken}
 use Rattle.ras_daemon.proofs.StoreLemmas.{last-first, store-first}
 use Rattle.ras_events.proofs.StoreLemmas.{same_bytes, same_id}
+
+-- ---- a line that isn't refused
+
+abbrev pub IsTaken : Place → Type 0
+IsTaken place = refusal_at place ≡ None
 
 -- ---- while an event changes the store
 
@@ -91,32 +90,28 @@ module _ (Known : Name → Type 0) (laid store : List Stored) where
   cleared-during keeps (inr never) is other = absurd never
   cleared-during (puts r) (inr put) is other = absurd cc
 
--- ---- what stands under other identifiers
+-- ---- what stands under an identifier
 
-apart_of : (a b : ℕ) → (a ≡ b → ⊥) → nat_eq a b ≡ false
-apart_of a b apart = by (nat_eq a b) refl
+-- the store has what it had there, or the record that is put has replaced it
+put-during : (r : Stored) (id : ℕ) (bytes : List ℕ) (laid : List Stored) → bytes_under id laid ≡ Some bytes
+    → HasPut (puts r) id (store_with r.id r.bytes laid) ⊎ (bytes_under id (store_with r.id r.bytes laid) ≡ Some bytes)
+put-during r id bytes laid stands = by (refusal_of r.id r.bytes laid) (nat_eq r.id id) refl
   where
-    by : (t : Bool) → nat_eq a b ≡ t → t ≡ false
-    by false is = refl
-    by true is = absurd (apart (same_id a b is))
+    by : (o : Option PutRefused) (b : Bool) → nat_eq r.id id ≡ b → let store : List Stored = option_map_or (λ why. laid) o (with_record r.id r.bytes laid) in HasPut (puts r) id store ⊎ (bytes_under id store ≡ Some bytes)
+    by (Some why) b is = inr stands
+    by None true is = inl (same_id r.id id is, subst (λ i. bytes_under i (with_record r.id r.bytes laid) ≡ Some r.bytes) (same_id r.id id is) (found-with_record r.id r.bytes laid))
+    by None false is = inr (under-with_record r.id id r.bytes is laid ∙ stands)
 
-others-put : (id : ℕ) (bytes : List ℕ) (k : ℕ) (laid : List Stored) → (id ≡ k → ⊥) → bytes_under k (store_with id bytes laid) ≡ bytes_under k laid
-others-put id bytes k laid apart = by (refusal_of id bytes laid)
-  where
-    by : (r : Option PutRefused) → bytes_under k (option_map_or (λ why. laid) r (with_record id bytes laid)) ≡ bytes_under k laid
-    by None = under-with_record id k bytes (apart_of id k apart) laid
-    by (Some why) = refl
-
--- what `KeepsRecords` says, of the identifiers under which a change puts no record
+-- what `KeepsRecords` says, unless the record that a change puts is there
 pub kept-during : (change : StoreChange) (last : ℕ → Option (List ℕ)) (Known : Name → Type 0) (laid store : List Stored) → StoreNow change Known laid store → KeepsRecords last Known laid
-    → (id : ℕ) (bytes own : List ℕ) → last id ≡ Some bytes → read_under id (filled bytes) ≡ Ok own → (PutsUnder change id → ⊥) → (bytes_under id store ≡ Some bytes) ⊎ Known (stored_name own)
-kept-during change last Known laid store now held id bytes own there reads apart = elim (held id bytes own there reads) [ inl stands ↦ by change now apart stands | inr known ↦ inr known ]
+    → (id : ℕ) (bytes own : List ℕ) → last id ≡ Some bytes → read_under id (filled bytes) ≡ Ok own → HasPut change id store ⊎ ((bytes_under id store ≡ Some bytes) ⊎ Known (stored_name own))
+kept-during change last Known laid store now held id bytes own there reads = elim (held id bytes own there reads) [ inl stands ↦ by change now stands | inr known ↦ inr (inr known) ]
   where
-    by : (change : StoreChange) → StoreNow change Known laid store → (PutsUnder change id → ⊥) → bytes_under id laid ≡ Some bytes → (bytes_under id store ≡ Some bytes) ⊎ Known (stored_name own)
-    by change (inl same) apart stands = inl (ap (bytes_under id) same ∙ stands)
-    by keeps (inr never) apart stands = absurd never
-    by (puts r) (inr put) apart stands = inl (ap (bytes_under id) put ∙ others-put r.id r.bytes id laid apart ∙ stands)
-    by clears (inr (first, known)) apart stands = inr (known id bytes own stands reads)
+    by : (change : StoreChange) → StoreNow change Known laid store → bytes_under id laid ≡ Some bytes → HasPut change id store ⊎ ((bytes_under id store ≡ Some bytes) ⊎ Known (stored_name own))
+    by change (inl same) stands = inr (inl (ap (bytes_under id) same ∙ stands))
+    by keeps (inr never) stands = absurd never
+    by (puts r) (inr put) stands = rw put (elim (put-during r id bytes laid stands) [ inl done ↦ inl done | inr still ↦ inr (inl still) ])
+    by clears (inr (first, known)) stands = inr (inr (known id bytes own stands reads))
 
 -- ---- a poll's account knows the name of each record that can be read
 
@@ -176,9 +171,9 @@ poll-knows a rows seconds store id bytes own found reads = polled-knows rows sec
 -- ---- a record that is saved, and isn't refused
 
 -- the store refuses it only if it is full
-abbrev Fits : Event → Type 0
-Fits (Saved id bytes) = (store : List Stored) → is_full_for id store ≡ false → refusal_of id bytes store ≡ None
-Fits event = Unit {0}
+abbrev Fits : Asking → Type 0
+Fits (saves r) = (store : List Stored) → is_full_for r.id store ≡ false → refusal_of r.id r.bytes store ≡ None
+Fits asks = Unit {0}
 
 panic-fits : (id : ℕ) (bank : BankReport) (store : List Stored) → is_reserved id ≡ false → is_full_for id store ≡ false → refusal_of id (panic_bytes id bank) store ≡ None
 panic-fits id bank store free room =
@@ -193,18 +188,15 @@ panic-free id bank = by (is_reserved_identifier id) refl
     by false is none = is
     by true is none = absurd cc
 
-event-fits : (settings : Settings) (line : Line) → IfOk (event_of settings line) Fits
-event-fits settings line = of-line (λ event. IfOk event Fits) (λ why. tt) settings line (by line)
+place-fits : (place : Place) → Fits (deed_at place).asks
+place-fits (site, (number, Err why)) = tt
+place-fits (site, (number, Ok line)) = of-line (λ event. Fits (deed_of event).asks) (λ why. tt) site.settings line (by line)
   where
-    by : (line : Line) → Asks (λ event. IfOk event Fits) settings line
+    by : (line : Line) → Asks (λ event. Fits (deed_of event).asks) site.settings line
     by (asks.Report report) = λ made. tt
     by (asks.Panic id bank) = λ lists is none store room. panic-fits id bank store (panic-free id bank none) room
     by (asks.Poll seconds) = λ lists is. tt
     by line = tt
-
-place-fits : (before : List NumberedLine) (read : NumberedLine) → IfOk (event_at (before, read)) Fits
-place-fits before (number, Ok line) = event-fits (settings_told before) line
-place-fits before (number, Err why) = tt
 
 -- a record that is saved in time finds room, and a put that isn't refused does
 saved-room : (full free : Bool) → (if free then (if full then Some (ErstStatus 1) else None) else Some ErstBusy) ≡ None → full ≡ false
@@ -221,14 +213,13 @@ abbrev pub HasRoom : StoreChange → List Stored → Type 0
 HasRoom (puts r) store = refusal_of r.id r.bytes store ≡ None
 HasRoom change store = Unit {0}
 
-pub change-room : (start : Start) (before : List NumberedLine) (read : NumberedLine) → IsTaken start (before, read) → HasRoom (change_at (before, read)) (store_at start before)
-change-room start before read = by (event_at (before, read)) (place-fits before read)
+pub change-room : (place : Place) → IsTaken place → HasRoom (change_at place) place.0.store
+change-room place taken = by _ (deed_at place).asks (place-fits place) (deed_taken place.0 place.1.0 (event_at place) taken)
   where
-    by : (event : Result Event LineRefusal) → IfOk event Fits → event_refusal start (before, read) event ≡ None → HasRoom (change_by (deed_of event).asks) (store_at start before)
-    by (Ok (Put id bytes)) fits taken = put-taken read.0 (refusal_of id bytes (store_at start before)) taken
-    by (Ok (Saved id bytes)) fits taken = fits (store_at start before) (saved-room (is_full_for id (store_at start before)) (is_free_in_time start.slow) taken)
-    by (Ok event) fits taken = tt
-    by (Err why) fits taken = tt
+    by : (room : Option Exit) (asks : Asking) → Fits asks → asking_refusal place.0 place.1.0 asks room ≡ None → HasRoom (change_by asks) place.0.store
+    by room (asking.puts r) fits taken = put-taken place.1.0 (refusal_of r.id r.bytes place.0.store) taken
+    by room (saves r) fits taken = fits place.0.store (saved-room (is_full_for r.id place.0.store) (is_free_in_time place.0.slow) taken)
+    by room asks fits taken = tt
 
 -- ---- what is kept along lines
 
@@ -254,63 +245,48 @@ poll-kept : (last : ℕ → Option (List ℕ)) (Known : Name → Type 0) (store 
 poll-kept last Known store knows held id bytes own there reads =
     elim (held id bytes own there reads) [ inl stands ↦ inr (knows id bytes own stands reads) | inr known ↦ inr known ]
 
-pub last-snoc : (id : ℕ) (found : Option (List ℕ)) (before : List NumberedLine) (read : NumberedLine)
-    → fold (last_changed id) found (map change_at (places (before ++ read ∷ []))) ≡ last_changed id (fold (last_changed id) found (map change_at (places before))) (change_at (before, read))
-last-snoc id found before read =
-    ap (fold (last_changed id) found) (ap (map change_at) (places-snoc before read) ∙ map-append change_at (places before) ((before, read) ∷ []))
-    ∙ fold-append (last_changed id) found (map change_at (places before)) (change_at (before, read) ∷ [])
+-- at a site what was last put is kept
+abbrev pub KeepsAt : (ℕ → Option (List ℕ)) → Site → Type 0
+KeepsAt last site = KeepsRecords last (KnownBy site.account) site.store
 
-module _ (start : Start) where
-  abbrev KnownAt : List NumberedLine → Name → Type 0
-  KnownAt before = KnownBy (account_at start before)
+module _ (place : Place) where
+  abbrev next : Site
+  next = site_after place.0 place.1
 
   -- what is known before a line is known behind it
-  pub known-next : (before : List NumberedLine) (read : NumberedLine) (name : Name) → KnownAt before name → KnownAt (before ++ read ∷ []) name
-  known-next before read name known =
-      subst (λ (a : State). KnownBy a name) (sym (account-snoc start before read)) (knows-after_all (account_at start before) (entries_at start.store (before, read)) name known)
+  pub known-next : (name : Name) → KnownBy place.0.account name → KnownBy next.account name
+  known-next name known = knows-after_all place.0.account (entries_at place) name known
 
   -- and so are the records that a poll reads
-  pub known-polled : (before : List NumberedLine) (read : NumberedLine) (seconds : ℕ) → event_at (before, read) ≡ Ok (Polled seconds) → KnowsReadable (store_at start before) (KnownAt (before ++ read ∷ []))
-  known-polled before read seconds is =
-      subst (λ (a : State). KnowsReadable (store_at start before) (KnownBy a))
-      (sym (account-snoc start before read ∙ ap (λ (event : Result Event LineRefusal). account_after_all (account_at start before) (entries_in (made_in (settings_told before).topology (store_at start before) event))) is))
-      (poll-knows (account_at start before) (settings_told before).topology seconds (store_at start before))
+  pub known-polled : (seconds : ℕ) → (deed_at place).asks ≡ polls seconds → KnowsReadable place.0.store (KnownBy next.account)
+  known-polled seconds is =
+      subst (λ (a : State). KnowsReadable place.0.store (KnownBy a)) (sym (ap (λ asks. account_after_all place.0.account (entries_in (unwrap_or (counted_by place.0 asks (deed_at place).reported) []))) is))
+      (poll-knows place.0.account place.0.settings.topology seconds place.0.store)
 
-  -- after lines of which none is refused
-  abbrev Last : List NumberedLine → ℕ → Option (List ℕ)
-  Last before id = fold (last_changed id) (bytes_under id start.store) (map change_at (places before))
+  line-kept : (last : ℕ → Option (List ℕ)) → IsTaken place → KeepsAt last place.0 → KeepsAt (λ id. last_changed id (last id) (change_at place)) next
+  line-kept last taken held =
+      by (deed_at place).asks refl (change-room place taken) (kept-weaker last (KnownBy place.0.account) (KnownBy next.account) place.0.store known-next held)
+    where
+      by : (asks : Asking) → (deed_at place).asks ≡ asks → HasRoom (change_by asks) place.0.store → KeepsRecords last (KnownBy next.account) place.0.store
+          → KeepsRecords (λ id. last_changed id (last id) (change_by asks)) (KnownBy next.account) (store_done asks place.0.store)
+      by (asking.puts r) is room held = put-kept r.id r.bytes last (KnownBy next.account) place.0.store room held
+      by (saves r) is room held = put-kept r.id r.bytes last (KnownBy next.account) place.0.store room held
+      by (polls seconds) is room held = poll-kept last (KnownBy next.account) place.0.store (known-polled seconds is) held
+      by asks is room held = held
 
-  abbrev pub KeepsAt : List NumberedLine → Type 0
-  KeepsAt before = KeepsRecords (Last before) (KnownAt before) (store_at start before)
+-- after lines of which none is refused
+pub lines-kept : (last : ℕ → Option (List ℕ)) (site : Site) (reads : List NumberedLine) → AllByRecursion IsTaken (places_from site reads) → KeepsAt last site
+    → KeepsAt (λ id. fold (last_changed id) (last id) (map change_at (places_from site reads))) (site_along site reads)
+lines-kept last site [] taken held = held
+lines-kept last site (read ∷ reads) taken held =
+    lines-kept (λ id. last_changed id (last id) (change_at (site, read))) (site_after site read) reads taken.1 (line-kept (site, read) last taken.0 held)
 
-  module _ (before : List NumberedLine) (read : NumberedLine) where
-    event-kept : (event : Result Event LineRefusal) → event_at (before, read) ≡ event → HasRoom (change_by (deed_of event).asks) (store_at start before)
-        → KeepsRecords (Last before) (KnownAt (before ++ read ∷ [])) (store_at start before)
-        → KeepsRecords (λ id. last_changed id (Last before id) (change_by (deed_of event).asks)) (KnownAt (before ++ read ∷ [])) (store_changed (store_at start before) (change_by (deed_of event).asks))
-    event-kept (Ok (Put id bytes)) is room held = put-kept id bytes (Last before) (KnownAt (before ++ read ∷ [])) (store_at start before) room held
-    event-kept (Ok (Saved id bytes)) is room held = put-kept id bytes (Last before) (KnownAt (before ++ read ∷ [])) (store_at start before) room held
-    event-kept (Ok (Polled seconds)) is room held = poll-kept (Last before) (KnownAt (before ++ read ∷ [])) (store_at start before) (known-polled before read seconds is) held
-    event-kept (Ok event) is room held = held
-    event-kept (Err why) is room held = held
-
-    line-kept : IsTaken start (before, read) → KeepsAt before → KeepsAt (before ++ read ∷ [])
-    line-kept taken held = λ id bytes own there reads.
-        subst (λ (store : List Stored). (bytes_under id store ≡ Some bytes) ⊎ KnownAt (before ++ read ∷ []) (stored_name own))
-        (change-taken start (before, read) (store_at start before) taken ∙ sym (store-snoc start before read))
-        (event-kept (event_at (before, read)) refl (change-room start before read taken)
-        (kept-weaker (Last before) (KnownAt before) (KnownAt (before ++ read ∷ [])) (store_at start before) (known-next before read) held)
-        id bytes own (sym (last-snoc id (bytes_under id start.store) before read) ∙ there) reads)
-
-  pub lines-kept : (before reads : List NumberedLine) → AllByRecursion (IsTaken start) (places_behind before reads) → KeepsAt before → KeepsAt (before ++ reads)
-  lines-kept before [] taken held = rw (append-nil before) held
-  lines-kept before (read ∷ reads) taken held =
-      subst KeepsAt (append_assoc before (read ∷ []) reads) (lines-kept (before ++ read ∷ []) reads taken.1 (line-kept before read taken.0 held))
-
-  pub first-kept : (script : List ℕ) (before : List NumberedLine) (first : AreFirst start script before) → IsAccount start.account
-      → KeepsRecords (last_upto (run_of start script) (events_among (places before))) (KnownAt before) (store_upto (run_of start script) (events_among (places before)))
-  first-kept script before first account = λ id bytes own there reads.
-      rw (store-first start script before first account)
-      (lines-kept [] before (all-weaker (IsAccepted start) (IsTaken start) (λ place accepted. accepted.taken) (places before) first.accepted) (λ id bytes own there reads. inl there) id bytes own (sym (last-first start script before first account id) ∙ there) reads)
+pub first-kept : (start : Start) (script : List ℕ) (before : List NumberedLine) (first : AreFirst start script before)
+    → KeepsRecords (last_upto (run_of start script) (events_before start before)) (KnownBy (site_at start before).account) (store_upto (run_of start script) (events_before start before))
+first-kept start script before first = λ id bytes own there reads.
+    rw (store-first start script before first)
+    (lines-kept (λ id. bytes_under id start.store) (first_site start) before (all-weaker IsAccepted IsTaken (λ place accepted. accepted.taken) (placed start before) first.accepted)
+    (λ id bytes own there reads. inl there) id bytes own (sym (last-first start script before first id) ∙ there) reads)
 
 -- at the start
 pub none-kept : (start : Start) (script : List ℕ) (Known : Name → Type 0) → KeepsRecords (last_upto (run_of start script) 0) Known (store_upto (run_of start script) 0)

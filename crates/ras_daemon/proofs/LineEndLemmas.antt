@@ -3,9 +3,11 @@ use Rattle.std.proofs.Common.{◌≡◌, ℕ, ◌+◌, ◌-◌, true, List, [], 
 use Rattle.std.specs.Prelude.{◌⊎◌}
 use Rattle.board_core.specs.Doing.{after_acts}
 use Rattle.board_core.specs.Told.{Told}
-use Rattle.ras_events.specs.Reports.{NumberedLine}
+use Rattle.ras_events.specs.Described.{NumberedLine}
+use Rattle.ras_run.specs.Sites.{Start, first_site}
+use Rattle.ras_run.specs.Places.{places_from}
+use Rattle.ras_daemon.specs.Script.{reads_in, reads_of}
 use Rattle.std.specs.List.{AllByRecursion, slice_split}
-use Rattle.ras_base.specs.Places.{places}
 use Rattle.ras_script.specs.Line.{line_of}
 use Rattle.ras_script.specs.Lines.{without_last}
 use Rattle.ras_script.proofs.LineAndWordLemmas.{lines_unbroken, some_part, split_between, split_lacking}
@@ -18,11 +20,9 @@ use Rattle.ras_script.specs.SplittingLaws.{Lacks, script_of}
 use Rattle.ras_exit.specs.declared.exit.Exit.{Exit}
 use Rattle.ras_exit.specs.declared.exit.Exit.TheVariants.{Done, SourceFault}
 use Rattle.ras_run.specs.declared.run.Run.{Run}
-use Rattle.ras_run.specs.Places.{Start}
 use Rattle.ras_exit.specs.Endings.{IsStop}
 use Rattle.line_filters.specs.Numbered.{IsNextExit}
 use Rattle.ras_daemon.specs.Steps.Running.{EndsAhead, ReadAhead, first_size, outputs}
-use Rattle.ras_daemon.specs.Script.{reads_in, reads_of}
 use Rattle.ras_daemon.proofs.AlongActLemmas.{acts_along, along_prints}
 use Rattle.ras_daemon.proofs.GrowLemmas.{Grows}
 use Rattle.ras_daemon.proofs.ListLemmas.{all-front}
@@ -135,7 +135,7 @@ ahead_given Fault never start script t number reader new left now run later line
       more = line ∷ lines_of (new.held ++ here.0);
       lines = taking.cut ∙ ap (λ lines. taking.done ++ lines) here.2;
       first = record { rest = (number + 1, line_of line) ∷ given.0; splits = given.1; accepted = taking.accepted };
-      text = (went.part, went.is ∙ ap (λ out. out ++ went.part) (along_prints start (places (reads_in taking.done)) t taking.acts taking.accepted (acts_along start (places (reads_in taking.done)) t taking.acts taking.along)));
+      text = (went.part, went.is ∙ ap (λ out. out ++ went.part) (along_prints (places_from (first_site start) (reads_in taking.done)) t taking.acts taking.accepted (acts_along (places_from (first_site start) (reads_in taking.done)) t taking.acts taking.along)));
       bound = bound;
       taken = all.0;
       splits = all.1;
@@ -163,7 +163,7 @@ ahead_none Fault start script t number reader new left now run told taking is fe
       more = lines_of (reader.held ++ taking.now);
       lines = taking.cut;
       first = lines_first start script t number reader left run taking;
-      text = ([], along_prints start (places (reads_in taking.done)) t taking.acts taking.accepted (acts_along start (places (reads_in taking.done)) t taking.acts taking.along) ∙ sym (append-nil (t.here.out ++ outputs start (reads_in taking.done))));
+      text = ([], along_prints (places_from (first_site start) (reads_in taking.done)) t taking.acts taking.accepted (acts_along (places_from (first_site start) (reads_in taking.done)) t taking.acts taking.along) ∙ sym (append-nil (t.here.out ++ outputs start (reads_in taking.done))));
       bound = bound;
       taken = all.0;
       splits = all.1;

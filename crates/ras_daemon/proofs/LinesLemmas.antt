@@ -5,7 +5,11 @@ use Rattle.board_core.specs.Cause.{Faults, Kind}
 use Rattle.board_core.specs.Doing.{Act, Breaks, GoesWell, Seen, after_acts, broke, went_well}
 use Rattle.board_core.specs.Told.{Told}
 use Rattle.board_core.proofs.DoingLemmas.{does_nothing, does_then}
-use Rattle.ras_events.specs.Reports.{NumberedLine, event_at}
+use Rattle.ras_events.specs.Described.{NumberedLine}
+use Rattle.ras_events.specs.declared.settings.Settings.{Settings}
+use Rattle.ras_run.specs.Sites.{IsDrivable, IsRunAt, Site, Start, first_site, site_of}
+use Rattle.ras_run.specs.Places.{Place, event_at, places_from, site_at}
+use Rattle.ras_daemon.specs.Script.{reads_in, reads_of}
 use Rattle.ras_script.specs.Line.{line_of}
 use Rattle.ras_script.specs.Lines.{Ending, Lines, no_line, script_ended, script_lines, with_line}
 use Rattle.ras_script.specs.Reader.{AreTaken, IsAtEnd, IsLine, Moves, MovesLine, Reader, given_count, lines_to_come}
@@ -13,7 +17,6 @@ use Rattle.ras_script.specs.Splitting.{lines_of}
 use Rattle.ras_script.specs.SplittingLaws.{script_of}
 use Rattle.ras_script.proofs.LinesLemmas.{line_alone, line_cut}
 use Rattle.std.proofs.lemmas.Grind.{flat_map-append}
-use Rattle.ras_base.specs.Places.{places}
 use Rattle.line_filters.specs.Numbered.{GivesNumbered, IsNextExit}
 use Rattle.line_filters.specs.Steps.Reading.{with_lines}
 use Rattle.ras_exit.specs.Acts.{DoesBy}
@@ -23,18 +26,15 @@ use Rattle.ras_exit.specs.Causes.{BoardCause, Causes, SourceCause}
 use Rattle.ras_exit.specs.Endings.{AnyFault, CallEnding, EndsBy, IsLineExit, IsStop, answered, ending_of, faulted, source_failed, starved}
 use Rattle.ras_exit.proofs.PrintLemmas.{none_still}
 use Rattle.ras_run.specs.declared.run.Run.{Run}
-use Rattle.ras_run.specs.LineActs.{AreBegun, CanAsk, HoldsAfter, asking_acts}
-use Rattle.ras_run.specs.Places.{IsBoardAfter, Start}
+use Rattle.ras_run.specs.LineActs.{AreBegun, CanAsk, HoldsAt, TakesLine, asking_acts}
 use Rattle.ras_run.specs.Status.{refusal_at}
-use Rattle.ras_run.specs.Taking.{IsRunAfter, TakesLine}
+use Rattle.ras_run.proofs.PlaceLemmas.{site-snoc}
 use Rattle.ras_daemon.specs.Steps.Doing.{AreAllAsked, AreLinesActs, AsksBy, DoesFirst, DoesLines, EndsLines, IsAsked, MayAsk}
-use Rattle.ras_daemon.specs.RunStatus.{first_refused}
 use Rattle.ras_daemon.specs.RunActs.{AreDoneAlong, refused_acts, script_asked}
 use Rattle.ras_daemon.specs.Steps.Running.{AreAccepted, AreAll, AreFirst}
 use Rattle.ras_exit.specs.ScriptEnd.{ending_exit}
-use Rattle.ras_daemon.specs.Script.{reads_in, reads_of}
-use Rattle.ras_daemon.proofs.AlongActLemmas.{IsDoneAt, acts_along, along_begun, along_done, asks_alone, done-snoc, line_begun}
-use Rattle.ras_daemon.proofs.PlaceLemmas.{accepted-snoc, all_read, first_more, line_refused, refused-none, reads-append, reads_behind, script-refused}
+use Rattle.ras_daemon.proofs.AlongActLemmas.{acts_along, along_begun, along_done, asks_alone, done-snoc, line_begun}
+use Rattle.ras_daemon.proofs.PlaceLemmas.{accepted-snoc, all_read, first_more, line_refused, none_refused, reads-append, reads_behind, script-refused}
 
 -- So many lines of a script were taken and did their acts, and the others are to come.
 pub record Taking (start : Start) (script : List ℕ) (t : Told) (number : ℕ) (reader : Reader) (left : Option (List ℕ)) (run : Run) : Type 0 where
@@ -43,11 +43,11 @@ pub record Taking (start : Start) (script : List ℕ) (t : Told) (number : ℕ) 
   pub tells : left ≡ Some now
   pub lines : script_lines script ≡ with_lines done (lines_to_come reader now)
   pub count : number ≡ length done
-  pub after : IsRunAfter start (reads_in done) run
-  pub holds : HoldsAfter start [] t
+  pub after : IsRunAt (site_at start (reads_in done)) run
+  pub holds : HoldsAt (first_site start) t
   pub accepted : AreAccepted start (reads_in done)
   pub acts : List Act
-  pub along : AreDoneAlong start (places (reads_in done)) t acts
+  pub along : AreDoneAlong (places_from (first_site start) (reads_in done)) t acts
   pub cut : lines_of script ≡ done ++ lines_of (reader.held ++ now)
   pub size : length script ≤ length (script_of done) + length (reader.held ++ now)
   pub kept : (script ≡ script_of done ++ (reader.held ++ now)) ⊎ ((reader.held ≡ []) × (now ≡ []))
@@ -156,7 +156,7 @@ Took see start script t number reader left run old new =
     (taking : Taking start script t number reader left run) × GoesWell taking.acts (see old) (see new)
 
 pub took_none : {X : Type 0} (see : X → Seen) (start : Start) (script : List ℕ) (t : Told) (reader : Reader) (left : Option (List ℕ)) (run : Run) (x : X) → reader ≡ record { line = []; held = []; taken = 0 }
-    → IsRunAfter start [] run → HoldsAfter start [] t → left ≡ Some script → Took see start script t 0 reader left run x x
+    → IsRunAt (first_site start) run → HoldsAt (first_site start) t → left ≡ Some script → Took see start script t 0 reader left run x x
 took_none see start script t reader left run x fresh after holds tells = (
   record {
     done = [];
@@ -222,22 +222,24 @@ module _ (start : Start) (script : List ℕ) (t : Told) (number : ℕ) (reader n
       (tells.0, tells.1, rw same text.0, rw same text.1)
 
   -- It was taken, and did its acts.
-  pub took_line : {X : Type 0} (see : X → Seen) (more : Run) (acts : List Act) (old mid later : X) → GoesWell taking.acts (see old) (see mid) → GoesWell acts (see mid) (see later) → IsLine new.line → given_count reader < given_count new → Gave (Ok true) number reader new left now → MovesLine {E = Exit} (Ok true) reader new left now
-      → TakesLine start (reads_in taking.done, read_given) (Ok tt) more → IsDoneAt start (reads_in taking.done, read_given) (after_acts taking.acts t) acts → Took see start script t (number + 1) new now more old later
-  took_line see more acts old mid later well does is_line grew gave moves takes are =
+  pub took_line : {X : Type 0} (see : X → Seen) (more : Run) (old mid later : X) → GoesWell taking.acts (see old) (see mid) → IsLine new.line → given_count reader < given_count new → Gave (Ok true) number reader new left now → MovesLine {E = Exit} (Ok true) reader new left now
+      → TakesLine see (site_at start (reads_in taking.done), read_given) (after_acts taking.acts t) (Ok tt) more mid later → Took see start script t (number + 1) new now more old later
+  took_line see more old mid later well is_line grew gave moves takes =
       let lines = given_lines gave moves in
-      let text = given_text reader new taking.now lines.0 is_line grew (subst (λ n. MovesLine {E = Exit} (Ok true) reader new (Some taking.now) n) lines.1 (subst (λ b. MovesLine {E = Exit} (Ok true) reader new b now) taking.tells moves)) in (
+      let text = given_text reader new taking.now lines.0 is_line grew (subst (λ n. MovesLine {E = Exit} (Ok true) reader new (Some taking.now) n) lines.1 (subst (λ b. MovesLine {E = Exit} (Ok true) reader new b now) taking.tells moves)) in
+      let acts : List Act = takes.does.0 in
+      let counted = takes.takes.1 in (
         record {
           done = taking.done ++ line ∷ [];
           now = lines.0;
           tells = lines.1;
           lines = lines.2;
           count = (let c = taking.count in simp length-append (omega arith));
-          after = rw reads-given takes.1;
+          after = rw (reads-given, site-snoc (first_site start) (reads_in taking.done) read_given) (record { settings = counted.settings; account = counted.account; standing = counted.standing });
           holds = taking.holds;
-          accepted = rw reads-given (accepted-snoc start (reads_in taking.done) read_given taking.accepted takes.0);
+          accepted = rw reads-given (accepted-snoc start (reads_in taking.done) read_given taking.accepted takes.takes.0);
           acts = taking.acts ++ acts;
-          along = rw reads-given (done-snoc start (reads_in taking.done) read_given t taking.acts acts taking.along are);
+          along = rw reads-given (done-snoc (first_site start) (reads_in taking.done) read_given t taking.acts acts taking.along takes.does.1);
           cut =
               taking.cut ∙ ap (λ lines. taking.done ++ lines) text.0
               ∙ ap (λ l. taking.done ++ l ∷ lines_of (new.held ++ lines.0)) (sym same)
@@ -250,13 +252,20 @@ module _ (start : Start) (script : List ℕ) (t : Told) (number : ℕ) (reader n
               omega arith);
           kept = subst (λ l. (script ≡ script_of (taking.done ++ l ∷ []) ++ (new.held ++ lines.0)) ⊎ ((new.held ≡ []) × (lines.0 ≡ []))) (sym same) (kept_on script taking.done reader new taking.now lines.0 is_line taking.kept (subst (λ n. MovesLine {E = Exit} (Ok true) reader new (Some taking.now) n) lines.1 (subst (λ b. MovesLine {E = Exit} (Ok true) reader new b now) taking.tells moves)));
         },
-        does_then see taking.acts acts went_well old mid later well tt does,
+        does_then see taking.acts acts went_well old mid later well tt takes.does.2,
       )
 
--- what the board has then is what the lines taken left
-pub board_then : (start : Start) (script : List ℕ) (t : Told) (number : ℕ) (reader : Reader) (left : Option (List ℕ)) (run : Run) (taking : Taking start script t number reader left run)
-    → IsBoardAfter start (reads_in taking.done) (after_acts taking.acts t)
-board_then start script t number reader left run taking = (along_done start [] (reads_in taking.done) t taking.acts taking.accepted taking.holds taking.along).board
+-- The next line is taken at the site that these lines come to.
+pub takes_next : {X : Type 0} (see : X → Seen) (start : Start) (script : List ℕ) (t : Told) (number : ℕ) (reader : Reader) (left : Option (List ℕ)) (run : Run) (taking : Taking start script t number reader left run)
+    (read : NumberedLine) (result : Result (Unit {0}) Exit) (more : Run) (old new : X)
+    → (IsDrivable run.settings.driver → TakesLine see (site_of run (after_acts taking.acts t), read) (after_acts taking.acts t) result more old new)
+    → TakesLine see (site_at start (reads_in taking.done), read) (after_acts taking.acts t) result more old new
+takes_next see start script t number reader left run taking read result more old new takes =
+    let after = taking.after in
+    let holds = along_done (first_site start) (reads_in taking.done) t taking.acts taking.accepted taking.holds taking.along in
+    subst (λ (site : Site). TakesLine see (site, read) (after_acts taking.acts t) result more old new)
+    (λ i. record { settings = after.settings i; account = after.account i; standing = after.standing i; store = holds.board.store i; slow = holds.board.slow i })
+    (takes (subst (λ (told : Settings). IsDrivable told.driver) (sym after.settings) holds.drivable))
 
 -- ---- where a run ends among its lines
 
@@ -273,7 +282,10 @@ tells_same None = tt
 tells_same (Some x) = (x, refl)
 
 module _ {X : Type 0} (see : X → Seen) (start : Start) (script : List ℕ) (t : Told) (before rest : List NumberedLine) (read : NumberedLine) (splits : before ++ read ∷ rest ≡ reads_of script) (accepted : AreAccepted start before)
-    (acts line : List Act) (along : AreDoneAlong start (places before) t acts) (old mid new : X) (well : GoesWell acts (see old) (see mid)) where
+    (acts : List Act) (along : AreDoneAlong (places_from (first_site start) before) t acts) (old mid new : X) (well : GoesWell acts (see old) (see mid)) where
+  abbrev place : Place
+  place = (site_at start before, read)
+
   abbrev first_here : AreFirst start script before
   first_here = record { rest = read ∷ rest; splits = splits; accepted = accepted }
 
@@ -282,14 +294,13 @@ module _ {X : Type 0} (see : X → Seen) (start : Start) (script : List ℕ) (t 
   then = after_acts acts t
 
   -- these are what the line asks
-  abbrev line_asks : CanAsk (event_at (before, read)) then → line ≡ asking_acts before (event_at (before, read)) then → IsAsked start script before then line
-  line_asks can is = record { read = read; rest = rest; splits = splits; can = can; is = is }
+  abbrev line_asks : (line : List Act) → CanAsk (event_at place) then → line ≡ asking_acts place then → IsAsked start script before then line
+  line_asks line can is = record { read = read; rest = rest; splits = splits; can = can; is = is }
 
-  pub stopped : (exit : Exit) (run : Run) → (see mid).told ≡ Some then → TakesLine start (before, read) (Err exit) run → AreBegun start (before, read) then (ending_of exit) line → DoesBy see line (ending_of exit) mid new
-      → DoesLines see start script t (Err exit) run old new
-  stopped exit run told takes begun does = by (ending_of exit) refl takes begun does
+  pub stopped : (exit : Exit) (run : Run) → (see mid).told ≡ Some then → TakesLine see place then (Err exit) run mid new → DoesLines see start script t (Err exit) run old new
+  stopped exit run told takes = by (ending_of exit) refl takes.takes takes.does.1 takes.does.2
     where
-      behind : (ending : CallEnding) → ending_of exit ≡ ending → (lines : List NumberedLine) (made asked : List Act) → AreFirst start script lines → AreDoneAlong start (places lines) t made → MayAsk start script lines (after_acts made t) asked
+      behind : (ending : CallEnding) → ending_of exit ≡ ending → (lines : List NumberedLine) (made asked : List Act) → AreFirst start script lines → AreDoneAlong (places_from (first_site start) lines) t made → MayAsk start script lines (after_acts made t) asked
           → DoesFirst see (AreLinesActs start script t) t (made ++ asked) ending old new → AsksBy start script lines (after_acts made t) asked exit ending → DoesLines see start script t (Err exit) run old new
       behind ending is lines made asked first are asks does all = record {
         before = lines;
@@ -302,18 +313,18 @@ module _ {X : Type 0} (see : X → Seen) (start : Start) (script : List ℕ) (t 
         ends = subst (λ (e : CallEnding). AsksBy start script lines (after_acts made t) asked exit e) (sym is) all;
       }
 
-      fails : (kind : Kind) → ending_of exit ≡ faulted kind → AreBegun start (before, read) then (faulted kind) line → DoesBy see line (faulted kind) mid new → DoesLines see start script t (Err exit) run old new
+      fails : (kind : Kind) → ending_of exit ≡ faulted kind → AreBegun place then (faulted kind) takes.does.0 → DoesBy see takes.does.0 (faulted kind) mid new → DoesLines see start script t (Err exit) run old new
       fails kind is (can, inl (taken, are)) failed =
-          behind (faulted kind) is (before ++ read ∷ []) (acts ++ line) [] (first_more start script before rest read splits accepted taken) (done-snoc start before read t acts line along (can, are)) (inl refl)
-          (subst (λ (l : List Act). Breaks kind l (see old) (see new)) (sym (append-nil (acts ++ line))) (does_then see acts line (broke kind) old mid new well tt failed)) tt
+          behind (faulted kind) is (before ++ read ∷ []) (acts ++ takes.does.0) [] (first_more start script before rest read splits accepted taken) (done-snoc (first_site start) before read t acts takes.does.0 along (can, are)) (inl refl)
+          (subst (λ (l : List Act). Breaks kind l (see old) (see new)) (sym (append-nil (acts ++ takes.does.0))) (does_then see acts takes.does.0 (broke kind) old mid new well tt failed)) tt
       fails kind is (can, inr (own, asks)) failed =
-          behind (faulted kind) is before acts line first_here along (inr (line_asks can asks)) (does_then see acts line (broke kind) old mid new well tt failed) tt
+          behind (faulted kind) is before acts takes.does.0 first_here along (inr (line_asks takes.does.0 can asks)) (does_then see acts takes.does.0 (broke kind) old mid new well tt failed) tt
 
-      by : (ending : CallEnding) → ending_of exit ≡ ending → EndsBy (refusal_at start (before, read) ≡ Some exit) ⊤ AnyFault ending → AreBegun start (before, read) then ending line → DoesBy see line ending mid new
+      by : (ending : CallEnding) → ending_of exit ≡ ending → EndsBy (refusal_at place ≡ Some exit) ⊤ AnyFault ending → AreBegun place then ending takes.does.0 → DoesBy see takes.does.0 ending mid new
           → DoesLines see start script t (Err exit) run old new
       by answered is refused begun done =
-          let asks : IsAsked start script before then line = line_asks begun.0 (asks_alone start (before, read) exit then line refused begun.1) in
-          behind answered is before acts line first_here along (inr asks) (does_then see acts line went_well old mid new well tt done)
+          let asks : IsAsked start script before then takes.does.0 = line_asks takes.does.0 begun.0 (asks_alone place exit then takes.does.0 refused begun.1) in
+          behind answered is before acts takes.does.0 first_here along (inr asks) (does_then see acts takes.does.0 went_well old mid new well tt done)
           (record {
             all = line_refused start script before rest read exit splits accepted refused;
             is = asks.is ∙ sym (ap (λ found. refused_acts found then) (script-refused start script before rest read exit splits accepted refused));
@@ -322,7 +333,7 @@ module _ {X : Type 0} (see : X → Seen) (start : Start) (script : List ℕ) (t 
       by (faulted kind) is any begun failed = fails kind is begun failed
       by source_failed is never begun some = absurd never
       by starved is any are some =
-          let part = line_begun start script t before rest read splits accepted acts (acts_along start (places before) t acts along) line are some.done some.later some.splits in
+          let part = line_begun start script t before rest read splits accepted acts (acts_along (places_from (first_site start) before) t acts along) takes.does.0 are some.done some.later some.splits in
           behind starved is before acts [] first_here along (inl refl)
           (record {
             done = some.done;
@@ -347,7 +358,7 @@ module _ {X : Type 0} (see : X → Seen) (start : Start) (script : List ℕ) (t 
   -- the source failed
   pub took_now : DoesLines see start script t (Err SourceFault) run old new
   took_now =
-      let begun = along_begun start script (reads_in taking.done) t taking.acts first_taken (acts_along start (places (reads_in taking.done)) t taking.acts taking.along) in
+      let begun = along_begun start script (reads_in taking.done) t taking.acts first_taken (acts_along (places_from (first_site start) (reads_in taking.done)) t taking.acts taking.along) in
       let rest : List Act = script_asked start script (after_acts (taking.acts ++ begun.0) t) in
       let none : (taking.acts ++ []) ++ [] ≡ taking.acts = append-nil (taking.acts ++ []) ∙ append-nil taking.acts in
       record {
@@ -386,7 +397,7 @@ module _ {X : Type 0} (see : X → Seen) (start : Start) (script : List ℕ) (t 
       let same : exit ≡ ending_exit (length taking.done) ending = is ∙ ap (λ n. ending_exit n ending) taking.count in
       record {
         all = subst (λ e. AreAll start script e (reads_in taking.done)) (sym same) (all_read start script taking.done ending (whole_given ending none) taking.accepted);
-        is = sym (ap (λ found. refused_acts found told_now) (ap (λ (l : Lines). first_refused start (places (reads_in l.whole))) (whole_given ending none) ∙ refused-none start (places (reads_in taking.done)) taking.accepted));
+        is = sym (ap (λ found. refused_acts found told_now) (none_refused start script taking.done ending (whole_given ending none) taking.accepted));
         ends = inl (same ∙ ap (λ (l : Lines). ending_exit (length l.whole) l.ending) (sym (whole_given ending none)), refl);
       }
 

@@ -1,5 +1,5 @@
 -- Lists that are cut, filtered and joined, and their beginnings.
-use Rattle.std.proofs.Common.{◌≡◌, ℕ, suc, zero, ◌≤◌, Bool, true, false, List, [], ◌∷◌, ◌++◌, length, take, refl, ap, ◌∙◌, arith}
+use Rattle.std.proofs.Common.{◌≡◌, ℕ, suc, zero, ◌≤◌, Bool, true, false, List, [], ◌∷◌, ◌++◌, length, take, refl, sym, ap, ◌∙◌, arith}
 use Rattle.std.specs.Prelude.{filter, if◌then◌else◌}
 use Rattle.std.specs.List.{AllByRecursion, flat_map}
 use Rattle.std.proofs.lemmas.List.Elements.{filter-append}
@@ -19,16 +19,14 @@ take-whole (x ∷ xs) (suc n) most = ap (λ zs. x ∷ zs) (take-whole xs n (omeg
 pub take-passing : {X : Type 0} (p : X → Bool) (xs ys : List X) → take (length (filter p xs)) (filter p (xs ++ ys)) ≡ filter p xs
 take-passing p xs ys = ap (take (length (filter p xs))) (filter-append p xs ys) ∙ take-front (filter p xs) (filter p ys)
 
-passing-one : {X Y : Type 0} (p : X → Bool) (f : X → List Y) (x : X) (xs : List X) (b : Bool) → p x ≡ b → (p x ≡ false → f x ≡ [])
-    → flat_map f (filter p xs) ≡ flat_map f xs → flat_map f (filter p (x ∷ xs)) ≡ f x ++ flat_map f xs
-passing-one {X} {Y} p f x xs true is none rest = rw is (ap (λ (ys : List Y). f x ++ ys) rest)
-passing-one p f x xs false is none rest = let silent : f x ≡ [] = none is in rw is (rw silent rest)
-
 -- where those that don't pass give nothing
-pub flat_map-passing : {X Y : Type 0} (p : X → Bool) (f : X → List Y) (xs : List X) → AllByRecursion (λ x. p x ≡ false → f x ≡ []) xs
-    → flat_map f (filter p xs) ≡ flat_map f xs
-flat_map-passing p f [] all = refl
-flat_map-passing p f (x ∷ xs) all = passing-one p f x xs (p x) refl all.0 (flat_map-passing p f xs all.1)
+pub flat_map-passing : {X Y : Type 0} (p : X → Bool) (f : X → List Y) → ((x : X) → p x ≡ false → f x ≡ []) → (xs : List X) → flat_map f (filter p xs) ≡ flat_map f xs
+flat_map-passing p f none [] = refl
+flat_map-passing {X} {Y} p f none (x ∷ xs) = by (p x) refl (flat_map-passing p f none xs)
+  where
+    by : (b : Bool) → p x ≡ b → flat_map f (filter p xs) ≡ flat_map f xs → flat_map f (if b then x ∷ filter p xs else filter p xs) ≡ f x ++ flat_map f xs
+    by true is rest = ap (λ (ys : List Y). f x ++ ys) rest
+    by false is rest = rest ∙ ap (λ (ys : List Y). ys ++ flat_map f xs) (sym (none x is))
 
 -- what holds of each element holds of each of the first ones
 pub all-front : {X : Type 0} (P : X → Type 0) (xs ys : List X) → AllByRecursion P (xs ++ ys) → AllByRecursion P xs

@@ -16,7 +16,6 @@ use Rattle.mca_status.specs.declared.classes.Class.TheVariants.{Ce as ce_of_bank
 use Rattle.mca_status.specs.declared.classes.ItemClass.TheVariants.{Ce}
 use Rattle.dimm_topology.specs.Labels.{Bytes, same_label}
 use Rattle.page_policy.specs.declared.buckets.Limit.{Limit}
-use Rattle.erst_store.specs.Store.{Stored}
 use Rattle.ras_facts.specs.declared.bank.BankReport.{BankReport}
 use Rattle.ras_facts.specs.declared.entry.Entry.{Entry}
 use Rattle.ras_facts.specs.declared.items.Item.{Item}
@@ -34,16 +33,18 @@ use Rattle.ras_account.specs.Sightings.{Sighting}
 use Rattle.ras_script.specs.declared.line.Line.TheVariants.{Report}
 use Rattle.ras_script.specs.declared.line.ErrorReport.TheVariants.{Bank}
 use Rattle.ras_events.specs.Making.{entries_in}
-use Rattle.ras_events.specs.Reports.{NumberedLine, entries_at, settings_told}
+use Rattle.ras_events.specs.Described.{NumberedLine}
+use Rattle.ras_run.specs.Sites.{Site, first_site}
+use Rattle.ras_run.specs.Places.{entries_at, site_after, site_at}
+use Rattle.ras_daemon.specs.Script.{reads_in}
 use Rattle.ras_load.specs.LoadScript.{bank_line, bank_lines, bank_number, generated, load_bank, load_lines}
 use Rattle.ras_load.specs.Summary.{class_total, weight_of_class}
 use Rattle.ras_load.specs.declared.script.TheConstants.{MOST_LINES}
 use Rattle.ras_load.proofs.FeedLemmas.{lines_whole}
-use Rattle.ras_run.specs.Places.{Start, account_at}
-use Rattle.ras_run.proofs.PlaceLemmas.{account-snoc}
+use Rattle.ras_run.proofs.PlaceLemmas.{site-snoc}
 use Rattle.ras_script.specs.Lines.{Lines}
-use Rattle.ras_daemon.specs.Loading.{load_account, load_start}
-use Rattle.ras_daemon.specs.Script.{reads_in}
+use Rattle.ras_daemon.specs.Loading.{load_account}
+use Rattle.ras_daemon.specs.RunStatus.{empty_start}
 use Rattle.ras_daemon.proofs.LoadRoomLemmas.{entry_of_one, module_with}
 use Rattle.ras_daemon.proofs.LoadTakenLemmas.{AreTaken, asked, banks_more, made_by, nothing_opened, numbered, numbered-snoc, reads_are}
 
@@ -159,28 +160,26 @@ weight_is (suc (suc (suc (suc channel)))) below = absurd (omega arith)
 channel_of : ℕ → ℕ
 channel_of number = number / 2 ^ 33 / 1000 % 4
 
-module _ (before : List NumberedLine) (place i number : ℕ) where
+module _ (site : Site) (place i number : ℕ) where
   abbrev bank : BankReport
   bank = load_bank i number
 
   label : Bytes
-  label = bank_label bank (settings_told before).topology
+  label = bank_label bank site.settings.topology
 
   page : Option ℕ
   page = usable_page_of (cap_in bank) (status_in bank) bank.addr (misc_in bank)
 
   -- it makes one entry, which is one corrected error
-  entries_are : (store : List Stored) → entries_at store (before, (place, asked (Report (Bank bank)))) ≡ entry_of_one (name_of i) (1000 + i) (item_of label page 1) ∷ []
+  entries_are : entries_at (site, (place, asked (Report (Bank bank)))) ≡ entry_of_one (name_of i) (1000 + i) (item_of label page 1) ∷ []
   unfolding channel_of label page
-  entries_are store =
+  entries_are =
       let below : channel_of number < 4 = mod_below (number / 2 ^ 33 / 1000) 4 (omega arith) in
-      ap (λ (class : Option Class). entries_in (made_by bank (bank_item bank (settings_told before).topology) class)) (corrected_is (channel_of number) below)
+      ap (λ (class : Option Class). entries_in (made_by bank (bank_item bank site.settings.topology) class)) (corrected_is (channel_of number) below)
       ∙ ap (λ weight. entry_of_one (name_of i) (1000 + i) (item_of label page weight) ∷ []) (weight_is (channel_of number) below)
 
-  account_is : (start : Start) → account_at start (before ++ (place, asked (Report (Bank bank))) ∷ []) ≡ account_after (account_at start before) (entry_of_one (name_of i) (1000 + i) (item_of label page 1))
-  account_is start =
-      account-snoc start before (place, asked (Report (Bank bank)))
-      ∙ ap (λ (entries : List Entry). account_after_all (account_at start before) entries) (entries_are start.store)
+  account_is : (site_after site (place, asked (Report (Bank bank)))).account ≡ account_after site.account (entry_of_one (name_of i) (1000 + i) (item_of label page 1))
+  account_is = ap (λ (entries : List Entry). account_after_all site.account entries) entries_are
 
 nothing_counted : IsCounted 0 (account_of empty)
 nothing_counted = record {
@@ -191,29 +190,32 @@ nothing_counted = record {
   corrected = omega arith;
 }
 
-banks_counted : (n : ℕ) → n ≤ MOST_LINES → IsCounted n (account_at load_start (numbered (load_lines n)))
+abbrev bank_site : ℕ → Site
+bank_site n = site_at empty_start (numbered (load_lines n))
+
+banks_counted : (n : ℕ) → n ≤ MOST_LINES → IsCounted n (bank_site n).account
 unfolding bank_lines
 banks_counted zero few = nothing_counted
 banks_counted (suc n) few =
     let i : ℕ = bank_number (n + 1) in
-    let before : List NumberedLine = numbered (load_lines n) in
+    let before : Site = bank_site n in
     let place : ℕ = 1 + length (map asked (load_lines n)) in
-    let account : State = account_at load_start before in
-    let taken : AreTaken load_start n before = banks_more load_start n nothing_opened (omega (arith, few)) in
-    let rows : AllByRecursion IsModuleRow account.modules = recursion_from_All IsModuleRow account.modules taken.place.account.modules in
-    let more : IsCounted (n + 1) (account_after account (entry_of_one (name_of i) (1000 + i) (item_of (label before place i (generated i)) (page before place i (generated i)) 1))) =
-    one_more n account (1000 + i) (label before place i (generated i)) (page before place i (generated i)) (banks_counted n (omega (arith, few))) ((n + 1) % 10 == 0) rows refl in
-    let lines : numbered (load_lines n ++ bank_line (n + 1) ∷ []) ≡ before ++ (place, asked (bank_line (n + 1))) ∷ [] = numbered-snoc (load_lines n) (bank_line (n + 1)) in
+    let taken : AreTaken empty_start n (numbered (load_lines n)) = banks_more empty_start n nothing_opened (omega (arith, few)) in
+    let rows : AllByRecursion IsModuleRow before.account.modules = recursion_from_All IsModuleRow before.account.modules taken.has.place.account.modules in
+    let more : IsCounted (n + 1) (account_after before.account (entry_of_one (name_of i) (1000 + i) (item_of (label before place i (generated i)) (page before place i (generated i)) 1))) =
+    one_more n before.account (1000 + i) (label before place i (generated i)) (page before place i (generated i)) (banks_counted n (omega (arith, few))) ((n + 1) % 10 == 0) rows refl in
+    let after : site_at empty_start (numbered (load_lines n ++ bank_line (n + 1) ∷ [])) ≡ site_after before (place, asked (bank_line (n + 1))) =
+    ap (site_at empty_start) (numbered-snoc (load_lines n) (bank_line (n + 1))) ∙ site-snoc (first_site empty_start) (numbered (load_lines n)) (place, asked (bank_line (n + 1))) in
     let count : n + 1 ≡ suc n = omega arith in
-    subst (λ k. IsCounted k (account_at load_start (numbered (load_lines n ++ bank_line (n + 1) ∷ [])))) count
-    (subst (IsCounted (n + 1)) (sym (ap (account_at load_start) lines ∙ account_is before place i (generated i) load_start)) more)
+    subst (λ k. IsCounted k (site_at empty_start (numbered (load_lines n ++ bank_line (n + 1) ∷ []))).account) count
+    (subst (IsCounted (n + 1)) (sym (ap (λ (site : Site). site.account) after ∙ account_is before place i (generated i))) more)
 
 -- ---- the whole script
 
-load_account_is : (n : ℕ) → n ≤ MOST_LINES → load_account n ≡ account_at load_start (numbered (load_lines n))
+load_account_is : (n : ℕ) → n ≤ MOST_LINES → load_account n ≡ (bank_site n).account
 load_account_is n few =
-    ap (λ (lines : Lines). account_at load_start (reads_in lines.whole)) (lines_whole n few)
-    ∙ ap (account_at load_start) (reads_are n few)
+    ap (λ (lines : Lines). (site_at empty_start (reads_in lines.whole)).account) (lines_whole n few)
+    ∙ ap (λ (reads : List NumberedLine). (site_at empty_start reads).account) (reads_are n few)
 
 whole_counted : (n : ℕ) → n ≤ MOST_LINES → IsCounted n (load_account n)
 whole_counted n few = subst (IsCounted n) (sym (load_account_is n few)) (banks_counted n few)

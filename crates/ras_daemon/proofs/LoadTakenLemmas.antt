@@ -5,8 +5,6 @@ use Rattle.std.specs.Prelude.{if◌then◌else◌}
 use Rattle.std.specs.List.{AllByRecursion, enumerate_from}
 use Rattle.std.specs.Option.{option_map, option_map_or}
 use Rattle.std.proofs.lemmas.List.{map-append}
-use Rattle.ras_base.specs.Places.{places}
-use Rattle.ras_base.specs.Steps.PlacesLemmas.{places-snoc}
 use Rattle.mca_status.specs.Classes.{class_of_rows}
 use Rattle.dimm_topology.specs.declared.row.Row.{Row as RowOf}
 use Rattle.dimm_topology.specs.declared.row.Row.TheVariants.{Cpu, Module}
@@ -37,8 +35,11 @@ use Rattle.ras_script.specs.declared.line.ErrorReport.TheVariants.{Bank}
 use Rattle.ras_script.proofs.LineTextLemmas.{text_read}
 use Rattle.ras_events.specs.Making.{entries_in, made_by_report}
 use Rattle.ras_events.specs.declared.made.Piece.{Piece}
-use Rattle.ras_events.specs.Reports.{NumberedLine, Place, entries_at, settings_told}
-use Rattle.ras_events.proofs.ReportLemmas.{settings-line}
+use Rattle.ras_events.specs.Described.{NumberedLine}
+use Rattle.ras_run.specs.Sites.{Site, Start, first_site}
+use Rattle.ras_run.specs.News.{has_no_room_for, lacks_room_for, standing_with_news}
+use Rattle.ras_run.specs.Places.{Place, entries_at, places_from, site_at}
+use Rattle.ras_daemon.specs.Script.{reads_in}
 use Rattle.ras_exit.specs.declared.exit.Exit.{Exit}
 use Rattle.ras_exit.specs.declared.exit.Exit.TheVariants.{Done, Full}
 use Rattle.ras_exit.specs.ScriptEnd.{ending_exit}
@@ -46,12 +47,10 @@ use Rattle.ras_load.specs.LoadScript.{bank_line, bank_lines, bank_number, genera
 use Rattle.ras_load.specs.declared.script.TheConstants.{MOST_LINES}
 use Rattle.ras_load.proofs.FeedLemmas.{lines_whole}
 use Rattle.ras_load.proofs.ReadingLemmas.{line_in_range, lines_in_range}
-use Rattle.ras_run.specs.Places.{Start, account_at, has_no_room_for, lacks_room_for, standing_at, standing_with_news}
 use Rattle.ras_run.specs.Status.{refusal_at}
-use Rattle.ras_run.proofs.PlaceLemmas.{account-snoc, standing-snoc}
-use Rattle.ras_daemon.specs.Loading.{load_start}
-use Rattle.ras_daemon.specs.RunStatus.{first_refused, refused_or, run_exit}
-use Rattle.ras_daemon.specs.Script.{reads_in}
+use Rattle.ras_run.proofs.PlaceLemmas.{places-append, site-snoc}
+use Rattle.ras_daemon.proofs.PlaceLemmas.{enumerate-append}
+use Rattle.ras_daemon.specs.RunStatus.{empty_start, first_refused, refused_or, run_exit}
 use Rattle.ras_daemon.proofs.LoadRoomLemmas.{HasPlace, account_has_room, entry_of_one, journal_has_room, kept, nothing_past, report_of_one, stays, wider}
 use Rattle.ras_run.proofs.CountLemmas.{no_or}
 
@@ -71,14 +70,8 @@ lines_read (line ∷ lines) all = λ i. text_read line all.0 i ∷ lines_read li
 pub reads_are : (n : ℕ) → n ≤ MOST_LINES → reads_in (map line_text (load_lines n)) ≡ numbered (load_lines n)
 reads_are n few = ap (enumerate_from 1) (lines_read (load_lines n) (lines_in_range n few))
 
-enumerate-snoc : {X : Type 0} (n : ℕ) (xs : List X) (x : X) → enumerate_from n (xs ++ x ∷ []) ≡ enumerate_from n xs ++ (n + length xs, x) ∷ []
-enumerate-snoc n [] x = let same : n + 0 ≡ n = omega arith in rw same refl
-enumerate-snoc n (y ∷ ys) x =
-    let same : n + 1 + length ys ≡ n + length (y ∷ ys) = omega arith in
-    ap (λ tail. (n, y) ∷ tail) (rw same at (enumerate-snoc (n + 1) ys x))
-
 pub numbered-snoc : (lines : List Line) (line : Line) → numbered (lines ++ line ∷ []) ≡ numbered lines ++ (1 + length (map asked lines), asked line) ∷ []
-numbered-snoc lines line = ap (enumerate_from 1) (map-append asked lines (line ∷ [])) ∙ enumerate-snoc 1 (map asked lines) (asked line)
+numbered-snoc lines line = ap (enumerate_from 1) (map-append asked lines (line ∷ [])) ∙ enumerate-append 1 (map asked lines) (asked line ∷ [])
 
 -- ---- what a report adds after an account
 
@@ -129,47 +122,48 @@ machine_rows = Cpu 0 0 ∷ Module (codes "M0") 0 7 0 ∷ Module (codes "M1") 0 7
 machine_is : IsTopology machine_rows
 machine_is = record { apart = (refl, (refl, (refl, (refl, (refl, tt))))); upright = refl; named = refl; labelled = refl; small = omega arith }
 
--- none of them is refused, and so many reports were taken
-refused-snoc : (start : Start) (ps : List Place) (p : Place) → first_refused start ps ≡ None → refusal_at start p ≡ None → first_refused start (ps ++ p ∷ []) ≡ None
-refused-snoc start [] p none taken = rw taken refl
-refused-snoc start (q ∷ ps) p none taken = by (refusal_at start q) (λ rest. refused-snoc start ps p rest taken) none
+-- none of them is refused
+refused-snoc : (ps : List Place) (p : Place) → first_refused ps ≡ None → refusal_at p ≡ None → first_refused (ps ++ p ∷ []) ≡ None
+refused-snoc [] p none taken = rw taken refl
+refused-snoc (q ∷ ps) p none taken = by (refusal_at q) (λ rest. refused-snoc ps p rest taken) none
   where
-    by : (found : Option Exit) → (first_refused start ps ≡ None → first_refused start (ps ++ p ∷ []) ≡ None) → refused_or found q (first_refused start ps) ≡ None → refused_or found q (first_refused start (ps ++ p ∷ [])) ≡ None
+    by : (found : Option Exit) → (first_refused ps ≡ None → first_refused (ps ++ p ∷ []) ≡ None) → refused_or found q (first_refused ps) ≡ None → refused_or found q (first_refused (ps ++ p ∷ [])) ≡ None
     by None rest none = rest none
     by (Some why) rest none = absurd cc
 
+-- so many reports were taken
+pub record HasTaken (k : ℕ) (site : Site) : Type 0 where
+  pub rows : site.settings.topology ≡ machine_rows
+  pub place : HasPlace k site.account site.standing
+
 pub record AreTaken (start : Start) (k : ℕ) (before : List NumberedLine) : Type 0 where
-  pub none : first_refused start (places before) ≡ None
-  pub rows : (settings_told before).topology ≡ machine_rows
-  pub place : HasPlace k (account_at start before) (standing_at start before)
+  pub none : first_refused (places_from (first_site start) before) ≡ None
+  pub has : HasTaken k (site_at start before)
 
 module _ (start : Start) (k : ℕ) (before : List NumberedLine) (number : ℕ) (bank : BankReport) (few : k < 50000) (are : AreTaken start k before) (range : IsBankInRange bank) where
+  abbrev site : Site
+  site = site_at start before
+
   abbrev read : NumberedLine
   read = (number, Ok (Report (Bank bank)))
 
-  abbrev rows : List RowOf
-  rows = (settings_told before).topology
-
-  takes : TakesEntries k (account_at start before) (standing_at start before) (entries_at start.store (before, read))
+  takes : TakesEntries k site.account site.standing (entries_at (site, read))
   takes =
       let numbers = range.0 in
-      takes_made k (account_at start before) (standing_at start before) bank (bank_item bank rows) (class_of_rows (cap_in bank) (status_in bank)) few are.place
-      (bank_valid bank rows (numbers.0, range.1, range.2, numbers.1.1.0) numbers.1.0 numbers.1.1.1.1.1.1.0 (subst IsTopology (sym are.rows) machine_is))
+      takes_made k site.account site.standing bank (bank_item bank site.settings.topology) (class_of_rows (cap_in bank) (status_in bank)) few are.has.place
+      (bank_valid bank site.settings.topology (numbers.0, range.1, range.2, numbers.1.1.0) numbers.1.0 numbers.1.1.1.1.1.1.0 (subst IsTopology (sym are.has.rows) machine_is))
 
-  not_refused : refusal_at start (before, read) ≡ None
+  not_refused : refusal_at (site, read) ≡ None
   not_refused = ap (λ full. cond full (Some Full) None) takes.room
 
   taken_more : AreTaken start (k + 1) (before ++ read ∷ [])
   taken_more = record {
-    none = rw (places-snoc before read) (refused-snoc start (places before) (before, read) are.none not_refused);
-    rows = ap (λ settings. settings.topology) (settings-line before number (Report (Bank bank))) ∙ are.rows;
-    place =
-        subst (λ account. HasPlace (k + 1) account (standing_at start (before ++ read ∷ []))) (sym (account-snoc start before read))
-        (subst (HasPlace (k + 1) (account_after_all (account_at start before) (entries_at start.store (before, read)))) (sym (standing-snoc start before read)) takes.place);
+    none = rw (places-append (first_site start) before (read ∷ [])) (refused-snoc (places_from (first_site start) before) (site, read) are.none not_refused);
+    has = subst (HasTaken (k + 1)) (sym (site-snoc (first_site start) before read)) (record { rows = are.has.rows; place = takes.place });
   }
 
 machine_taken : (start : Start) → HasPlace 0 start.account start.standing → AreTaken start 0 (numbered machine_lines)
-machine_taken start place = record { none = refl; rows = refl; place = place }
+machine_taken start place = record { none = refl; has = record { rows = refl; place = place } }
 
 pub banks_more : (start : Start) (n : ℕ) → HasPlace 0 start.account start.standing → n ≤ MOST_LINES → AreTaken start n (numbered (load_lines n))
 unfolding bank_lines
@@ -184,7 +178,7 @@ banks_more start (suc n) place few =
 
 -- ---- the whole script
 
-pub nothing_opened : HasPlace 0 load_start.account load_start.standing
+pub nothing_opened : HasPlace 0 empty_start.account empty_start.standing
 unfolding position_of journal_of front_of
 nothing_opened = record {
   account = empty-sound;
@@ -192,13 +186,13 @@ nothing_opened = record {
   generation = omega arith;
 }
 
-exit_of : (start : Start) (script : List ℕ) (lines : List (List ℕ)) → script_lines script ≡ record { whole = lines; ending = script_ended } → first_refused start (places (reads_in lines)) ≡ None
+exit_of : (start : Start) (script : List ℕ) (lines : List (List ℕ)) → script_lines script ≡ record { whole = lines; ending = script_ended } → first_refused (places_from (first_site start) (reads_in lines)) ≡ None
     → run_exit start script ≡ Done
 exit_of start script lines is none =
-    ap (λ (ls : Lines). option_map_or (λ (r : Place × Exit). r.1) (first_refused start (places (reads_in ls.whole))) (ending_exit (length ls.whole) ls.ending)) is
+    ap (λ (ls : Lines). option_map_or (λ (r : Place × Exit). r.1) (first_refused (places_from (first_site start) (reads_in ls.whole))) (ending_exit (length ls.whole) ls.ending)) is
     ∙ ap (λ refused. option_map_or (λ (r : Place × Exit). r.1) refused Done) none
 
-pub taken_whole : (n : ℕ) → n ≤ MOST_LINES → run_exit load_start (load_script n) ≡ Done
+pub taken_whole : (n : ℕ) → n ≤ MOST_LINES → run_exit empty_start (load_script n) ≡ Done
 taken_whole n few =
-    let taken : AreTaken load_start n (numbered (load_lines n)) = banks_more load_start n nothing_opened few in
-    exit_of load_start (load_script n) (map line_text (load_lines n)) (lines_whole n few) (ap (λ reads. first_refused load_start (places reads)) (reads_are n few) ∙ taken.none)
+    let taken : AreTaken empty_start n (numbered (load_lines n)) = banks_more empty_start n nothing_opened few in
+    exit_of empty_start (load_script n) (map line_text (load_lines n)) (lines_whole n few) (ap (λ reads. first_refused (places_from (first_site empty_start) reads)) (reads_are n few) ∙ taken.none)

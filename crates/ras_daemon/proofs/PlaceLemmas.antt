@@ -1,27 +1,28 @@
 -- Lines at their places: where the first refused one stands, and how a script ends without one.
-use Rattle.std.proofs.Common.{◌≡◌, ℕ, ◌+◌, List, [], ◌∷◌, ◌++◌, length, None, Some, map, refl, ap, sym, ◌∙◌, append_assoc, append-nil, arith}
+use Rattle.std.proofs.Common.{◌≡◌, ℕ, ◌+◌, List, [], ◌∷◌, ◌++◌, length, None, Some, map, refl, ap, sym, ◌∙◌, subst, append_assoc, append-nil, arith}
 use Rattle.std.specs.List.{AllByRecursion, enumerate_from, flat_map}
 use Rattle.std.specs.Option.{option_map_or}
 use Rattle.std.proofs.lemmas.List.{map-append, length-map}
 use Rattle.std.proofs.lemmas.Grind.{flat_map-append}
-use Rattle.ras_base.specs.Places.{places, places_behind}
-use Rattle.ras_base.specs.Steps.PlacesLemmas.{places-snoc, places_behind-append}
-use Rattle.ras_events.specs.Reports.{NumberedLine, Place}
+use Rattle.ras_events.specs.Described.{NumberedLine}
+use Rattle.ras_run.specs.Sites.{Start, first_site}
+use Rattle.ras_run.specs.Places.{Place, places_from, site_at}
+use Rattle.ras_daemon.specs.Script.{reads_in, reads_of}
 use Rattle.ras_script.specs.Line.{line_of}
 use Rattle.ras_script.specs.Lines.{Ending, Lines, script_lines}
 use Rattle.ras_exit.specs.declared.exit.Exit.{Exit}
 use Rattle.ras_run.specs.Output.{output_at}
-use Rattle.ras_run.specs.Places.{Start}
-use Rattle.ras_run.specs.Status.{places_before_refusal, refusal_at}
+use Rattle.ras_run.specs.Status.{refusal_at}
 use Rattle.ras_run.specs.Taking.{IsAccepted}
-use Rattle.ras_daemon.specs.RunStatus.{first_refused, script_refused}
+use Rattle.ras_run.proofs.PlaceLemmas.{places-append}
+use Rattle.ras_daemon.specs.RunStatus.{script_refused}
 use Rattle.ras_daemon.specs.Steps.Running.{AreAccepted, AreAll, AreFirst, outputs}
 use Rattle.ras_exit.specs.ScriptEnd.{ending_exit, script_exit}
-use Rattle.ras_daemon.specs.Script.{reads_in, reads_of}
+use Rattle.ras_daemon.proofs.FirstLinesLemmas.{first-before, first-refused}
 
 -- ---- numbered lines
 
-enumerate-append : {X : Type 0} (n : ℕ) (xs ys : List X) → enumerate_from n (xs ++ ys) ≡ enumerate_from n xs ++ enumerate_from (n + length xs) ys
+pub enumerate-append : {X : Type 0} (n : ℕ) (xs ys : List X) → enumerate_from n (xs ++ ys) ≡ enumerate_from n xs ++ enumerate_from (n + length xs) ys
 enumerate-append n [] ys = let e : n + 0 ≡ n = omega arith in rw e refl
 enumerate-append n (x ∷ xs) ys =
     let e : n + 1 + length xs ≡ n + length (x ∷ xs) = omega arith in
@@ -44,67 +45,53 @@ all-snoc : {X : Type 0} (P : X → Type 0) (xs : List X) (x : X) → AllByRecurs
 all-snoc P [] x all last = (last, tt)
 all-snoc P (y ∷ ys) x all last = (all.0, all-snoc P ys x all.1 last)
 
-pub accepted-snoc : (start : Start) (before : List NumberedLine) (read : NumberedLine) → AreAccepted start before → IsAccepted start (before, read) → AreAccepted start (before ++ read ∷ [])
-accepted-snoc start before read accepted last = rw (places-snoc before read) (all-snoc (IsAccepted start) (places before) (before, read) accepted last)
+pub accepted-snoc : (start : Start) (before : List NumberedLine) (read : NumberedLine) → AreAccepted start before → IsAccepted (site_at start before, read) → AreAccepted start (before ++ read ∷ [])
+accepted-snoc start before read accepted last =
+    subst (AllByRecursion IsAccepted) (sym (places-append (first_site start) before (read ∷ [])))
+    (all-snoc IsAccepted (places_from (first_site start) before) (site_at start before, read) accepted last)
 
-pub outputs-snoc : (start : Start) (before : List NumberedLine) (read : NumberedLine) → outputs start (before ++ read ∷ []) ≡ outputs start before ++ output_at start (before, read)
+pub outputs-snoc : (start : Start) (before : List NumberedLine) (read : NumberedLine) → outputs start (before ++ read ∷ []) ≡ outputs start before ++ output_at (site_at start before, read)
 outputs-snoc start before read =
-    ap (flat_map (output_at start)) (places-snoc before read)
-    ∙ flat_map-append (output_at start) (places before) ((before, read) ∷ [])
-    ∙ ap (λ text. outputs start before ++ text) (append-nil (output_at start (before, read)))
-
-before-all : (start : Start) (ps : List Place) → AllByRecursion (IsAccepted start) ps → places_before_refusal start ps ≡ ps
-before-all start [] all = refl
-before-all start (p ∷ ps) all = rw all.0.taken (ap (λ tail. p ∷ tail) (before-all start ps all.1))
-
-pub refused-none : (start : Start) (ps : List Place) → AllByRecursion (IsAccepted start) ps → first_refused start ps ≡ None
-refused-none start [] all = refl
-refused-none start (p ∷ ps) all = rw all.0.taken (refused-none start ps all.1)
-
-before-refused : (start : Start) (ps qs : List Place) (p : Place) (exit : Exit) → AllByRecursion (IsAccepted start) ps → refusal_at start p ≡ Some exit → places_before_refusal start (ps ++ p ∷ qs) ≡ ps
-before-refused start [] qs p exit all is = rw is refl
-before-refused start (q ∷ ps) qs p exit all is = rw all.0.taken (ap (λ tail. q ∷ tail) (before-refused start ps qs p exit all.1 is))
-
-refused-first : (start : Start) (ps qs : List Place) (p : Place) (exit : Exit) → AllByRecursion (IsAccepted start) ps → refusal_at start p ≡ Some exit → first_refused start (ps ++ p ∷ qs) ≡ Some (p, exit)
-refused-first start [] qs p exit all is = rw is refl
-refused-first start (q ∷ ps) qs p exit all is = rw all.0.taken (refused-first start ps qs p exit all.1 is)
-
-pub script-refused : (start : Start) (script : List ℕ) (before rest : List NumberedLine) (read : NumberedLine) (exit : Exit) → before ++ read ∷ rest ≡ reads_of script
-    → AreAccepted start before → refusal_at start (before, read) ≡ Some exit → script_refused start script ≡ Some ((before, read), exit)
-script-refused start script before rest read exit splits accepted refused =
-    ap (first_refused start) (ap places (sym splits) ∙ places_behind-append [] before (read ∷ rest))
-    ∙ refused-first start (places before) (places_behind (before ++ read ∷ []) rest) (before, read) exit accepted refused
+    ap (flat_map output_at) (places-append (first_site start) before (read ∷ []))
+    ∙ flat_map-append output_at (places_from (first_site start) before) ((site_at start before, read) ∷ [])
+    ∙ ap (λ text. outputs start before ++ text) (append-nil (output_at (site_at start before, read)))
 
 -- A script that ends behind these lines.
-pub all_read : (start : Start) (script : List ℕ) (done : List (List ℕ)) (ending : Ending) → script_lines script ≡ record { whole = done; ending = ending }
-    → AreAccepted start (reads_in done) → AreAll start script (ending_exit (length done) ending) (reads_in done)
-all_read start script done ending is accepted =
-    let whole : reads_of script ≡ reads_in done = ap (λ (lines : Lines). reads_in lines.whole) is in
-    let ends : script_exit script ≡ ending_exit (length done) ending = ap (λ (lines : Lines). ending_exit (length lines.whole) lines.ending) is in
-    record {
-      first = record { rest = []; splits = append-nil (reads_in done) ∙ sym whole; accepted = accepted };
-      all = ap (λ reads. places_before_refusal start (places reads)) whole ∙ before-all start (places (reads_in done)) accepted;
-      exit_is =
-          ap (λ refused. option_map_or (λ (r : Place × Exit). r.1) refused (script_exit script))
-          (ap (λ reads. first_refused start (places reads)) whole ∙ refused-none start (places (reads_in done)) accepted)
-          ∙ ends;
-    }
+module _ (start : Start) (script : List ℕ) (done : List (List ℕ)) (ending : Ending) (is : script_lines script ≡ record { whole = done; ending = ending }) (accepted : AreAccepted start (reads_in done)) where
+  abbrev first_read : AreFirst start script (reads_in done)
+  first_read = record { rest = []; splits = append-nil (reads_in done) ∙ ap (λ (lines : Lines). reads_in lines.whole) (sym is); accepted = accepted }
+
+  pub none_refused : script_refused start script ≡ None
+  none_refused = first-refused start script (reads_in done) first_read
+
+  pub all_read : AreAll start script (ending_exit (length done) ending) (reads_in done)
+  all_read = record {
+    first = first_read;
+    all = first-before start script (reads_in done) first_read ∙ append-nil (places_from (first_site start) (reads_in done));
+    exit_is =
+        ap (λ refused. option_map_or (λ (r : Place × Exit). r.1) refused (script_exit script)) none_refused
+        ∙ ap (λ (lines : Lines). ending_exit (length lines.whole) lines.ending) is;
+  }
 
 -- A script of which a line is refused.
-pub line_refused : (start : Start) (script : List ℕ) (before rest : List NumberedLine) (read : NumberedLine) (exit : Exit) → before ++ read ∷ rest ≡ reads_of script
-    → AreAccepted start before → refusal_at start (before, read) ≡ Some exit → AreAll start script exit before
-line_refused start script before rest read exit splits accepted refused =
-    let behind : List Place = places_behind (before ++ read ∷ []) rest in
-    let whole : places (reads_of script) ≡ places before ++ (before, read) ∷ behind = ap places (sym splits) ∙ places_behind-append [] before (read ∷ rest) in
-    record {
-      first = record { rest = read ∷ rest; splits = splits; accepted = accepted };
-      all = ap (places_before_refusal start) whole ∙ before-refused start (places before) behind (before, read) exit accepted refused;
-      exit_is = ap (λ found. option_map_or (λ (r : Place × Exit). r.1) found (script_exit script)) (script-refused start script before rest read exit splits accepted refused);
-    }
+module _ (start : Start) (script : List ℕ) (before rest : List NumberedLine) (read : NumberedLine) (exit : Exit) (splits : before ++ read ∷ rest ≡ reads_of script) (accepted : AreAccepted start before)
+    (refused : refusal_at (site_at start before, read) ≡ Some exit) where
+  abbrev first_taken : AreFirst start script before
+  first_taken = record { rest = read ∷ rest; splits = splits; accepted = accepted }
+
+  pub script-refused : script_refused start script ≡ Some ((site_at start before, read), exit)
+  script-refused = first-refused start script before first_taken ∙ rw refused refl
+
+  pub line_refused : AreAll start script exit before
+  line_refused = record {
+    first = first_taken;
+    all = first-before start script before first_taken ∙ rw refused (append-nil (places_from (first_site start) before));
+    exit_is = ap (λ found. option_map_or (λ (r : Place × Exit). r.1) found (script_exit script)) script-refused;
+  }
 
 -- the first lines with one more
 pub first_more : (start : Start) (script : List ℕ) (before rest : List NumberedLine) (read : NumberedLine) → before ++ read ∷ rest ≡ reads_of script
-    → AreAccepted start before → IsAccepted start (before, read) → AreFirst start script (before ++ read ∷ [])
+    → AreAccepted start before → IsAccepted (site_at start before, read) → AreFirst start script (before ++ read ∷ [])
 first_more start script before rest read splits accepted last = record {
   rest = rest;
   splits = append_assoc before (read ∷ []) rest ∙ splits;

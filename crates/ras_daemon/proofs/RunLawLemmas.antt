@@ -4,10 +4,10 @@ use Rattle.std.specs.Prelude.{filter, if◌then◌else◌, is_some}
 use Rattle.std.specs.List.{AllByRecursion, IsDistinct, flat_map, enumerate_from}
 use Rattle.std.specs.Map.{lookup}
 use Rattle.std.specs.Option.{option_map_or}
-use Rattle.std.proofs.lemmas.List.{append_cancel_left, take-append-drop, map-append}
+use Rattle.std.proofs.lemmas.List.{append_cancel_left, take-append-drop}
 use Rattle.std.proofs.lemmas.List.Concat.{flat_map-append}
 use Rattle.std.proofs.lemmas.List.Elements.{filter-append, recursion_from_All}
-use Rattle.ras_base.specs.Places.{places, places_behind}
+use Rattle.ras_base.specs.Places.{places}
 use Rattle.ras_base.specs.Prefix.{IsPrefixOf}
 use Rattle.ras_base.specs.Steps.PrefixLemmas.{IsPrefixOf-trans}
 use Rattle.page_policy.specs.Histories.{AreOnceInOrder, state_in, state_under}
@@ -29,24 +29,27 @@ use Rattle.ras_texts.specs.Orders.{standing_lines}
 use Rattle.ras_events.specs.declared.event.Event.{Event}
 use Rattle.ras_events.specs.declared.event.Event.TheVariants.{Nothing}
 use Rattle.ras_events.specs.declared.event.LineRefusal.{LineRefusal}
-use Rattle.erst_store.specs.Store.{Stored}
 use Rattle.ras_events.specs.Making.{entries_in}
 use Rattle.ras_events.specs.Preparing.{orders_along_entries}
-use Rattle.ras_events.specs.Reports.{NumberedLine, Place, entries_at, event_at, made_in, reports, settings_told}
-use Rattle.ras_events.specs.Stores.{laid}
+use Rattle.ras_events.specs.Deeds.{deed_of, made_in}
+use Rattle.ras_events.specs.declared.settings.Settings.{Settings}
+use Rattle.ras_events.specs.Described.{NumberedLine, settings_read}
+use Rattle.ras_run.specs.Deeds.{deed_done, deed_text}
+use Rattle.ras_run.specs.Sites.{Site, Start, first_site}
+use Rattle.ras_run.specs.Places.{Place, entries_at, event_at, places_from, reports, site_after, site_along, site_at}
+use Rattle.ras_daemon.specs.Script.{events_of, is_event, places_of, reads_in, reads_of, places_taken}
 use Rattle.ras_events.specs.Sizes.{IsFact}
-use Rattle.ras_events.specs.Texts.{orders_of_entries}
-use Rattle.ras_events.proofs.HistoryLemmas.{account_by_history, news_behind, orders_by_history}
-use Rattle.ras_events.proofs.ReportLemmas.{reports-cut}
+use Rattle.ras_events.proofs.HistoryLemmas.{account_by_history, news_behind}
 use Rattle.ras_account.specs.Continued.{account_after_all}
 use Rattle.ras_account.specs.Numbers.{fresh_entries_in}
-use Rattle.ras_run.specs.Output.{event_done, event_text_at, output_at}
-use Rattle.ras_run.specs.Places.{Start, account_at}
+use Rattle.ras_run.specs.Output.{output_at}
+use Rattle.ras_run.proofs.PlaceLemmas.{places-append}
+use Rattle.ras_script.specs.Lines.{script_lines}
+use Rattle.ras_daemon.proofs.PlaceLemmas.{reads-append, reads_behind}
 use Rattle.ras_run.specs.Status.{places_before_refusal, refusal_at}
 use Rattle.ras_account.specs.Modules.{Module, has_tripped}
 use Rattle.ras_account.proofs.ModuleOrderLemmas.{module-orders}
 use Rattle.dimm_topology.specs.Labels.{Bytes, same_label}
-use Rattle.ras_base.specs.Steps.PlacesLemmas.{places_behind-append}
 use Rattle.ras_script.specs.declared.line.Line.{Line}
 use Rattle.ras_script.specs.declared.line.LineRefused.{LineRefused}
 use Rattle.ras_script.specs.Line.{line_of}
@@ -54,39 +57,24 @@ use Rattle.ras_daemon.specs.Headline.{account_with, reported}
 use Rattle.ras_daemon.specs.RunOutput.{closing_line, lines_output, output_upto, run_output}
 use Rattle.ras_daemon.specs.RunStatus.{run_exit}
 use Rattle.ras_daemon.specs.Runs.{BeginsWith, CountTheSame, Follows, IsNoPoll, IsTakenWhole, PollsNothing, ReportsFacts, event_count, facts_of, history_after, logged, ordered}
-use Rattle.ras_daemon.specs.Script.{events_of, is_event, reads_of, reads_in}
 use Rattle.ras_daemon.proofs.EventLemmas.{entries-unpolled}
 use Rattle.ras_daemon.proofs.AgainLemmas.{counts-again, facts-again, facts_of-append}
 use Rattle.ras_daemon.proofs.HistoryLemmas.{again-counted, among-own, fresh-once, none-logged, orders-entries, with_entries-append}
-use Rattle.ras_daemon.proofs.ListLemmas.{all-filter, all-front, flat_map-passing, take-whole}
+use Rattle.ras_daemon.proofs.ListLemmas.{all-front, flat_map-passing, take-whole}
 use Rattle.ras_daemon.proofs.FirstLinesLemmas.{done-all}
 
 -- ---- a line that is no event
 
 pub no-event : (p : Place) → is_event p ≡ false → event_at p ≡ Ok Nothing
-no-event (before, (number, Ok asks.Nothing)) is = refl
-no-event (before, (number, Ok line)) is = absurd cc
-no-event (before, (number, Err why)) is = absurd cc
+no-event (site, (number, Ok asks.Nothing)) is = refl
+no-event (site, (number, Ok line)) is = absurd cc
+no-event (site, (number, Err why)) is = absurd cc
 
-all-any : {X : Type 0} (P : X → Type 0) → ((x : X) → P x) → (xs : List X) → AllByRecursion P xs
-all-any P each [] = tt
-all-any P each (x ∷ xs) = (each x, all-any P each xs)
+pub reports-none : (p : Place) → is_event p ≡ false → entries_at p ≡ []
+reports-none p is = ap (λ (event : Result Event LineRefusal). entries_in (made_in p.0.settings.topology p.0.store event)) (no-event p is)
 
--- what such lines don't give needs events alone
-pub by-events : {Y : Type 0} (f : Place → List Y) → ((p : Place) → is_event p ≡ false → f p ≡ []) → (ps : List Place) → flat_map f (filter is_event ps) ≡ flat_map f ps
-by-events f none ps = flat_map-passing is_event f ps (all-any (λ p. is_event p ≡ false → f p ≡ []) none ps)
-
-pub reports-none : (store : List Stored) (p : Place) → is_event p ≡ false → entries_at store p ≡ []
-reports-none store p is = ap (λ (event : Result Event LineRefusal). entries_in (made_in (settings_told p.0).topology (laid store p.0) event)) (no-event p is)
-
-pub prints-none : (start : Start) (p : Place) → is_event p ≡ false → output_at start p ≡ []
-prints-none start p is = ap (λ event. event_text_at start p.0 event ++ event_done p.1.0 event) (no-event p is)
-
-abbrev ordered_at : Start → Place → List Order
-ordered_at start p = orders_along_entries (account_at start p.0) (entries_at start.store p)
-
-orders-none : (start : Start) (p : Place) → is_event p ≡ false → ordered_at start p ≡ []
-orders-none start p is = ap (orders_along_entries (account_at start p.0)) (reports-none start.store p is)
+pub prints-none : (p : Place) → is_event p ≡ false → output_at p ≡ []
+prints-none p is = ap (λ (event : Result Event LineRefusal). deed_text p.0 (deed_of event) ++ deed_done p.1.0 (deed_of event)) (no-event p is)
 
 -- ---- beginnings of lists
 
@@ -99,60 +87,73 @@ prefix-flat_map f xs ys (rest, is) = (flat_map f rest, sym (flat_map-append f xs
 pub prefix-take : {X : Type 0} (n : ℕ) (xs : List X) → IsPrefixOf (take n xs) xs
 prefix-take n xs = (drop n xs, take-append-drop n xs)
 
-before-front : (start : Start) (ps : List Place) → IsPrefixOf (places_before_refusal start ps) ps
-before-front start [] = ([], refl)
-before-front start (p ∷ ps) = by (is_some (refusal_at start p)) (before-front start ps)
+before-front : (ps : List Place) → IsPrefixOf (places_before_refusal ps) ps
+before-front [] = ([], refl)
+before-front (p ∷ ps) = by (is_some (refusal_at p)) (before-front ps)
   where
-    by : (b : Bool) → IsPrefixOf (places_before_refusal start ps) ps → IsPrefixOf (if b then [] else p ∷ places_before_refusal start ps) (p ∷ ps)
+    by : (b : Bool) → IsPrefixOf (places_before_refusal ps) ps → IsPrefixOf (if b then [] else p ∷ places_before_refusal ps) (p ∷ ps)
     by true (rest, is) = (p ∷ ps, refl)
     by false (rest, is) = (rest, ap (λ (qs : List Place). p ∷ qs) is)
+
+pub events-front : (start : Start) (script : List ℕ) (n : ℕ) → IsPrefixOf (take n (events_of start script)) (filter is_event (places_of start script))
+events-front start script n =
+    IsPrefixOf-trans (take n (events_of start script)) (events_of start script) (filter is_event (places_of start script)) (prefix-take n (events_of start script))
+    (prefix-filter is_event (places_taken start script) (places_of start script) (before-front (places_of start script)))
 
 -- ---- what is printed
 
 pub output-begins : (start : Start) (script : List ℕ) (n : ℕ) → IsPrefixOf (output_upto start script n) (run_output start script)
 output-begins start script n =
     let standing : List ℕ = standing_lines start.account in
-    let closing : List ℕ = closing_line (account_at start (reads_of script)) (run_exit start script) in
+    let closing : List ℕ = closing_line (site_at start (reads_of script)).account (run_exit start script) in
     let events : List Place = events_of start script in
-    let one : List ℕ = flat_map (output_at start) (take n events) in
-    let other : List ℕ = flat_map (output_at start) (drop n events) in
-    let all : one ++ other ≡ lines_output start (reads_of script) =
-    sym (flat_map-append (output_at start) (take n events) (drop n events))
-    ∙ ap (flat_map (output_at start)) (take-append-drop n events)
-    ∙ by-events (output_at start) (prints-none start) (places_before_refusal start (places (reads_of script))) in (
+    let (other, is) = prefix-flat_map output_at (take n events) events (prefix-take n events) in (
       other ++ closing,
-      append_assoc standing one (other ++ closing)
-          ∙ ap (λ (text : List ℕ). standing ++ text) (sym (append_assoc one other closing) ∙ ap (λ (text : List ℕ). text ++ closing) all),
+      append_assoc standing (flat_map output_at (take n events)) (other ++ closing)
+          ∙ ap (λ (text : List ℕ). standing ++ text)
+          (sym (append_assoc (flat_map output_at (take n events)) other closing)
+          ∙ ap (λ (text : List ℕ). text ++ closing) (is ∙ flat_map-passing is_event output_at prints-none (places_taken start script))),
     )
 
--- ---- what is reported needs no record store, if it isn't polled
+-- ---- what is reported hangs on no account, and on no record store that isn't polled
 
-abbrev IsUnpolledPlace : Place → Type 0
-IsUnpolledPlace p = IsNoPoll p.1
+pub settings-any : (settings : Settings) (k m : ℕ) (read : Result Line LineRefused) → settings_read settings (k, read) ≡ settings_read settings (m, read)
+settings-any settings k m (Ok line) = refl
+settings-any settings k m (Err why) = refl
 
-places-unpolled : (before reads : List NumberedLine) → AllByRecursion IsNoPoll reads → AllByRecursion IsUnpolledPlace (places_behind before reads)
-places-unpolled before [] all = tt
-places-unpolled before (read ∷ reads) all = (all.0, places-unpolled (before ++ read ∷ []) reads all.1)
+-- wherever the lines stand, by the same machine description
+pub reports-any : (one other : Site) (k m : ℕ) (reads : List (Result Line LineRefused)) → AllByRecursion IsNoPoll (enumerate_from m reads) → one.settings ≡ other.settings
+    → reports one (enumerate_from k reads) ≡ reports other (enumerate_from m reads)
+reports-any one other k m [] none same = refl
+reports-any one other k m (read ∷ reads) none same =
+    let after : settings_read one.settings (k, read) ≡ settings_read other.settings (m, read) =
+    ap (λ (s : Settings). settings_read s (k, read)) same ∙ settings-any other.settings k m read in
+    λ i. entries-unpolled one other k m read none.0 same i
+    ++ reports-any (site_after one (k, read)) (site_after other (m, read)) (k + 1) (m + 1) reads none.1 after i
 
-entries-any : (one other : List Stored) (ps : List Place) → AllByRecursion IsUnpolledPlace ps → flat_map (entries_at one) ps ≡ flat_map (entries_at other) ps
-entries-any one other [] all = refl
-entries-any one other (p ∷ ps) all = λ i. entries-unpolled one other p.0 p.1 all.0 i ++ entries-any one other ps all.1 i
+pub reports-append : (site : Site) (first others : List NumberedLine) → reports site (first ++ others) ≡ reports site first ++ reports (site_along site first) others
+reports-append site first others =
+    ap (flat_map entries_at) (places-append site first others) ∙ flat_map-append entries_at (places_from site first) (places_from (site_along site first) others)
 
-all-events : (script : List ℕ) → PollsNothing script → AllByRecursion IsUnpolledPlace (filter is_event (places (reads_of script)))
-all-events script none =
-    all-filter IsUnpolledPlace is_event (places (reads_of script)) (places-unpolled [] (reads_of script) (recursion_from_All IsNoPoll (reads_of script) none))
+pub script-reports : (start next : Start) (script : List ℕ) → PollsNothing script → reports (first_site start) (reads_of script) ≡ reports (first_site next) (reads_of script)
+script-reports start next script none =
+    reports-any (first_site start) (first_site next) 1 1 (map line_of (script_lines script).whole) (recursion_from_All IsNoPoll (reads_of script) none) refl
 
-pub events-front : (start : Start) (script : List ℕ) (n : ℕ) → IsPrefixOf (take n (events_of start script)) (filter is_event (places (reads_of script)))
-events-front start script n =
-    let all : List Place = filter is_event (places (reads_of script)) in
-    IsPrefixOf-trans (take n (events_of start script)) (events_of start script) all (prefix-take n (events_of start script))
-    (prefix-filter is_event (places_before_refusal start (places (reads_of script))) (places (reads_of script)) (before-front start (places (reads_of script))))
+-- the events of a script that is taken whole are all of its events
+pub taken-events : (start : Start) (script : List ℕ) → IsTakenWhole start script → events_of start script ≡ filter is_event (places_of start script)
+taken-events start script taken = ap (filter is_event) (done-all start script taken)
 
-pub reported-any : (start : Start) (store : List Stored) (script : List ℕ) (n : ℕ) → PollsNothing script → reported start script n ≡ flat_map (entries_at store) (take n (events_of start script))
-reported-any start store script n none =
-    let front = events-front start script n in
-    entries-any start.store store (take n (events_of start script))
-    (all-front IsUnpolledPlace (take n (events_of start script)) front.0 (subst (AllByRecursion IsUnpolledPlace) (sym front.1) (all-events script none)))
+pub reported-whole : (start : Start) (script : List ℕ) → IsTakenWhole start script → reported start script (event_count start script) ≡ reports (first_site start) (reads_of script)
+reported-whole start script taken =
+    ap (flat_map entries_at) (take-whole (events_of start script) (event_count start script) (omega arith) ∙ taken-events start script taken)
+    ∙ flat_map-passing is_event entries_at reports-none (places_of start script)
+
+-- and what any run reports of it is among what these report
+reported-front : (start next : Start) (script : List ℕ) (n : ℕ) → PollsNothing script → IsTakenWhole start script → IsPrefixOf (reported next script n) (reported start script (event_count start script))
+reported-front start next script n none taken =
+    subst (IsPrefixOf (reported next script n))
+    (flat_map-passing is_event entries_at reports-none (places_of next script) ∙ script-reports next start script none ∙ sym (reported-whole start script taken))
+    (prefix-flat_map entries_at (take n (events_of next script)) (filter is_event (places_of next script)) (events-front next script n))
 
 -- ---- the account of a history
 
@@ -170,21 +171,6 @@ module _ (history : History) (start : Start) (is : BeginsWith history start) whe
 
   pub logs-once : (script : List ℕ) (n : ℕ) → IsDistinct same_name (names_of (fresh_entries history ++ logged start script n))
   logs-once script n = subst (λ (es : List Entry). IsDistinct same_name (names_of es)) (logs-follow script n) (fresh-once (history_after history start script n))
-
--- the events of a script that is taken whole are all of its events
-pub taken-events : (start : Start) (script : List ℕ) → IsTakenWhole start script → events_of start script ≡ filter is_event (places (reads_of script))
-taken-events start script taken = ap (filter is_event) (done-all start script taken)
-
-pub reported-all : (start : Start) (script : List ℕ) → PollsNothing script → reported start script (event_count start script) ≡ flat_map (entries_at []) (events_of start script)
-reported-all start script none = reported-any start [] script (event_count start script) none ∙ ap (flat_map (entries_at [])) (take-whole (events_of start script) (event_count start script) (omega arith))
-
--- and what any run reports of it is among what these report
-reported-front : (start next : Start) (script : List ℕ) (n : ℕ) → PollsNothing script → IsTakenWhole start script → IsPrefixOf (reported next script n) (reported start script (event_count start script))
-reported-front start next script n none taken =
-    let all : List Place = filter is_event (places (reads_of script)) in
-    subst (λ (es : List Entry). IsPrefixOf es (reported start script (event_count start script))) (sym (reported-any next [] script n none))
-    (subst (IsPrefixOf (flat_map (entries_at []) (take n (events_of next script)))) (ap (flat_map (entries_at [])) (sym (taken-events start script taken)) ∙ sym (reported-all start script none))
-    (prefix-flat_map (entries_at []) (take n (events_of next script)) all (events-front next script n)))
 
 pub logs-again : (history : History) (start next : Start) (script : List ℕ) (n : ℕ) → PollsNothing script → BeginsWith history start → IsTakenWhole start script → Follows start script (event_count start script) next
     → names_of (logged next script n) ≡ []
@@ -206,10 +192,7 @@ module _ (history : History) (start next : Start) (script : List ℕ) (n : ℕ) 
   next-is = follows ∙ accounts-follow history start begins script n
 
   all-again : reported next script (event_count next script) ≡ reported start script (event_count start script)
-  all-again =
-      reported-all next script none
-      ∙ ap (flat_map (entries_at [])) (taken-events next script whole ∙ sym (taken-events start script taken))
-      ∙ sym (reported-all start script none)
+  all-again = reported-whole next script whole ∙ script-reports next start script none ∙ sym (reported-whole start script taken)
 
   account-again : (rest : List Entry) → reported start script n ++ rest ≡ reported start script (event_count start script)
       → account_with next script (event_count next script) ≡ account_of (with_entries stopped (reported start script n ++ rest))
@@ -258,66 +241,40 @@ module _ (history : History) (start next : Start) (script : List ℕ) (n : ℕ) 
 
 -- ---- what is ordered
 
--- the first that pass are those that pass of the first ones
-first-passing : {X : Type 0} (p : X → Bool) (n : ℕ) (xs : List X) → (front : List X) × IsPrefixOf front xs × (take n (filter p xs) ≡ filter p front)
-first-passing p zero xs = ([], (xs, refl), refl)
-first-passing p (suc n) [] = ([], ([], refl), refl)
-first-passing {X} p (suc n) (x ∷ xs) = by (p x) refl (first-passing p n xs) (first-passing p (suc n) xs)
-  where
-    by : (b : Bool) → p x ≡ b → ((front : List X) × IsPrefixOf front xs × (take n (filter p xs) ≡ filter p front))
-        → ((front : List X) × IsPrefixOf front xs × (take (suc n) (filter p xs) ≡ filter p front))
-        → (front : List X) × IsPrefixOf front (x ∷ xs) × (take (suc n) (if b then x ∷ filter p xs else filter p xs) ≡ filter p front)
-    by true is (front, (rest, splits), same) more =
-        (x ∷ front, (rest, ap (λ (ys : List X). x ∷ ys) splits), rw is (ap (λ (ys : List X). x ∷ ys) same))
-    by false is one (front, (rest, splits), same) =
-        (x ∷ front, (rest, ap (λ (ys : List X). x ∷ ys) splits), rw is same)
+-- the orders that a line gives after everything that was reported before it
+abbrev ordered_at : Place → List Order
+ordered_at place = orders_along_entries place.0.account (entries_at place)
 
--- the first places are those of the first lines
-places-front : (before reads : List NumberedLine) (ps : List Place) → IsPrefixOf ps (places_behind before reads) → (first : List NumberedLine) × (ps ≡ places_behind before first)
-places-front before reads [] front = ([], refl)
-places-front before [] (p ∷ ps) (rest, is) = cc
-places-front before (read ∷ reads) (p ∷ ps) (rest, is) =
-    let head : p ≡ (before, read) = cc in
-    let tail : ps ++ rest ≡ places_behind (before ++ read ∷ []) reads = cc in
-    let more = places-front (before ++ read ∷ []) reads ps (rest, tail) in
-    (read ∷ more.0, (λ i. head i ∷ more.1 i))
+-- events in order, behind a history whose account the site has
+module _ (given : History → List Order) (grows : (h : History) (e : Entry) → given (with_entry h e) ≡ given h ++ orders_behind h e) where
+  abbrev Follow : History → List Place → Type 0
+  Follow h places = given (with_entries h (flat_map entries_at places)) ≡ given h ++ flat_map ordered_at places
 
--- the history that lines leave
-abbrev history_at : History → Start → List NumberedLine → History
-history_at history start before = with_entries history (reports start.store before)
+  orders-first : (h : History) (place : Place) (places : List Place) → place.0.account ≡ account_of h → Follow (with_entries h (entries_at place)) places → Follow h (place ∷ places)
+  orders-first h place places is rest =
+      let entries : List Entry = entries_at place in
+      let others : List Order = flat_map ordered_at places in
+      ap given (with_entries-append h entries (flat_map entries_at places))
+      ∙ rest
+      ∙ ap (λ (os : List Order). os ++ others) (orders-entries given grows h entries ∙ ap (λ (a : State). given h ++ orders_along_entries a entries) (sym is))
+      ∙ append_assoc (given h) (ordered_at place) others
 
--- orders of lines in order
-module _ (given : History → List Order) (grows : (h : History) (e : Entry) → given (with_entry h e) ≡ given h ++ orders_behind h e) (history : History) (start : Start) (is : BeginsWith history start) where
-  orders-at : (before : List NumberedLine) (read : NumberedLine) → orders_of_entries (history_at history start before) (entries_at start.store (before, read)) ≡ ordered_at start (before, read)
-  orders-at before read =
-      sym (orders_by_history (history_at history start before) (entries_at start.store (before, read)))
-      ∙ ap (λ (a : State). orders_along_entries a (entries_at start.store (before, read)))
-      (sym (ap (λ (a : State). account_after_all a (reports start.store before)) is ∙ account_by_history history (reports start.store before)))
-
-  reports-snoc : (before : List NumberedLine) (read : NumberedLine) → reports start.store (before ++ read ∷ []) ≡ reports start.store before ++ entries_at start.store (before, read)
-  reports-snoc before read = reports-cut start.store before (read ∷ []) ∙ ap (λ (es : List Entry). reports start.store before ++ es) (append-nil (entries_at start.store (before, read)))
-
-  orders-lines : (before reads : List NumberedLine)
-      → given (history_at history start (before ++ reads)) ≡ given (history_at history start before) ++ flat_map (ordered_at start) (places_behind before reads)
-  orders-lines before [] = ap (λ (xs : List NumberedLine). given (history_at history start xs)) (append-nil before) ∙ sym (append-nil (given (history_at history start before)))
-  orders-lines before (read ∷ reads) =
-      let rest : List Order = flat_map (ordered_at start) (places_behind (before ++ read ∷ []) reads) in
-      ap (λ (xs : List NumberedLine). given (history_at history start xs)) (sym (append_assoc before (read ∷ []) reads))
-      ∙ orders-lines (before ++ read ∷ []) reads
-      ∙ ap (λ (es : List Entry). given (with_entries history es) ++ rest) (reports-snoc before read)
-      ∙ ap (λ (h : History). given h ++ rest) (with_entries-append history (reports start.store before) (entries_at start.store (before, read)))
-      ∙ ap (λ (os : List Order). os ++ rest) (orders-entries given grows (history_at history start before) (entries_at start.store (before, read)) ∙ ap (λ (os : List Order). given (history_at history start before) ++ os) (orders-at before read))
-      ∙ append_assoc (given (history_at history start before)) (ordered_at start (before, read)) rest
-
-  pub given-follow : (script : List ℕ) (n : ℕ) → given (history_after history start script n) ≡ given history ++ ordered start script n
-  given-follow script n =
-      let all : List Place = places (reads_of script) in
-      let (front, begins, passing) = first-passing is_event n (places_before_refusal start all) in
-      let (first, same) = places-front [] (reads_of script) front (IsPrefixOf-trans front (places_before_refusal start all) all begins (before-front start all)) in
-      ap (λ (es : List Entry). given (with_entries history es)) (ap (flat_map (entries_at start.store)) passing ∙ by-events (entries_at start.store) (reports-none start.store) front ∙ ap (flat_map (entries_at start.store)) same)
-      ∙ orders-lines [] first
-      ∙ ap (λ (os : List Order). given history ++ os)
-      (ap (flat_map (ordered_at start)) (sym same) ∙ sym (by-events (ordered_at start) (orders-none start) front) ∙ ap (flat_map (ordered_at start)) (sym passing))
+  pub given-along : (h : History) (site : Site) (reads : List NumberedLine) (n : ℕ) → site.account ≡ account_of h
+      → Follow h (take n (filter is_event (places_before_refusal (places_from site reads))))
+  given-along h site reads zero is = sym (append-nil (given h))
+  given-along h site [] (suc n) is = sym (append-nil (given h))
+  given-along h site ((number, Ok asks.Nothing) ∷ reads) (suc n) is = given-along h (site_after site (number, Ok asks.Nothing)) reads (suc n) is
+  given-along h site (read ∷ reads) (suc n) is =
+      let place : Place = (site, read) in
+      let later : List Place = places_before_refusal (places_from (site_after site read) reads) in
+      let rest : Follow (with_entries h (entries_at place)) (take n (filter is_event later)) =
+      given-along (with_entries h (entries_at place)) (site_after site read) reads n (ap (λ (a : State). account_after_all a (entries_at place)) is ∙ account_by_history h (entries_at place)) in
+      by (is_some (refusal_at place)) (orders-first h place (take n (filter is_event later)) is rest)
+    where
+      by : (refused : Bool) → Follow h ((site, read) ∷ take n (filter is_event (places_before_refusal (places_from (site_after site read) reads))))
+          → Follow h (take (suc n) (filter is_event (if refused then [] else (site, read) ∷ places_before_refusal (places_from (site_after site read) reads))))
+      by true first = sym (append-nil (given h))
+      by false first = first
 
 -- the orders of a history, and what stands after them
 module _ (h : History) where
@@ -339,7 +296,7 @@ module _ (history : History) (start : Start) (is : BeginsWith history start) (sc
   after = history_after history start script n
 
   pub orders-follow : orders after ≡ orders history ++ ordered start script n
-  orders-follow = given-follow orders (λ h e. refl) history start is script n
+  orders-follow = given-along orders (λ h e. refl) history (first_site start) (reads_of script) n is
 
   pub page-once : (page : ℕ) → AreOnceInOrder page (orders_for_page page (orders history ++ ordered start script n))
   page-once page = subst (λ (given : List Order). AreOnceInOrder page (orders_for_page page given)) orders-follow (pages-once after page)
@@ -348,7 +305,7 @@ module _ (history : History) (start : Start) (is : BeginsWith history start) (sc
       → orders_for_module (module_place after label) (orders_since_mark history ++ ordered start script n)
       ≡ (if has_tripped (module_errors after label) then replace_order after label ∷ [] else [])
   module-once label row =
-      ap (orders_for_module (module_place after label)) (sym (given-follow orders_since_mark (λ h e. refl) history start is script n))
+      ap (orders_for_module (module_place after label)) (sym (given-along orders_since_mark (λ h e. refl) history (first_site start) (reads_of script) n is))
       ∙ module-orders after label row
 
   account-is : account_with start script n ≡ account_of after
@@ -365,32 +322,20 @@ module _ (history : History) (start : Start) (is : BeginsWith history start) (sc
 
 -- ---- lines behind others
 
-enumerate-front : {X : Type 0} (n : ℕ) (xs ys : List X) → IsPrefixOf (enumerate_from n xs) (enumerate_from n (xs ++ ys))
-enumerate-front n [] ys = (enumerate_from n ys, refl)
-enumerate-front {X} n (x ∷ xs) ys =
-    let more = enumerate-front (n + 1) xs ys in
-    (more.0, ap (λ (zs : List (ℕ × X)). (n, x) ∷ zs) more.1)
-
-before-behind : (start : Start) (ps qs : List Place) → IsPrefixOf (places_before_refusal start ps) (places_before_refusal start (ps ++ qs))
-before-behind start [] qs = (places_before_refusal start qs, refl)
-before-behind start (p ∷ ps) qs = by (is_some (refusal_at start p)) (before-behind start ps qs)
+before-behind : (ps qs : List Place) → IsPrefixOf (places_before_refusal ps) (places_before_refusal (ps ++ qs))
+before-behind [] qs = (places_before_refusal qs, refl)
+before-behind (p ∷ ps) qs = by (is_some (refusal_at p)) (before-behind ps qs)
   where
-    by : (b : Bool) → IsPrefixOf (places_before_refusal start ps) (places_before_refusal start (ps ++ qs))
-        → IsPrefixOf (if b then [] else p ∷ places_before_refusal start ps) (if b then [] else p ∷ places_before_refusal start (ps ++ qs))
+    by : (b : Bool) → IsPrefixOf (places_before_refusal ps) (places_before_refusal (ps ++ qs))
+        → IsPrefixOf (if b then [] else p ∷ places_before_refusal ps) (if b then [] else p ∷ places_before_refusal (ps ++ qs))
     by true more = ([], refl)
     by false (rest, is) = (rest, ap (λ (others : List Place). p ∷ others) is)
 
-reads-front : (lines more : List (List ℕ)) → IsPrefixOf (reads_in lines) (reads_in (lines ++ more))
-reads-front lines more =
-    subst (λ (reads : List (Result Line LineRefused)). IsPrefixOf (reads_in lines) (enumerate_from 1 reads)) (sym (map-append line_of lines more))
-    (enumerate-front 1 (map line_of lines) (map line_of more))
-
 pub lines-stay : (start : Start) (lines more : List (List ℕ)) → IsPrefixOf (lines_output start (reads_in lines)) (lines_output start (reads_in (lines ++ more)))
 lines-stay start lines more =
-    let (rest, is) = reads-front lines more in
-    let all : places (reads_in lines) ++ places_behind (reads_in lines) rest ≡ places (reads_in (lines ++ more)) =
-    sym (places_behind-append [] (reads_in lines) rest) ∙ ap (λ (reads : List NumberedLine). places reads) is in
-    subst (λ (ps : List Place). IsPrefixOf (lines_output start (reads_in lines)) (flat_map (output_at start) (places_before_refusal start ps))) all
-    (prefix-flat_map (output_at start) (places_before_refusal start (places (reads_in lines)))
-    (places_before_refusal start (places (reads_in lines) ++ places_behind (reads_in lines) rest))
-    (before-behind start (places (reads_in lines)) (places_behind (reads_in lines) rest)))
+    let front : List Place = places_from (first_site start) (reads_in lines) in
+    let behind : List Place = places_from (site_at start (reads_in lines)) (reads_behind lines more) in
+    let all : front ++ behind ≡ places_from (first_site start) (reads_in (lines ++ more)) =
+    sym (ap (places_from (first_site start)) (reads-append lines more) ∙ places-append (first_site start) (reads_in lines) (reads_behind lines more)) in
+    subst (λ (ps : List Place). IsPrefixOf (lines_output start (reads_in lines)) (flat_map output_at (places_before_refusal ps))) all
+    (prefix-flat_map output_at (places_before_refusal front) (places_before_refusal (front ++ behind)) (before-behind front behind))

@@ -32,8 +32,8 @@ use Rattle.ras_exit.specs.declared.exit.Exit.TheVariants.{Damaged, DiskFault, No
 use Rattle.ras_exit.specs.Endings.{CallEnding, EndsBy, IfAnswered, IsCut, OnAnswer, OnlyFault, answered, ending_of, faulted, is_answered, source_failed, starved}
 use Rattle.ras_exit.proofs.DeviceLemmas.{device_by, device_stays}
 use Rattle.ras_exit.proofs.EndingLemmas.{ends_weaker, memory_ran_out, not_both, on_cut}
-use Rattle.ras_run.specs.LineActs.{HoldsAfter}
-use Rattle.ras_run.specs.Places.{Start}
+use Rattle.ras_run.specs.LineActs.{HoldsAt}
+use Rattle.ras_run.specs.Sites.{Start, first_site}
 use Rattle.ras_exit.specs.StopLine.{stop_line}
 use Rattle.ras_exit.specs.Telling.{PrintMoment, Tells}
 use Rattle.ras_run.specs.Files.{KeepsFiles, files_refusal, refusal_exit}
@@ -399,11 +399,12 @@ not_opened see account script exit result line t a b new is recovers opens after
     by (inr ended) = rw (ended.1, ended.2) (inl (record { cut = cut; told = some AfterOpening after; unopened = some (LeavesUnopened (exit ≡ DiskFault)) unopened; stops = stops; syncs = syncs }))
 
 -- it was opened
-pub ledger_holds : (start : Start) (ledger : Ledger) (u : Told) (told : Option Told) (clock : Clock) → IsStart start ledger u → IsAccount ledger.account.state → Before ledger.journal.standing ledger.account.state u told clock → HoldsAfter start [] u
+pub ledger_holds : (start : Start) (ledger : Ledger) (u : Told) (told : Option Told) (clock : Clock) → IsStart start ledger u → IsAccount ledger.account.state → Before ledger.journal.standing ledger.account.state u told clock → HoldsAt (first_site start) u
 ledger_holds start ledger u told clock begins account before = record {
   account = subst IsAccount begins.account account;
   at = record { recovers = before.at.recovers ∙ ap Ok begins.account; position = before.at.position ∙ ap Some begins.standing };
   board = begins.board;
+  drivable = tt;
 }
 
 pub was_opened : {X : Type 0} (see : X → Seen) (start : Start) (script : List ℕ) (exit : Exit) (ledger : Ledger) (t : Told) (a b new : X) → (is : (see a).told ≡ Some t)

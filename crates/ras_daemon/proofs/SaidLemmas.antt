@@ -13,7 +13,7 @@ use Rattle.ras_exit.proofs.EndingLemmas.{not_both, on_answer, on_cut}
 use Rattle.ras_exit.proofs.PrintLemmas.{not_printed, part_causes, printed}
 use Rattle.ras_run.specs.Taking.{IsPrintExit}
 use Rattle.ras_base.specs.Prefix.{IsPrefixOf}
-use Rattle.line_filters.specs.Steps.Filtering.{exit_of}
+use Rattle.line_filters.specs.Filters.{exit_of}
 use Rattle.ras_daemon.specs.Commands.{IsRunExit}
 use Rattle.ras_daemon.specs.Steps.Doing.{Ends, Says}
 use Rattle.ras_daemon.specs.Promises.{Caused}

@@ -1,7 +1,8 @@
 -- What taking a script comes to, over a journal that was opened.
-use Rattle.std.proofs.Common.{◌≡◌, ℕ, suc, ◌+◌, cond, List, [], ◌∷◌, ◌++◌, length, Option, None, Some, IsSomeAnd, Result, refl, ap, sym, ◌∙◌, subst, append_assoc, append-nil, length-append, arith, inl, inr}
-use Rattle.std.specs.Prelude.{◌≢◌, ◌⊎◌, is_some}
+use Rattle.std.proofs.Common.{◌≡◌, ℕ, List, [], ◌∷◌, ◌++◌, Option, None, Some, IsSomeAnd, Result, refl, ap, sym, ◌∙◌, subst, append_assoc, append-nil, inl, inr}
+use Rattle.std.specs.Prelude.{◌≢◌, ◌⊎◌}
 use Rattle.std.specs.Option.{option_map}
+use Rattle.std.proofs.lemmas.List.{append_cancel_left}
 use Rattle.board_core.specs.Cause.{Kind}
 use Rattle.board_core.specs.Clock.{Adds, Rests}
 use Rattle.board_core.specs.Steps.ClockLemmas.{adds_none, adds_weaker}
@@ -10,21 +11,22 @@ use Rattle.board_core.specs.Stop.{Left, Begins, InOut}
 use Rattle.board_core.specs.Told.{Relates, Steps, Told}
 use Rattle.board_core.proofs.DoingLemmas.{after-append, fails_first, moment_parts}
 use Rattle.erst_store.specs.Store.{Stored}
-use Rattle.ras_base.specs.Places.{places, places_behind}
 use Rattle.ras_account.specs.Account.{State}
 use Rattle.ras_journal.specs.Recovered.{Recovers, recovered}
 use Rattle.ras_events.specs.declared.event.Event.{Event}
 use Rattle.ras_events.specs.declared.event.LineRefusal.{LineRefusal}
-use Rattle.ras_events.specs.Reports.{NumberedLine, Place, event_at}
+use Rattle.ras_events.specs.Described.{NumberedLine}
+use Rattle.ras_run.specs.Sites.{Site, Start, first_site}
+use Rattle.ras_run.specs.Places.{Place, event_at, places_from, site_at}
+use Rattle.ras_daemon.specs.Script.{reads_of}
 use Rattle.ras_exit.specs.Acts.{AreStill, print_acts}
 use Rattle.ras_exit.specs.Endings.{CallEnding, answered, ending_of, faulted, starved}
 use Rattle.ras_exit.specs.ScriptEnd.{script_exit}
 use Rattle.ras_exit.specs.declared.exit.Exit.{Exit}
 use Rattle.ras_exit.specs.declared.exit.Exit.TheVariants.{ErstBusy}
 use Rattle.ras_exit.proofs.PrintLemmas.{after_printed, print_moment}
-use Rattle.ras_run.specs.LineActs.{AreFollowing, AreLineActs, AreUnlessRefused, HoldsAfter, asking_acts}
+use Rattle.ras_run.specs.LineActs.{AreFollowing, AreLineActs, AreUnlessRefused, HoldsAt, asking_acts}
 use Rattle.ras_run.specs.Moments.{refused_store}
-use Rattle.ras_run.specs.Places.{Start, account_at, store_at}
 use Rattle.ras_run.specs.Status.{places_before_refusal, refusal_at}
 use Rattle.ras_run.proofs.LineLawLemmas.{asking_moment, line_still}
 use Rattle.ras_run.proofs.SomeActLemmas.{some_acts}
@@ -34,9 +36,8 @@ use Rattle.ras_daemon.specs.RunActs.{AreActsAlong, AreDoneAlong, AreScriptActs, 
 use Rattle.ras_daemon.specs.RunOutput.{closing_line}
 use Rattle.ras_daemon.specs.RunStatus.{run_exit}
 use Rattle.ras_daemon.specs.Steps.Running.{AreAll, AreFirst, EndsEarly, EndsIn, EndsSo, LinesMoment, OpenMoment, RunEnds, StoreAtEnd, lines_from, outputs}
-use Rattle.ras_daemon.specs.Script.{reads_of}
 use Rattle.ras_daemon.proofs.AlongActLemmas.{acts_along, along_begun, along_done, along_moment, along_prints, line_begun, moment_in}
-use Rattle.ras_daemon.proofs.FirstLinesLemmas.{closing-same, first-before}
+use Rattle.ras_daemon.proofs.FirstLinesLemmas.{closing-same, first-before, others}
 use Rattle.ras_daemon.proofs.PlaceLemmas.{line_refused}
 
 -- ---- prints, and what stands behind the lines
@@ -44,12 +45,13 @@ use Rattle.ras_daemon.proofs.PlaceLemmas.{line_refused}
 pub printed_out : (text : List ℕ) (t : Told) → (after_acts (print_acts text) t).here.out ≡ t.here.out ++ text
 printed_out text t = ap (λ (u : Told). u.here.out) (after_printed text t)
 
-pub printed_holds : (start : Start) (before : List NumberedLine) (text : List ℕ) (t : Told) → HoldsAfter start before t → HoldsAfter start before (after_acts (print_acts text) t)
-printed_holds start before [] t holds = holds
-printed_holds start before (b ∷ text) t holds = record {
+pub printed_holds : (site : Site) (text : List ℕ) (t : Told) → HoldsAt site t → HoldsAt site (after_acts (print_acts text) t)
+printed_holds site [] t holds = holds
+printed_holds site (b ∷ text) t holds = record {
   account = holds.account;
   at = record { recovers = holds.at.recovers; position = holds.at.position };
   board = record { store = holds.board.store; slow = holds.board.slow };
+  drivable = holds.drivable;
 }
 
 -- the same files hold the same
@@ -66,40 +68,38 @@ store_kept : (exit : Exit) (event : Result Event LineRefusal) (store : List Stor
 store_kept ErstBusy event store free = absurd (free refl)
 store_kept exit event store free = refl
 
-more_places : (xs : List Place) (p : Place) (ys : List Place) → xs ≡ xs ++ p ∷ ys → ⊥
-more_places xs p ys is =
-    let long : length xs ≡ length xs + suc (length ys) = ap length is ∙ length-append xs (p ∷ ys) in
-    absurd (omega arith)
+module _ (start : Start) (script : List ℕ) (before : List NumberedLine) (first : AreFirst start script before) (t : Told) (holds : HoldsAt (site_at start before) t) (asked : List Act) where
+  -- the line that asks, at its place
+  abbrev place : IsAsked start script before t asked → Place
+  place asks = (site_at start before, asks.read)
 
-module _ (start : Start) (script : List ℕ) (before : List NumberedLine) (first : AreFirst start script before) (t : Told) (holds : HoldsAfter start before t) (asked : List Act) where
   module _ (asks : IsAsked start script before t asked) where
     asked_moment : (out : List ℕ) (left : Left) → t.here.out ≡ out ++ outputs start before → Moment asked t left → LinesMoment start script out left
     asked_moment out left text moment =
         moment_in start script out before asks.rest asks.read t left asks.splits first.accepted text
-        (asking_moment start before asks.read.0 asks.read.1 t holds asks.can left (subst (λ (l : List Act). Moment l t left) asks.is moment))
+        (asking_moment (place asks) t holds asks.can left (subst (λ (l : List Act). Moment l t left) asks.is moment))
 
     -- it is refused, if these are all lines that are taken
-    asked_refused : (end : Exit) → AreAll start script end before → refusal_at start (before, asks.read) ≡ Some end
-    asked_refused end all = by (refusal_at start (before, asks.read)) refl
+    asked_refused : (end : Exit) → AreAll start script end before → refusal_at (place asks) ≡ Some end
+    asked_refused end all = by (refusal_at (place asks)) refl
       where
-        by : (refusal : Option Exit) → refusal_at start (before, asks.read) ≡ refusal → refusal_at start (before, asks.read) ≡ Some end
+        by : (refusal : Option Exit) → refusal_at (place asks) ≡ refusal → refusal_at (place asks) ≡ Some end
         by None taken =
-            let behind : List Place = places_before_refusal start (places_behind (before ++ asks.read ∷ []) asks.rest) in
-            let whole : places before ≡ places before ++ (before, asks.read) ∷ behind =
-            sym all.all ∙ first-before start script before (record { rest = asks.read ∷ asks.rest; splits = asks.splits; accepted = first.accepted })
-            ∙ ap (λ (o : Option Exit). places before ++ cond (is_some o) [] ((before, asks.read) ∷ behind)) taken in
-            absurd (more_places (places before) (before, asks.read) behind whole)
+            let here : AreFirst start script before = record { rest = asks.read ∷ asks.rest; splits = asks.splits; accepted = first.accepted } in
+            let none : places_before_refusal (others start script before here) ≡ [] =
+            append_cancel_left (places_from (first_site start) before) _ [] (sym (first-before start script before here) ∙ all.all ∙ sym (append-nil (places_from (first_site start) before))) in
+            let never = rw taken at none in absurd cc
         by (Some exit) refused = refused ∙ ap Some (sym (line_refused start script before asks.rest asks.read exit asks.splits first.accepted refused).exit_is ∙ all.exit_is)
 
-    asked_are : (end : Exit) → refusal_at start (before, asks.read) ≡ Some end → AreLineActs start (before, asks.read) t asked
+    asked_are : (end : Exit) → refusal_at (place asks) ≡ Some end → AreLineActs (place asks) t asked
     asked_are end refused = record {
       rest = [];
-      is = asks.is ∙ sym (append-nil (asking_acts before (event_at (before, asks.read)) t));
-      follow = subst (λ (r : Option Exit). AreUnlessRefused r (AreFollowing start (before, asks.read) (event_at (before, asks.read)) (after_acts (asking_acts before (event_at (before, asks.read)) t) t)) []) (sym refused) refl;
+      is = asks.is ∙ sym (append-nil (asking_acts (place asks) t));
+      follow = subst (λ (r : Option Exit). AreUnlessRefused r (AreFollowing (place asks) (after_acts (asking_acts (place asks) t) t)) []) (sym refused) refl;
     }
 
-    asked_left : (end : Exit) → AreAll start script end before → (after_acts asked t).here ≡ record t.here { store = refused_store end (event_at (before, asks.read)) (store_at start before) }
-    asked_left end all = (let refused = asked_refused end all in line_still start (before, asks.read) end t asked refused asks.can holds (asked_are end refused))
+    asked_left : (end : Exit) → AreAll start script end before → (after_acts asked t).here ≡ record t.here { store = refused_store end (event_at (place asks)) (site_at start before).store }
+    asked_left end all = (let refused = asked_refused end all in line_still (place asks) end t asked refused asks.can holds (asked_are end refused))
 
   -- the store behind all lines
   pub left_at_end : (end : Exit) → AreAllAsked start script end before t asked → (store : List Stored) × StoreAtEnd start script before end store × ((after_acts asked t).here ≡ record t.here { store = store })
@@ -108,7 +108,7 @@ module _ (start : Start) (script : List ℕ) (before : List NumberedLine) (first
       by : ((end ≡ script_exit script) × (asked ≡ [])) ⊎ IsAsked start script before t asked → (store : List Stored) × StoreAtEnd start script before end store × ((after_acts asked t).here ≡ record t.here { store = store })
       by (inl (is, none)) = (t.here.store, inl (is, holds.board.store), ap (λ (l : List Act). (after_acts l t).here) none)
       by (inr asks) = (
-        refused_store end (event_at (before, asks.read)) (store_at start before),
+        refused_store end (event_at (place asks)) (site_at start before).store,
         inr (record { read = asks.read; rest = asks.rest; splits = asks.splits; refused = asked_refused asks end all.all; is = refl }),
         asked_left asks end all.all,
       )
@@ -122,11 +122,11 @@ module _ (start : Start) (script : List ℕ) (before : List NumberedLine) (first
       by (inl (is, none)) = ap (λ (l : List Act). (after_acts l t).here) none
       by (inr asks) =
           asked_left asks end all.all
-          ∙ ap (λ (store : List Stored). record t.here { store = store }) (store_kept end (event_at (before, asks.read)) (store_at start before) free ∙ sym holds.board.store)
+          ∙ ap (λ (store : List Stored). record t.here { store = store }) (store_kept end (event_at (place asks)) (site_at start before).store free ∙ sym holds.board.store)
 
 -- ---- the acts of a script, up to these lines
 
-module _ (start : Start) (script : List ℕ) (t : Told) (before : List NumberedLine) (first : AreFirst start script before) (along : List Act) (lines : AreDoneAlong start (places before) (after_acts (orders_acts start) t) along)
+module _ (start : Start) (script : List ℕ) (t : Told) (before : List NumberedLine) (first : AreFirst start script before) (along : List Act) (lines : AreDoneAlong (places_from (first_site start) before) (after_acts (orders_acts start) t) along)
     (asked : List Act) (asks : MayAsk start script before (after_acts along (after_acts (orders_acts start) t)) asked) (last : List Act) where
   abbrev pub script_acts : List Act
   script_acts = orders_acts start ++ (along ++ (asked ++ last))
@@ -141,12 +141,12 @@ module _ (start : Start) (script : List ℕ) (t : Told) (before : List NumberedL
   abbrev behind_asked : Told
   behind_asked = after_acts asked behind_lines
 
-  are_along : AreActsAlong start (places before) behind_orders along
-  are_along = acts_along start (places before) behind_orders along lines
+  are_along : AreActsAlong (places_from (first_site start) before) behind_orders along
+  are_along = acts_along (places_from (first_site start) before) behind_orders along lines
 
   lines_out : behind_lines.here.out ≡ lines_from start t.here.out ++ outputs start before
   lines_out =
-      along_prints start (places before) behind_orders along first.accepted are_along
+      along_prints (places_from (first_site start) before) behind_orders along first.accepted are_along
       ∙ ap (λ out. out ++ outputs start before) (printed_out (standing_lines start.account) t)
 
   -- with the last line they are all acts of the script
@@ -170,7 +170,7 @@ module _ (start : Start) (script : List ℕ) (t : Told) (before : List NumberedL
         },
       )
   lines_begun (inr has) =
-      let some = some_acts start (before, has.read) behind_lines in
+      let some = some_acts (site_at start before, has.read) behind_lines in
       line_begun start script behind_orders before has.rest has.read has.splits first.accepted along are_along some.0 some.1 asked some.1.rest
       (ap (λ l. l ++ some.1.rest) has.is ∙ sym some.1.is)
 
@@ -194,9 +194,9 @@ module _ (start : Start) (script : List ℕ) (t : Told) (before : List NumberedL
   script_begun (inl none) = begun_by none
   script_begun (inr (end, all, is)) = ([], rw append-nil (script_whole end all is))
 
-  module _ (holds : HoldsAfter start [] t) where
-    lines_hold : HoldsAfter start before behind_lines
-    lines_hold = along_done start [] before behind_orders along first.accepted (printed_holds start [] (standing_lines start.account) t holds) lines
+  module _ (holds : HoldsAt (first_site start) t) where
+    pub lines_hold : HoldsAt (site_at start before) behind_lines
+    lines_hold = along_done (first_site start) before behind_orders along first.accepted (printed_holds (first_site start) (standing_lines start.account) t holds) lines
 
     after_script : after_acts script_acts t ≡ after_acts last behind_asked
     after_script =
@@ -207,7 +207,7 @@ module _ (start : Start) (script : List ℕ) (t : Told) (before : List NumberedL
     at_last : (left : Left) → IsLast start script before behind_lines asked last → Moment last behind_asked left → OpenMoment start script t.here.out left
     at_last left (inl none) moment = absurd (subst (λ (l : List Act). Moment l behind_asked left) none moment)
     at_last left (inr (end, all, is)) moment =
-        let text : List ℕ = closing_line (account_at start before) end in
+        let text : List ℕ = closing_line (site_at start before).account end in
         let by : InOut (Begins text) behind_asked.here left = print_moment text behind_asked left (subst (λ (l : List Act). Moment l behind_asked left) is moment) in
         let found = left_at_end start script before first behind_lines lines_hold asked end all in
         let rest : left ≡ record behind_lines.here { store = found.0; out = by.text } = by.rest ∙ ap (λ (l : Left). record l { out = by.text }) found.2 in
@@ -215,7 +215,7 @@ module _ (start : Start) (script : List ℕ) (t : Told) (before : List NumberedL
           before = before;
           exit = end;
           all = all.all;
-          recovers = recovers_same (account_at start before) behind_lines.here left (ap (λ (l : Left). l.file0) rest) (ap (λ (l : Left). l.file1) rest) (record { is = lines_hold.at.recovers });
+          recovers = recovers_same (site_at start before).account behind_lines.here left (ap (λ (l : Left). l.file0) rest) (ap (λ (l : Left). l.file1) rest) (record { is = lines_hold.at.recovers });
           store = subst (StoreAtEnd start script before end) (sym (ap (λ (l : Left). l.store) rest)) found.1;
           text = subst (λ out. Begins text out left.out) (ap (λ (l : Left). l.out) found.2 ∙ lines_out) (subst (λ out. Begins text behind_asked.here.out out) (sym (ap (λ (l : Left). l.out) rest)) by.step);
         }))
@@ -237,7 +237,7 @@ module _ (start : Start) (script : List ℕ) (t : Told) (before : List NumberedL
       | inr later ↦ elim (moment_parts along (asked ++ last) behind_orders left later) [
         | inl among ↦
             inr (inl (along_moment start script (lines_from start t.here.out) before behind_orders along left first (printed_out (standing_lines start.account) t)
-            (printed_holds start [] (standing_lines start.account) t holds) lines among))
+            (printed_holds (first_site start) (standing_lines start.account) t holds) lines among))
         | inr behind ↦ elim (moment_parts asked last behind_lines left behind) [
           | inl asking ↦ at_asked left asks asking
           | inr end ↦ at_last left is end
@@ -262,7 +262,7 @@ module _ (start : Start) (script : List ℕ) (t : Told) (before : List NumberedL
           record {
             before = before;
             first = first;
-            recovers = subst (λ (l : Left). Recovers (account_at start before) l) (sym here) (record { is = lines_hold.at.recovers });
+            recovers = subst (λ (l : Left). Recovers (site_at start before).account l) (sym here) (record { is = lines_hold.at.recovers });
             store = ap (λ (l : Left). l.store) here ∙ lines_hold.board.store;
             text = inl (holds.account, ap (λ (l : Left). l.out) here ∙ lines_out ∙ append_assoc t.here.out (standing_lines start.account) (outputs start before));
           }
@@ -270,7 +270,7 @@ module _ (start : Start) (script : List ℕ) (t : Told) (before : List NumberedL
     -- where one ends that comes to an answer
     script_so : (exit : Exit) → AreAllAsked start script exit before behind_lines asked → last ≡ last_acts start before exit → EndsSo start script exit t.here.out (after_acts script_acts t)
     script_so exit all is =
-        let text : List ℕ = closing_line (account_at start before) exit in
+        let text : List ℕ = closing_line (site_at start before).account exit in
         let orders : List ℕ = standing_lines start.account in
         let found = left_at_end start script before first behind_lines lines_hold asked exit all in
         let there : (after_acts script_acts t).here ≡ record behind_lines.here { store = found.0; out = behind_lines.here.out ++ text } =
@@ -280,7 +280,7 @@ module _ (start : Start) (script : List ℕ) (t : Told) (before : List NumberedL
           before = before;
           all = all.all;
           account = holds.account;
-          recovers = recovers_same (account_at start before) behind_lines.here (after_acts script_acts t).here (ap (λ (l : Left). l.file0) there) (ap (λ (l : Left). l.file1) there) (record { is = lines_hold.at.recovers });
+          recovers = recovers_same (site_at start before).account behind_lines.here (after_acts script_acts t).here (ap (λ (l : Left). l.file0) there) (ap (λ (l : Left). l.file1) there) (record { is = lines_hold.at.recovers });
           store = subst (StoreAtEnd start script before exit) (sym (ap (λ (l : Left). l.store) there)) found.1;
           text = ap (λ (l : Left). l.out) there
               ∙ ap (λ out. out ++ text) lines_out
@@ -368,7 +368,7 @@ module _ {X : Type 0} (see : X → Seen) (start : Start) (script : List ℕ) (t 
             is = ap (λ (l : List Act). after_acts l t) (script_whole start script t d.before d.first d.along d.lines d.asked d.asks d.last exit ends.0 ends.1).is;
           })
 
-  module _ (holds : HoldsAfter start [] t) where
+  module _ (holds : HoldsAt (first_site start) t) where
     -- how the run ends
     abbrev IsBetween : DoesScript see start script t exit old new → Type 0
     IsBetween d = (d.last ≡ []) × KeepsStore start script d.before (after_acts d.along (after_acts (orders_acts start) t)) d.asked

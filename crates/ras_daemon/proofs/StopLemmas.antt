@@ -21,7 +21,7 @@ number-unbroken : (number : Option ℕ) → is_unbroken (option_map_or (λ n. co
 number-unbroken None = refl
 number-unbroken (Some number) = unbroken_both (codes ".") (decimal number) refl (decimal_unbroken number)
 
-reason-unbroken : (why : Reason) → is_unbroken (reason_text why) ≡ true
+pub reason-unbroken : (why : Reason) → is_unbroken (reason_text why) ≡ true
 reason-unbroken why =
     unbroken_both (reason_word why) (option_map_or (λ n. codes "." ++ decimal n) (reason_number why) []) (word-unbroken why) (number-unbroken (reason_number why))
 

@@ -3,61 +3,54 @@ use Rattle.std.proofs.Common.{◌≡◌, ℕ, true, cond, List, [], ◌∷◌, �
 use Rattle.std.specs.Prelude.{filter, get_or, is_some}
 use Rattle.std.specs.List.{fold}
 use Rattle.std.proofs.lemmas.List.Elements.{filter-append}
-use Rattle.erst_store.specs.Store.{bytes_under}
-use Rattle.ras_base.specs.Places.{places, places_behind}
-use Rattle.ras_account.specs.Accounts.{IsAccount}
+use Rattle.erst_store.specs.Store.{Stored, bytes_under}
 use Rattle.ras_script.specs.declared.line.Line.TheVariants as asks
-use Rattle.ras_events.specs.Reports.{NumberedLine, Place}
-use Rattle.ras_events.specs.Stores.{laid}
+use Rattle.ras_events.specs.Described.{NumberedLine}
+use Rattle.ras_run.specs.Sites.{Site, Start, first_site}
+use Rattle.ras_run.specs.Places.{Place, deed_at, places_from, site_after, site_along, site_at}
+use Rattle.ras_daemon.specs.Script.{is_event, reads_of, places_taken}
 use Rattle.ras_exit.specs.declared.exit.Exit.{Exit}
 use Rattle.ras_exit.specs.declared.exit.Exit.TheVariants.{ErstBusy}
-use Rattle.ras_run.specs.Places.{Start, store_at}
 use Rattle.ras_run.specs.Status.{places_before_refusal, refusal_at}
-use Rattle.ras_run.specs.Taking.{IsAccepted}
 use Rattle.ras_daemon.specs.Machine.{RunEvent, StoreChange, change_next, changes_upto, keeps, last_changed, last_upto, store_changed, store_upto}
 use Rattle.ras_daemon.specs.RunOf.{begun_by, change_at, run_event_at, run_of}
-use Rattle.ras_daemon.specs.RunStatus.{script_refused}
-use Rattle.ras_daemon.specs.Script.{is_event, reads_of}
+use Rattle.ras_daemon.specs.RunStatus.{first_refused, refused_or, script_refused}
 use Rattle.ras_daemon.specs.Steps.Running.{AreAccepted, AreFirst}
-use Rattle.ras_daemon.proofs.CountLemmas.{events_among, first-events}
-use Rattle.ras_daemon.proofs.FirstLinesLemmas.{first-before}
-use Rattle.ras_daemon.proofs.PlaceLemmas.{line_refused, script-refused}
-use Rattle.ras_daemon.proofs.ListLemmas.{all-weaker}
-use Rattle.ras_daemon.proofs.MachineLemmas.{IsTaken, changes-laid, changes-same}
+use Rattle.ras_daemon.proofs.CountLemmas.{events_before, first-events, placed}
+use Rattle.ras_daemon.proofs.FirstLinesLemmas.{first-before, first-refused}
+use Rattle.ras_daemon.proofs.MachineLemmas.{change-left, changes-same}
 
 -- ---- along the events
 
 -- a line that is no event keeps the store
 changes-passing : {A : Type 0} (g : A → StoreChange → A) → ((a : A) → g a keeps ≡ a) → (a : A) (ps : List Place) → fold g a (map change_at (filter is_event ps)) ≡ fold g a (map change_at ps)
 changes-passing g none a [] = refl
-changes-passing g none a ((before, (number, Ok asks.Nothing)) ∷ ps) = changes-passing g none a ps ∙ ap (λ b. fold g b (map change_at ps)) (sym (none a))
+changes-passing g none a ((site, (number, Ok asks.Nothing)) ∷ ps) = changes-passing g none a ps ∙ ap (λ b. fold g b (map change_at ps)) (sym (none a))
 changes-passing g none a (p ∷ ps) = changes-passing g none (g a (change_at p)) ps
 
-lines-behind : (before reads : List NumberedLine) → map (λ (p : Place). p.1) (places_behind before reads) ≡ reads
-lines-behind before [] = refl
-lines-behind before (read ∷ reads) = ap (λ (rest : List NumberedLine). read ∷ rest) (lines-behind (before ++ read ∷ []) reads)
+store-along : (site : Site) (reads : List NumberedLine) → fold store_changed site.store (map change_at (places_from site reads)) ≡ (site_along site reads).store
+store-along site [] = refl
+store-along site (read ∷ reads) =
+    ap (λ (s : List Stored). fold store_changed s (map change_at (places_from (site_after site read) reads))) (change-left (deed_at (site, read)).asks site.store)
+    ∙ store-along (site_after site read) reads
 
-module _ (start : Start) (script : List ℕ) (before : List NumberedLine) (first : AreFirst start script before) (account : IsAccount start.account) where
-  changes-first : {A : Type 0} (g : A → StoreChange → A) → ((a : A) → g a keeps ≡ a) → (a : A) → fold g a (changes_upto (run_of start script) (events_among (places before))) ≡ fold g a (map change_at (places before))
+module _ (start : Start) (script : List ℕ) (before : List NumberedLine) (first : AreFirst start script before) where
+  changes-first : {A : Type 0} (g : A → StoreChange → A) → ((a : A) → g a keeps ≡ a) → (a : A) → fold g a (changes_upto (run_of start script) (events_before start before)) ≡ fold g a (map change_at (placed start before))
   changes-first g none a =
-      ap (fold g a) (changes-same start script (events_among (places before)) ∙ ap (map change_at) (first-events start script before first account))
-      ∙ changes-passing g none a (places before)
+      ap (fold g a) (changes-same start script (events_before start before) ∙ ap (map change_at) (first-events start script before first)) ∙ changes-passing g none a (placed start before)
 
   -- the store that the first lines leave, and what they last put
-  pub store-first : store_upto (run_of start script) (events_among (places before)) ≡ store_at start before
-  store-first =
-      changes-first store_changed (λ store. refl) start.store
-      ∙ changes-laid start start.store (places before) (all-weaker (IsAccepted start) (IsTaken start) (λ place accepted. accepted.taken) (places before) first.accepted)
-      ∙ ap (laid start.store) (lines-behind [] before)
+  pub store-first : store_upto (run_of start script) (events_before start before) ≡ (site_at start before).store
+  store-first = changes-first store_changed (λ store. refl) start.store ∙ store-along (first_site start) before
 
-  pub last-first : (id : ℕ) → last_upto (run_of start script) (events_among (places before)) id ≡ fold (last_changed id) (bytes_under id start.store) (map change_at (places before))
+  pub last-first : (id : ℕ) → last_upto (run_of start script) (events_before start before) id ≡ fold (last_changed id) (bytes_under id start.store) (map change_at (placed start before))
   last-first id = changes-first (last_changed id) (λ last. refl) (bytes_under id start.store)
 
 -- ---- the event that is begun behind the first lines
 
-change-behind : (start : Start) (ps qs : List Place) (p : Place) → get_or (map (λ (event : RunEvent). event.change) (map (run_event_at start) (ps ++ p ∷ qs))) (length ps) keeps ≡ change_at p
-change-behind start [] qs p = refl
-change-behind start (q ∷ ps) qs p = change-behind start ps qs p
+change-behind : (ps qs : List Place) (p : Place) → get_or (map (λ (event : RunEvent). event.change) (map run_event_at (ps ++ p ∷ qs))) (length ps) keeps ≡ change_at p
+change-behind [] qs p = refl
+change-behind (q ∷ ps) qs p = change-behind ps qs p
 
 -- a line that isn't refused, or only because its device was busy for too long
 abbrev pub IsBegunWith : Option Exit → Type 0
@@ -66,27 +59,36 @@ IsBegunWith (Some ErstBusy) = Unit {0}
 IsBegunWith refusal = ⊥
 
 module _ (start : Start) (script : List ℕ) (before rest : List NumberedLine) (read : NumberedLine) (splits : before ++ read ∷ rest ≡ reads_of script) (accepted : AreAccepted start before) where
-  -- all that it begins: these, the line, and others
-  begun-more : (refusal : Option Exit) → refusal_at start (before, read) ≡ refusal → IsBegunWith refusal
-      → (more : List Place) × (places_before_refusal start (places (reads_of script)) ++ begun_by (script_refused start script) ≡ places before ++ (before, read) ∷ more)
-  begun-more None taken begun =
-      let behind : List Place = places_before_refusal start (places_behind (before ++ read ∷ []) rest) in
-      let last : List Place = begun_by (script_refused start script) in (
-        behind ++ last,
-        ap (λ ps. ps ++ last)
-            (first-before start script before (record { rest = read ∷ rest; splits = splits; accepted = accepted })
-            ∙ ap (λ (o : Option Exit). places before ++ cond (is_some o) [] ((before, read) ∷ behind)) taken)
-            ∙ append_assoc (places before) ((before, read) ∷ behind) last,
-      )
-  begun-more (Some ErstBusy) refused begun =
-      ([], λ i. (line_refused start script before rest read ErstBusy splits accepted refused).all i ++ begun_by (script-refused start script before rest read ErstBusy splits accepted refused i))
-  begun-more (Some exit) refused begun = absurd begun
+  abbrev place : Place
+  place = (site_at start before, read)
 
-  pub line-next : is_event (before, read) ≡ true → IsBegunWith (refusal_at start (before, read)) → change_next (run_of start script) (events_among (places before)) ≡ change_at (before, read)
+  abbrev later : List Place
+  later = places_from (site_after (site_at start before) read) rest
+
+  abbrev first : AreFirst start script before
+  first = record { rest = read ∷ rest; splits = splits; accepted = accepted }
+
+  -- all that it begins: these, the line, and others
+  begun-more : IsBegunWith (refusal_at place) → (more : List Place) × (places_taken start script ++ begun_by (script_refused start script) ≡ placed start before ++ place ∷ more)
+  begun-more begun =
+      let (more, is) = by (refusal_at place) begun in (
+        more,
+        (λ i. first-before start script before first i ++ begun_by (first-refused start script before first i))
+            ∙ append_assoc (placed start before) (places_before_refusal (place ∷ later)) (begun_by (first_refused (place ∷ later)))
+            ∙ ap (λ (ps : List Place). placed start before ++ ps) is,
+      )
+    where
+      by : (refusal : Option Exit) → IsBegunWith refusal
+          → (more : List Place) × (cond (is_some refusal) [] (place ∷ places_before_refusal later) ++ begun_by (refused_or refusal place (first_refused later)) ≡ place ∷ more)
+      by None begun = (places_before_refusal later ++ begun_by (first_refused later), refl)
+      by (Some ErstBusy) begun = ([], refl)
+      by (Some exit) begun = absurd begun
+
+  pub line-next : is_event place ≡ true → IsBegunWith (refusal_at place) → change_next (run_of start script) (events_before start before) ≡ change_at place
   line-next event begun =
-      let (more, is) = begun-more (refusal_at start (before, read)) refl begun in
-      ap (λ ps. get_or (map (λ (event : RunEvent). event.change) (map (run_event_at start) ps)) (events_among (places before)) keeps)
+      let (more, is) = begun-more begun in
+      ap (λ ps. get_or (map (λ (event : RunEvent). event.change) (map run_event_at ps)) (events_before start before) keeps)
       (ap (filter is_event) is
-      ∙ filter-append is_event (places before) ((before, read) ∷ more)
-      ∙ ap (λ b. filter is_event (places before) ++ cond b ((before, read) ∷ filter is_event more) (filter is_event more)) event)
-      ∙ change-behind start (filter is_event (places before)) (filter is_event more) (before, read)
+      ∙ filter-append is_event (placed start before) (place ∷ more)
+      ∙ ap (λ b. filter is_event (placed start before) ++ cond b (place ∷ filter is_event more) (filter is_event more)) event)
+      ∙ change-behind (filter is_event (placed start before)) (filter is_event more) place

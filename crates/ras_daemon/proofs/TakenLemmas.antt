@@ -5,10 +5,12 @@ use Rattle.board_core.specs.Cause.{print_call}
 use Rattle.board_core.specs.Doing.{Act, Breaks, Does, Ended, GoesWell, IsMade, Seen, after_acts, broke, went_well}
 use Rattle.board_core.specs.Told.{Told}
 use Rattle.board_core.proofs.DoingLemmas.{after-append, does_first, does_then}
-use Rattle.ras_base.specs.Places.{places}
 use Rattle.ras_account.specs.Account.{State}
-use Rattle.line_filters.specs.Steps.Filtering.{exit_of}
-use Rattle.ras_events.specs.Reports.{NumberedLine}
+use Rattle.line_filters.specs.Filters.{exit_of}
+use Rattle.ras_events.specs.Described.{NumberedLine}
+use Rattle.ras_run.specs.Sites.{Start, first_site}
+use Rattle.ras_run.specs.Places.{places_from, site_at}
+use Rattle.ras_daemon.specs.Script.{reads_of}
 use Rattle.ras_exit.specs.Acts.{AreStill, end_of, print_acts}
 use Rattle.ras_exit.specs.Endings.{CallEnding, EndsBy, IsAnswer, IsLineExit, OnlyFault, answered, ending_of, faulted, is_answered, source_failed, starved}
 use Rattle.ras_exit.specs.declared.exit.Exit.{Exit}
@@ -16,14 +18,12 @@ use Rattle.ras_exit.specs.declared.exit.Exit.TheVariants.{Done, SourceFault}
 use Rattle.ras_exit.proofs.EndingLemmas.{memory_ran_out, not_both}
 use Rattle.ras_exit.proofs.PrintLemmas.{none_still}
 use Rattle.ras_run.specs.declared.run.Run.{Run}
-use Rattle.ras_run.specs.Places.{Start, account_at}
 use Rattle.ras_run.specs.Taking.{IsPrintExit}
 use Rattle.ras_daemon.specs.Steps.Doing.{AreAllAsked, AreLinesActs, AsksBy, DoesFirst, DoesLines, DoesPart, DoesScript, Ends, IsLastBy, MayAsk, Says, TakesScript}
 use Rattle.ras_daemon.specs.RunActs.{AreDoneAlong, AreScriptActs, last_acts, orders_acts, script_asked}
 use Rattle.ras_daemon.specs.RunOutput.{closing_line}
 use Rattle.ras_daemon.specs.RunStatus.{run_exit}
 use Rattle.ras_daemon.specs.Steps.Running.{AreFirst}
-use Rattle.ras_daemon.specs.Script.{reads_of}
 use Rattle.ras_daemon.proofs.ScriptLemmas.{script_begun}
 
 -- with which exit a run ends behind its lines, if that isn't a fault
@@ -56,7 +56,7 @@ module _ {X : Type 0} (see : X → Seen) (start : Start) (script : List ℕ) (t 
   behind_orders = after_acts (orders_acts start) t
 
   -- as a run ends with this exit
-  taken : (result : Exit) (ending : CallEnding) (before : List NumberedLine) (along asked last : List Act) (old new : X) → ending_of result ≡ ending → AreFirst start script before → AreDoneAlong start (places before) behind_orders along
+  taken : (result : Exit) (ending : CallEnding) (before : List NumberedLine) (along asked last : List Act) (old new : X) → ending_of result ≡ ending → AreFirst start script before → AreDoneAlong (places_from (first_site start) before) behind_orders along
       → MayAsk start script before (after_acts along behind_orders) asked → IsLastBy start script before (after_acts along behind_orders) asked result ending last
       → DoesFirst see (AreScriptActs start script t) t (orders_acts start ++ (along ++ (asked ++ last))) ending old new → DoesScript see start script t result old new
   taken result ending before along asked last old new is first lines asks ends does = record {
@@ -82,7 +82,7 @@ module _ {X : Type 0} (see : X → Seen) (start : Start) (script : List ℕ) (t 
       by (faulted kind) is only does =
           inr (taken exit (faulted kind) [] [] [] [] old new is (record { rest = reads_of script; splits = refl; accepted = tt }) refl (inl refl) (inl refl) (does_first see (orders_acts start) ([] ++ ([] ++ [])) (broke kind) old new tt does))
 
-  module _ (old a b new : X) (orders : GoesWell (orders_acts start) (see old) (see a)) (before : List NumberedLine) (first : AreFirst start script before) (along asked : List Act) (lines : AreDoneAlong start (places before) behind_orders along)
+  module _ (old a b new : X) (orders : GoesWell (orders_acts start) (see old) (see a)) (before : List NumberedLine) (first : AreFirst start script before) (along asked : List Act) (lines : AreDoneAlong (places_from (first_site start) before) behind_orders along)
       (asks : MayAsk start script before (after_acts along behind_orders) asked) where
     abbrev behind_lines : Told
     behind_lines = after_acts along behind_orders
@@ -94,7 +94,7 @@ module _ {X : Type 0} (see : X → Seen) (start : Start) (script : List ℕ) (t 
         (does_then see (orders_acts start) ((along ++ asked) ++ last) ended old a new orders made (does_then see (along ++ asked) last ended a b new well made does))
 
     -- an answer with its last line
-    answer : (exit result : Exit) (line : List ℕ) → GoesWell (along ++ asked) (see a) (see b) → AreAllAsked start script exit before behind_lines asked → IsAnswer exit → line ≡ closing_line (account_at start before) exit → Says see exit result line b new
+    answer : (exit result : Exit) (line : List ℕ) → GoesWell (along ++ asked) (see a) (see b) → AreAllAsked start script exit before behind_lines asked → IsAnswer exit → line ≡ closing_line (site_at start before).account exit → Says see exit result line b new
         → DoesScript see start script t result old new
     answer exit result line well all is same (inl (result_is, does)) =
         let ending : ending_of result ≡ answered = ap ending_of result_is ∙ answers exit is in
@@ -157,7 +157,7 @@ module _ {X : Type 0} (see : X → Seen) (start : Start) (script : List ℕ) (t 
       by : (ending : CallEnding) → ending_of found ≡ ending → DoesFirst see (AreLinesActs start script behind_orders) behind_orders (d.acts ++ d.asked) ending a b → AsksBy start script d.before (after_acts d.acts behind_orders) d.asked found ending
           → Ends see found result (closing_line run.ledger.account.state found) b new → TakesScript see start script t result old new
       by answered so well all (inl said) =
-          inr (answer old a b new orders d.before d.first d.acts d.asked d.along d.asks found result (closing_line run.ledger.account.state found) well all said.0 (last_same found run.ledger.account.state (account_at start d.before) is.1) said.1)
+          inr (answer old a b new orders d.before d.first d.acts d.asked d.along d.asks found result (closing_line run.ledger.account.state found) well all said.0 (last_same found run.ledger.account.state (site_at start d.before).account is.1) said.1)
       by answered so well all (inr cut) = absurd (not_both found cut.0 (ap is_answered so))
       by (faulted kind) so failed all (inl said) = absurd (not_both found (ap is_answered so) said.0)
       by (faulted kind) so failed all (inr cut) =

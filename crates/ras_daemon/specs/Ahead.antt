@@ -5,16 +5,15 @@ use Rattle.board_core.specs.Told.{Told}
 use Rattle.ras_script.specs.declared.reader.TheConstants.{LONGEST_LINE}
 use Rattle.line_filters.specs.Filters.{TakesOf}
 use Rattle.mce_records.specs.Printing.{TakesRecord}
-use Rattle.ras_script.specs.Line.{line_of}
+use Rattle.ras_script.specs.Line.{is_asking, line_of}
 use Rattle.ras_script.specs.Splitting.{lines_of}
 use Rattle.ras_events.specs.DoneLines.{done_count, ended_lines}
 use Rattle.ras_exit.specs.declared.exit.Exit.{Exit}
 use Rattle.ras_exit.specs.declared.exit.Exit.TheVariants.{SourceFault}
-use Rattle.ras_daemon.specs.Script.{is_event}
 
 -- whether a line is an event, whichever lines are before it
 abbrev pub is_event_line : List ℕ → Bool
-is_event_line line = is_event ([], (1, line_of line))
+is_event_line line = is_asking (line_of line)
 
 -- the number of bytes up to the end of the event that has n events before it, each line with its line feed;
 -- nothing if there is no such event

@@ -3,18 +3,18 @@ use Rattle.std.specs.Prelude.{◌≡◌, List, [], ◌++◌, ℕ, map, Result, O
 use Rattle.std.specs.List.{filter_map}
 use Rattle.bank_lines.specs.Texts.{asks_in}
 use Rattle.dimm_topology.specs.declared.row.Row.{Row}
-use Rattle.erst_store.specs.Store.{Stored}
 use Rattle.ras_facts.specs.Facts.{bank_fact}
 use Rattle.ras_facts.specs.declared.bank.BankReport.{BankReport}
 use Rattle.ras_facts.specs.declared.entry.Entry.{Entry}
 use Rattle.ras_facts.specs.declared.entry.Entry.TheVariants.{Fact}
-use Rattle.ras_events.specs.Reports.{Place, reports}
+use Rattle.ras_run.specs.Sites.{Start, first_site}
+use Rattle.ras_run.specs.Places.{Place, reports}
+use Rattle.ras_daemon.specs.Script.{reads_in}
 use Rattle.ras_script.specs.Lines.{script_lines}
 use Rattle.ras_script.specs.declared.line.ErrorReport.TheVariants.{Bank}
 use Rattle.ras_script.specs.declared.line.Line.{Line}
 use Rattle.ras_script.specs.declared.line.Line.TheVariants.{Report}
 use Rattle.ras_script.specs.declared.line.LineRefused.{LineRefused}
-use Rattle.ras_daemon.specs.Script.{reads_in}
 
 -- what the line of a bank asks for
 abbrev pub asks_bank : BankReport → Result Line LineRefused
@@ -22,11 +22,11 @@ asks_bank bank = Ok (Report (Bank bank))
 
 -- Such a script first has lines that report nothing, such as a machine description, and then lines that ask
 -- for exactly the reports of these banks.
-pub record IsFed (store : List Stored) (rows : List (List ℕ)) (banks : List BankReport) (script : List ℕ) : Type 0 where
+pub record IsFed (start : Start) (rows : List (List ℕ)) (banks : List BankReport) (script : List ℕ) : Type 0 where
   pub fed : List (List ℕ)
   pub lines : (script_lines script).whole ≡ rows ++ fed
   pub asks : asks_in fed ≡ map asks_bank banks
-  pub silent : reports store (reads_in rows) ≡ []
+  pub silent : reports (first_site start) (reads_in rows) ≡ []
 
 -- what the events of a script ask for
 abbrev pub asked_by : List Place → List (Result Line LineRefused)

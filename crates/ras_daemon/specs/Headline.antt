@@ -1,6 +1,6 @@
 -- What a crash at any point of a run leaves, and what a run leaves when it ends.
-use Rattle.std.specs.Prelude.{◌≡◌, ℕ, ◌+◌, ◌<◌, ◌⊎◌, List, ◌++◌, length, map, take, Option, Some, Ok, ⊤}
-use Rattle.std.specs.List.{flat_map}
+use Rattle.std.specs.Prelude.{◌≡◌, ℕ, ◌+◌, ◌<◌, ◌⊎◌, List, ◌++◌, length, take, Option, Some, Ok, ⊤}
+use Rattle.std.specs.List.{flat_map, fold}
 use Rattle.board_core.specs.Clock.{Adds, Always, Clock, LeftNow, Rests}
 use Rattle.board_core.specs.Doing.{Act, Seen, after_acts}
 use Rattle.board_core.specs.Stop.{Left}
@@ -14,34 +14,34 @@ use Rattle.ras_facts.specs.declared.entry.Entry.{Entry}
 use Rattle.ras_journal.specs.Recovered.{HasFewLinks, Recovers}
 use Rattle.ras_recover.specs.OpeningActs.{AreOpeningActs}
 use Rattle.ras_recover.specs.Recovering.{MaySync, SyncsFirst}
-use Rattle.ras_events.specs.Reports.{NumberedLine, Place, entries_at}
-use Rattle.ras_events.specs.Stores.{laid}
+use Rattle.ras_run.specs.Sites.{Start}
+use Rattle.ras_run.specs.Places.{Place, deed_at, entries_at}
+use Rattle.ras_daemon.specs.Script.{events_of}
+use Rattle.ras_run.specs.Deeds.{store_done}
 use Rattle.ras_events.specs.DoneLines.{done_count}
 use Rattle.ras_exit.specs.declared.exit.Exit.{Exit}
 use Rattle.ras_exit.specs.declared.exit.Exit.TheVariants.{DiskFault, NoMemory}
 use Rattle.ras_panic.specs.Reading.{stored_name}
-use Rattle.ras_run.specs.Places.{Start}
 use Rattle.ras_daemon.specs.Machine.{Run, account_upto, change_next, clears, last_upto, store_upto, text_of, text_upto}
 use Rattle.ras_daemon.specs.RunOf.{run_of}
 use Rattle.ras_daemon.specs.RunStatus.{start_of}
-use Rattle.ras_daemon.specs.Script.{events_of}
-use Rattle.ras_daemon.specs.StoreDuring.{KnownBy, KnowsReadable, PutsUnder, StoreDuring, store_at_end}
+use Rattle.ras_daemon.specs.StoreDuring.{HasPut, KnownBy, KnowsReadable, StoreDuring, store_at_end}
 use Rattle.ras_daemon.specs.declared.word.Task.{Task}
 use Rattle.ras_daemon.specs.declared.word.Task.TheVariants as tasks
 
 -- what the first n events of a script report, and the account at the start with these reports
 abbrev pub reported : Start → List ℕ → ℕ → List Entry
-reported start script n = flat_map (entries_at start.store) (take n (events_of start script))
+reported start script n = flat_map entries_at (take n (events_of start script))
 
 abbrev pub account_with : Start → List ℕ → ℕ → State
 account_with start script n = account_after_all start.account (reported start script n)
 
--- the lines of the first n events, and the record store that they leave
-abbrev pub lines_with : Start → List ℕ → ℕ → List NumberedLine
-lines_with start script n = map (λ (place : Place). place.1) (take n (events_of start script))
+-- the record store that these events leave
+abbrev pub store_by : List Stored → Place → List Stored
+store_by store place = store_done (deed_at place).asks store
 
 abbrev pub laid_with : Start → List ℕ → ℕ → List Stored
-laid_with start script n = laid start.store (lines_with start script n)
+laid_with start script n = fold store_by start.store (take n (events_of start script))
 
 -- What a crash leaves of a run.
 pub record Headline (run : Run) (here left : Left) : Type 0 where
@@ -65,11 +65,11 @@ pub record Headline (run : Run) (here left : Left) : Type 0 where
       change_next run done ≡ clears → ¬ (left.store ≡ store_upto run done)
       → KnowsReadable (store_upto run done) (KnownBy account)
   -- Each readable record that was last put, or was there at the start, is in the store, or the account knows
-  -- its name. The exception is a record under the identifier under which the next event puts one.
+  -- its name, or the record that the next event puts has replaced it.
   pub kept :
       (id : ℕ) (bytes own : List ℕ) → last_upto run done id ≡ Some bytes → read_under id (filled bytes) ≡ Ok own
-      → ¬ PutsUnder (change_next run done) id
-      → (bytes_under id left.store ≡ Some bytes) ⊎ KnownBy account (stored_name own)
+      → HasPut (change_next run done) id left.store
+      ⊎ ((bytes_under id left.store ≡ Some bytes) ⊎ KnownBy account (stored_name own))
 
 -- What a run leaves if no call of the board failed: only whole events, exactly those that are done by what
 -- was printed. The store also depends on how the run ended.

@@ -18,7 +18,7 @@ use Rattle.ras_exit.specs.declared.exit.Exit.{Exit}
 use Rattle.ras_exit.specs.declared.exit.Exit.TheVariants.{DiskFault, NoMemory, PrintFault}
 use Rattle.ras_daemon.specs.Reporting.{ReportMoment}
 use Rattle.ras_run.specs.Files.{KeepsFiles, files_refusal}
-use Rattle.ras_run.specs.Places.{Start}
+use Rattle.ras_run.specs.Sites.{Start}
 use Rattle.ras_texts.specs.Orders.{standing_lines}
 use Rattle.ras_daemon.specs.Ahead.{TakesAhead}
 use Rattle.ras_daemon.specs.Headline.{Headline, IsWhole, NeverOpens, Settles, StopsRecover}

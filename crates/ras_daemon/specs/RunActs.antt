@@ -4,50 +4,51 @@ use Rattle.std.specs.Prelude.{◌≡◌, ℕ, List, [], ◌∷◌, ◌++◌, Opt
 use Rattle.board_core.specs.declared.board.DiskCall.{DiskCall}
 use Rattle.board_core.specs.Doing.{Act, FailsActs, accesses_of, after_acts, calls_of}
 use Rattle.board_core.specs.Told.{Told}
-use Rattle.ras_base.specs.Places.{places}
 use Rattle.ras_base.specs.Prefix.{IsPrefixOf}
 use Rattle.ras_recover.specs.OpeningActs.{AreOpeningActs}
-use Rattle.ras_events.specs.Reports.{NumberedLine, Place, event_at}
+use Rattle.ras_events.specs.Described.{NumberedLine}
+use Rattle.ras_run.specs.Sites.{Start, first_site}
+use Rattle.ras_run.specs.Places.{Place, event_at, places_from, site_at}
+use Rattle.ras_daemon.specs.Script.{reads_of, places_taken}
 use Rattle.ras_exit.specs.Acts.{print_acts}
 use Rattle.ras_exit.specs.Endings.{CallEnding, answered, faulted}
 use Rattle.ras_exit.specs.declared.exit.Exit.{Exit}
-use Rattle.ras_run.specs.LineActs.{AreLineActs, CanAsk, HoldsAfter, asking_acts}
-use Rattle.ras_run.specs.Places.{Start, account_at}
-use Rattle.ras_run.specs.Status.{places_before_refusal}
+use Rattle.ras_run.specs.LineActs.{AreLineActs, CanAsk, HoldsAt, asking_acts}
 use Rattle.ras_run.specs.Taking.{IsAccepted}
 use Rattle.ras_texts.specs.Orders.{standing_lines}
 use Rattle.ras_daemon.specs.RunOutput.{closing_line}
 use Rattle.ras_daemon.specs.RunStatus.{run_exit, script_refused}
-use Rattle.ras_daemon.specs.Script.{reads_of}
 
 -- the acts of lines at their places, one line after another, each over what the model says once the lines
 -- before it are done
-abbrev pub AreActsAlong : Start → List Place → Told → List Act → Type 0
-AreActsAlong start [] t acts = acts ≡ []
-AreActsAlong start (place ∷ places) t acts =
+abbrev pub AreAlong : (Place → Told → List Act → Type 0) → List Place → Told → List Act → Type 0
+AreAlong Are [] t acts = acts ≡ []
+AreAlong Are (place ∷ places) t acts =
     (here : List Act) × (rest : List Act) × (acts ≡ here ++ rest)
-    × AreLineActs start place t here × AreActsAlong start places (after_acts here t) rest
+    × Are place t here × AreAlong Are places (after_acts here t) rest
 
--- The acts of lines that are done, each over what the model says by then. The line's calls of the device
--- showed the model's device to be one.
-abbrev pub AreDoneAlong : Start → List Place → Told → List Act → Type 0
-AreDoneAlong start [] t acts = acts ≡ []
-AreDoneAlong start (place ∷ places) t acts =
-    (here : List Act) × (rest : List Act) × (acts ≡ here ++ rest)
-    × (CanAsk (event_at place) t × AreLineActs start place t here) × AreDoneAlong start places (after_acts here t) rest
+abbrev pub AreActsAlong : List Place → Told → List Act → Type 0
+AreActsAlong = AreAlong AreLineActs
+
+-- The acts of lines that are done. The line's calls of the device showed the model's device to be one.
+abbrev pub IsDoneAt : Place → Told → List Act → Type 0
+IsDoneAt place t acts = CanAsk (event_at place) t × AreLineActs place t acts
+
+abbrev pub AreDoneAlong : List Place → Told → List Act → Type 0
+AreDoneAlong = AreAlong IsDoneAt
 
 -- the print of the outstanding orders at the start, and the print of the last line after these lines
 abbrev pub orders_acts : Start → List Act
 orders_acts start = print_acts (standing_lines start.account)
 
 abbrev pub last_acts : Start → List NumberedLine → Exit → List Act
-last_acts start before exit = print_acts (closing_line (account_at start before) exit)
+last_acts start before exit = print_acts (closing_line (site_at start before).account exit)
 
 -- what the first refused line does, over what the model says by then: it asks the record store, if it is of a
 -- kind that does
 abbrev pub refused_acts : Option (Place × Exit) → Told → List Act
 refused_acts None t = []
-refused_acts (Some (place, why)) t = asking_acts place.0 (event_at place) t
+refused_acts (Some (place, why)) t = asking_acts place t
 
 abbrev pub script_asked : Start → List ℕ → Told → List Act
 script_asked start script t = refused_acts (script_refused start script) t
@@ -56,7 +57,7 @@ script_asked start script t = refused_acts (script_refused start script) t
 -- processed, the refused line asks the store, and the last line is printed.
 pub record AreScriptActs (start : Start) (script : List ℕ) (t : Told) (acts : List Act) : Type 0 where
   pub along : List Act
-  pub lines : AreActsAlong start (places_before_refusal start (places (reads_of script))) (after_acts (orders_acts start) t) along
+  pub lines : AreActsAlong (places_taken start script) (after_acts (orders_acts start) t) along
   pub is :
       acts
       ≡ orders_acts start
@@ -89,10 +90,10 @@ pub record TookAll (start : Start) (script : List ℕ) (t now : Told) : Type 0 w
   pub before : List NumberedLine
   pub rest : List NumberedLine
   pub splits : before ++ rest ≡ reads_of script
-  pub all : places_before_refusal start (places (reads_of script)) ≡ places before
-  pub accepted : AllByRecursion (IsAccepted start) (places before)
+  pub all : places_taken start script ≡ places_from (first_site start) before
+  pub accepted : AllByRecursion IsAccepted (places_from (first_site start) before)
   pub along : List Act
-  pub lines : AreDoneAlong start (places before) (after_acts (orders_acts start) t) along
+  pub lines : AreDoneAlong (places_from (first_site start) before) (after_acts (orders_acts start) t) along
   pub is :
       now
       ≡ after_acts
@@ -105,7 +106,7 @@ pub record TookAll (start : Start) (script : List ℕ) (t now : Told) : Type 0 w
 pub record DidAll (start : Start) (script : List ℕ) (old now : Told) : Type 0 where
   pub first : List Act
   pub opens : AreOpeningActs old.here first
-  pub holds : HoldsAfter start [] (after_acts first old)
+  pub holds : HoldsAt (first_site start) (after_acts first old)
   pub takes : TookAll start script (after_acts first old) now
 
 -- A run did its acts, by how it ended: all of them, or some of the acts of such a run.

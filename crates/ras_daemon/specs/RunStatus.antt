@@ -2,15 +2,15 @@
 use Rattle.std.specs.Prelude.{ℕ, List, [], ◌∷◌, Option, None, Some}
 use Rattle.std.specs.Option.{option_map_or}
 use Rattle.board_core.specs.Told.{Told}
-use Rattle.ras_base.specs.Places.{places}
-use Rattle.ras_account.specs.Account.{State}
+use Rattle.ras_account.specs.Account.{State, account_of}
+use Rattle.ras_account.specs.History.{empty}
 use Rattle.ras_recover.specs.Opening.{standing_opened}
-use Rattle.ras_events.specs.Reports.{Place}
+use Rattle.ras_run.specs.Sites.{Start}
+use Rattle.ras_run.specs.Places.{Place}
+use Rattle.ras_daemon.specs.Script.{places_of}
 use Rattle.ras_exit.specs.declared.exit.Exit.{Exit}
 use Rattle.ras_exit.specs.ScriptEnd.{script_exit}
-use Rattle.ras_run.specs.Places.{Start}
 use Rattle.ras_run.specs.Status.{refusal_at}
-use Rattle.ras_daemon.specs.Script.{reads_of}
 
 -- where a run starts over files that give an account, on a board whose model says this
 abbrev pub start_of : State → Told → Start
@@ -21,17 +21,21 @@ start_of account t = record {
   slow = t.volatile.slow;
 }
 
+-- where a run starts over empty files, with the empty account and no record, over a device that is never busy
+abbrev pub empty_start : Start
+empty_start = record { account = account_of empty; standing = standing_opened [] []; store = []; slow = 0 }
+
 -- the first refused line, at its place, and why it is refused
 abbrev pub refused_or : Option Exit → Place → Option (Place × Exit) → Option (Place × Exit)
 refused_or None place later = later
 refused_or (Some why) place later = Some (place, why)
 
-abbrev pub first_refused : Start → List Place → Option (Place × Exit)
-first_refused start [] = None
-first_refused start (place ∷ places) = refused_or (refusal_at start place) place (first_refused start places)
+abbrev pub first_refused : List Place → Option (Place × Exit)
+first_refused [] = None
+first_refused (place ∷ places) = refused_or (refusal_at place) place (first_refused places)
 
 abbrev pub script_refused : Start → List ℕ → Option (Place × Exit)
-script_refused start script = first_refused start (places (reads_of script))
+script_refused start script = first_refused (places_of start script)
 
 -- how a run over a script ends: as its first refused line says, or as the end of its list of lines does
 abbrev pub run_exit : Start → List ℕ → Exit

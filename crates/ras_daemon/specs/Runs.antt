@@ -9,16 +9,17 @@ use Rattle.ras_account.specs.Account.{State, account_of}
 use Rattle.ras_account.specs.History.{History, with_entries}
 use Rattle.ras_account.specs.Numbers.{fresh_entries_in}
 use Rattle.ras_events.specs.Events.{no_settings}
-use Rattle.ras_events.specs.Reports.{NumberedLine, entries_at, reports, settings_told}
+use Rattle.ras_events.specs.Described.{NumberedLine, settings_told}
+use Rattle.ras_run.specs.Sites.{Start, first_site}
+use Rattle.ras_run.specs.Places.{entries_at, reports}
+use Rattle.ras_daemon.specs.Script.{events_of, reads_in, reads_of}
 use Rattle.ras_events.specs.Sizes.{IsFact}
 use Rattle.ras_events.specs.Preparing.{orders_along_entries}
 use Rattle.ras_exit.specs.declared.exit.Exit.TheVariants.{Done}
-use Rattle.ras_run.specs.Places.{Start, account_at}
 use Rattle.ras_daemon.specs.Headline.{account_with, reported}
-use Rattle.ras_daemon.specs.RunStatus.{run_exit}
+use Rattle.ras_daemon.specs.RunStatus.{empty_start, run_exit}
 use Rattle.ras_script.specs.declared.line.Line.TheVariants.{Poll}
 use Rattle.ras_script.specs.Lines.{script_lines}
-use Rattle.ras_daemon.specs.Script.{events_of, reads_in, reads_of}
 
 -- a run begins with the account of a history
 abbrev pub BeginsWith : History → Start → Type 0
@@ -41,7 +42,7 @@ facts_of (other ∷ entries) = facts_of entries
 -- the orders that the first n events give, each after everything that was reported before it
 abbrev pub ordered : Start → List ℕ → ℕ → List Order
 ordered start script n =
-    flat_map (λ place. orders_along_entries (account_at start place.0) (entries_at start.store place)) (take n (events_of start script))
+    flat_map (λ place. orders_along_entries place.0.account (entries_at place)) (take n (events_of start script))
 
 -- how many events an uninterrupted run has
 abbrev pub event_count : Start → List ℕ → ℕ
@@ -81,5 +82,5 @@ pub record AreJoined (one other both : List ℕ) : Type 0 where
   pub one_is : (script_lines one).whole ≡ rows ++ first
   pub other_is : (script_lines other).whole ≡ rows ++ second
   pub both_is : (script_lines both).whole ≡ rows ++ (first ++ second)
-  pub silent : reports [] (reads_in rows) ≡ []
+  pub silent : reports (first_site empty_start) (reads_in rows) ≡ []
   pub untold : settings_told (reads_in first) ≡ no_settings

@@ -1,12 +1,11 @@
 -- The lines of a script that a run takes, and its events.
-use Rattle.std.specs.Prelude.{ℕ, Bool, true, false, List, map, Ok, filter}
+use Rattle.std.specs.Prelude.{ℕ, Bool, List, map, filter}
 use Rattle.std.specs.List.{enumerate_from}
-use Rattle.ras_base.specs.Places.{places}
-use Rattle.ras_script.specs.Line.{line_of}
+use Rattle.ras_script.specs.Line.{is_asking, line_of}
 use Rattle.ras_script.specs.Lines.{script_lines}
-use Rattle.ras_script.specs.declared.line.Line.TheVariants as asks
-use Rattle.ras_events.specs.Reports.{NumberedLine, Place}
-use Rattle.ras_run.specs.Places.{Start}
+use Rattle.ras_events.specs.Described.{NumberedLine}
+use Rattle.ras_run.specs.Sites.{Start, first_site}
+use Rattle.ras_run.specs.Places.{Place, places_from}
 use Rattle.ras_run.specs.Status.{places_before_refusal}
 
 -- what lines ask for, numbered from 1
@@ -19,9 +18,15 @@ reads_of script = reads_in (script_lines script).whole
 
 -- An empty line and a comment aren't events. A line that can't be parsed is an event that ends the run.
 abbrev pub is_event : Place → Bool
-is_event (before, (number, Ok asks.Nothing)) = false
-is_event place = true
+is_event place = is_asking place.1.1
 
--- the events of a script before the first refused line, each with all the lines before it
+-- the lines of a script at their places, and those before the first refused one
+abbrev pub places_of : Start → List ℕ → List Place
+places_of start script = places_from (first_site start) (reads_of script)
+
+abbrev pub places_taken : Start → List ℕ → List Place
+places_taken start script = places_before_refusal (places_of start script)
+
+-- the events among these
 abbrev pub events_of : Start → List ℕ → List Place
-events_of start script = filter is_event (places_before_refusal start (places (reads_of script)))
+events_of start script = filter is_event (places_taken start script)

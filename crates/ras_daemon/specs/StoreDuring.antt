@@ -24,10 +24,10 @@ abbrev pub StoreDuring : StoreChange → List Stored → List Stored → Type 0
 StoreDuring clears store left = ClearsFirst store left
 StoreDuring change store left = Becomes (store_changed store change) store left
 
--- a change puts a record under this identifier
-abbrev pub PutsUnder : StoreChange → ℕ → Type 0
-PutsUnder (puts r) id = r.id ≡ id
-PutsUnder change id = ⊥
+-- a change puts a record under this identifier, and the store has that record
+abbrev pub HasPut : StoreChange → ℕ → List Stored → Type 0
+HasPut (puts r) id store = (r.id ≡ id) × (bytes_under id store ≡ Some r.bytes)
+HasPut change id store = ⊥
 
 -- an account knows a name
 abbrev pub KnownBy : State → Name → Type 0

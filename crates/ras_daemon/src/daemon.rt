@@ -7,7 +7,8 @@ ghost use Rattle.board_core.specs.Told.{Told};
 ghost use Rattle.ras_exit.specs.Endings.{OnAnswer};
 ghost use Rattle.ras_journal.specs.Recovered.{HasFewLinks};
 ghost use Rattle.ras_recover.specs.DiskCalls.{IsBeginning, Makes};
-ghost use Rattle.ras_run.specs.Places.{Start};
+ghost use Rattle.ras_run.specs.Sites.{Start};
+ghost use Rattle.ras_daemon.specs.Script.{events_of};
 ghost use Rattle.ras_events.specs.DoneLines.{done_count};
 ghost use Rattle.ras_daemon.specs.Ahead.{TakesBy, TakesRecordBy};
 ghost use Rattle.ras_daemon.specs.Commands.{ByTask, MayEnd};
@@ -18,7 +19,6 @@ ghost use Rattle.ras_daemon.specs.RunActs.{AreRunCalls, ListsAccesses};
 ghost use Rattle.ras_daemon.specs.RunOutput.{run_output};
 ghost use Rattle.ras_daemon.specs.RunStatus.{run_exit};
 ghost use Rattle.ras_daemon.specs.Runs.{event_count};
-ghost use Rattle.ras_daemon.specs.Script.{events_of};
 ghost use Rattle.ras_daemon.specs.Task.{ReadsBy, task_of};
 
 use crate::ending::last_line;

@@ -21,7 +21,6 @@ use std::alloc::Global;
 /// # Errors
 ///
 /// `NoMemory`: only if memory runs out.
-/// `NoMemory` comes only if memory runs out.
 pub fn closing_line(alloc: Global, exit: Exit, account: &Account) -> Result<Vec<u8>, NoMemory>
     ensures { IfOk result (λ line. line.items ≡ closing_line account.now.state exit) }
 {

@@ -14,11 +14,12 @@ ghost use Rattle.ras_account.specs.Asked.{replace_order};
 ghost use Rattle.ras_account.specs.Fresh.{fresh_entries};
 ghost use Rattle.ras_account.specs.Modules.{Module, has_tripped};
 ghost use Rattle.ras_account.specs.Orders.{orders, orders_since_mark};
-ghost use Rattle.ras_run.specs.Places.{Start};
+ghost use Rattle.ras_events.specs.Described.{rows_told};
+ghost use Rattle.ras_run.specs.Sites.{Start};
+ghost use Rattle.ras_daemon.specs.Script.{events_of, reads_in};
 ghost use Rattle.ras_script.specs.Lines.{script_lines};
 ghost use Rattle.bank_lines.specs.Texts.{asks_in};
 ghost use Rattle.ras_account.specs.Continued.{account_after_all};
-ghost use Rattle.ras_events.specs.Reports.{rows_told};
 ghost use Rattle.ras_facts.specs.declared.bank.BankReport.{BankReport};
 ghost use Rattle.ras_daemon.specs.Feeding.{IsFed, asked_by, bank_entries};
 ghost use Rattle.ras_daemon.specs.Headline.{account_with, laid_with};
@@ -30,7 +31,6 @@ ghost use Rattle.ras_daemon.specs.Runs.{AreJoined, BeginsWith, CountTheSame, Fol
 ghost use Rattle.ras_daemon.specs.Runs.{IsTakenWhole, PollsNothing};
 ghost use Rattle.ras_daemon.specs.Runs.{ReportsFacts, event_count, facts_of, history_after};
 ghost use Rattle.ras_daemon.specs.Runs.{logged, ordered};
-ghost use Rattle.ras_daemon.specs.Script.{events_of, reads_in};
 
 /// What holds of runs on one journal.
 pub fn run_laws()
@@ -162,7 +162,7 @@ pub fn feeding_laws()
     // So if a script has the machine description and then lines that ask for reports of banks, the
     // run leaves the account at its start with these reports.
     ensures account { (start : Start) (rows : List (List ℕ)) (banks : List BankReport)
-        (script : List ℕ) → IsFed start.store rows banks script → IsTakenWhole start script
+        (script : List ℕ) → IsFed start rows banks script → IsTakenWhole start script
         → account_with start script (event_count start script) ≡ account_after_all start.account
         (bank_entries (rows_told (reads_in rows)) banks) }
 {}

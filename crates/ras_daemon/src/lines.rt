@@ -3,10 +3,10 @@
 ghost use Rattle.std.specs.Prelude.{◌≡◌, ℕ, List, [], Some};
 ghost use Rattle.board_core.specs.Told.{Told};
 ghost use Rattle.line_filters.specs.Numbered.{no_lines};
-ghost use Rattle.line_filters.specs.Steps.Filtering.{exit_of};
-ghost use Rattle.ras_run.specs.LineActs.{HoldsAfter};
-ghost use Rattle.ras_run.specs.Places.{Start};
-ghost use Rattle.ras_run.specs.Taking.{IsReady, IsRunAfter};
+ghost use Rattle.line_filters.specs.Filters.{exit_of};
+ghost use Rattle.ras_run.specs.LineActs.{HoldsAt};
+ghost use Rattle.ras_run.specs.Sites.{IsRunAt, Start, first_site};
+ghost use Rattle.ras_run.specs.Taking.{IsReady};
 ghost use Rattle.ras_daemon.specs.Ahead.{TakesBy};
 ghost use Rattle.ras_daemon.specs.Steps.Doing.{ComesLines, EndsLines};
 
@@ -33,8 +33,8 @@ pub fn take_lines<S: Source, B: Board>(
     requires fresh { lines.old ≡ no_lines }
     requires ready { IsReady run.old.ledger (B.seen board.old).told (B.seen board.old).clock }
 
-    ensures comes { (start : Start) (script : List ℕ) (t : Told) → IsRunAfter start [] run.old
-        → S.left source.old ≡ Some script → (B.seen board.old).told ≡ Some t → HoldsAfter start [] t
+    ensures comes { (start : Start) (script : List ℕ) (t : Told) → IsRunAt (first_site start) run.old
+        → S.left source.old ≡ Some script → (B.seen board.old).told ≡ Some t → HoldsAt (first_site start) t
         → ComesLines B.seen start script t result run.new
         (S.left source.new) board.old board.new }
     ensures takes { TakesBy (exit_of result) (S.left source.old) (S.left source.new) }

@@ -11,8 +11,8 @@ ghost use Rattle.ras_load.specs.LoadScript.{load_script};
 ghost use Rattle.ras_load.specs.Summary.{class_total};
 ghost use Rattle.ras_load.specs.declared.script.TheConstants.{MOST_LINES};
 ghost use Rattle.ras_daemon.specs.Commands.{IsLoadExit, OnlyTells};
-ghost use Rattle.ras_daemon.specs.Loading.{load_account, load_output, load_start};
-ghost use Rattle.ras_daemon.specs.RunStatus.{run_exit};
+ghost use Rattle.ras_daemon.specs.Loading.{load_account, load_output};
+ghost use Rattle.ras_daemon.specs.RunStatus.{empty_start, run_exit};
 
 use crate::ending::last_line;
 use crate::running::run;
@@ -68,7 +68,7 @@ pub fn loading_laws()
     // No line is refused, because the account and the journal have room for all reports. So a run
     // over empty files reaches its end.
     ensures taken { (n : ℕ) → n ≤ MOST_LINES
-        → run_exit load_start (load_script n) ≡ Exit.Done }
+        → run_exit empty_start (load_script n) ≡ Exit.Done }
 
     // Each report counts as one corrected error, except every tenth, which repeats the report
     // before it.

@@ -4,8 +4,8 @@ ghost use Rattle.std.specs.Prelude.{◌≡◌, ℕ, List, Some};
 ghost use Rattle.board_core.specs.Told.{Told};
 ghost use Rattle.ras_account.specs.Accounts.{IsAccount};
 ghost use Rattle.line_filters.specs.Numbered.{no_lines};
-ghost use Rattle.line_filters.specs.Steps.Filtering.{exit_of};
-ghost use Rattle.ras_run.specs.Places.{Start};
+ghost use Rattle.line_filters.specs.Filters.{exit_of};
+ghost use Rattle.ras_run.specs.Sites.{Start};
 ghost use Rattle.ras_run.specs.Taking.{IsReady};
 ghost use Rattle.ras_daemon.specs.Ahead.{TakesBy};
 ghost use Rattle.ras_daemon.specs.Commands.{IsRunExit};
@@ -18,7 +18,7 @@ use crate::Task;
 use crate::ending::end_run;
 use crate::lines::take_lines;
 use board_core::{Board, Source};
-use line_filters::NumberedLines;
+use line_filters::{NumberedLines, exit_of};
 use ras_account::Account;
 use ras_base::NoMemory;
 use ras_events::Settings;
@@ -84,14 +84,4 @@ fn take_script<S: Source, B: Board>(
         Err(exit) => Err(exit),
     };
     end_run(alloc, exit_of(ended), &run.ledger.account, board)
-}
-
-// Returns the exit of a run that ended so.
-fn exit_of(ended: Result<(), Exit>) -> Exit
-    ensures { result ≡ exit_of ended }
-{
-    match ended {
-        Ok(()) => Exit::Done,
-        Err(exit) => exit,
-    }
 }

@@ -82,7 +82,7 @@ done_counts number more =
 
 -- ---- a beginning of a text
 
-last_kept : (xs more : List (List ℕ)) → 0 < length more → without_last (xs ++ more) ≡ xs ++ without_last more
+pub last_kept : (xs more : List (List ℕ)) → 0 < length more → without_last (xs ++ more) ≡ xs ++ without_last more
 last_kept [] more some = refl
 last_kept (x ∷ xs) more some =
     let longer : 0 < length (xs ++ more) = omega (arith, length-append xs more) in

@@ -6,7 +6,7 @@ pub mod TakingLemmas
 pub mod HistoryLemmas
 pub mod ReadyLemmas
 pub mod FitLemmas
-pub mod ReportLemmas
+pub mod DescribedLemmas
 pub mod RepeatLemmas
 pub mod PollLemmas
 pub mod StoreLemmas

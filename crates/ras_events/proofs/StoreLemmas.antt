@@ -1,19 +1,10 @@
--- What the lines of a script do to the record store, cut in two, and what a poll leaves of it.
-use Rattle.std.proofs.Common.{◌≡◌, ◌∙◌, ℕ, Bool, true, false, not, nat_eq, cond, if◌then◌else◌, List, [], ◌∷◌, ◌++◌, Some, refl, ap, arith}
-use Rattle.std.specs.List.{fold}
+-- What a poll leaves of the record store.
+use Rattle.std.proofs.Common.{◌≡◌, ◌∙◌, ℕ, Bool, true, false, not, nat_eq, cond, if◌then◌else◌, List, [], ◌∷◌, Some, refl, ap, arith}
 use Rattle.std.specs.Result.{is_ok}
 use Rattle.std.proofs.lemmas.Bool.Decides.{nat_tests}
-use Rattle.std.proofs.lemmas.List.Sums.{fold-append}
 use Rattle.cper_records.specs.Readable.{filled, read_under}
 use Rattle.erst_store.specs.Store.{Stored, bytes_under}
-use Rattle.ras_events.specs.Stores.{NumberedLine, found_after, is_readable, laid, last_laid, store_after, unreadable}
-
-pub laid-cut : (store : List Stored) (first others : List NumberedLine) → laid store (first ++ others) ≡ laid (laid store first) others
-laid-cut store first others = fold-append store_after store first others
-
-pub last_laid-cut : (store : List Stored) (first others : List NumberedLine) (id : ℕ)
-    → last_laid store (first ++ others) id ≡ fold (found_after id) (last_laid store first id) others
-last_laid-cut store first others id = fold-append (found_after id) (bytes_under id store) first others
+use Rattle.ras_events.specs.Stores.{is_readable, unreadable}
 
 pub same_id : (a b : ℕ) → nat_eq a b ≡ true → a ≡ b
 same_id a b is = grind (arith, nat_tests)

@@ -1,5 +1,5 @@
 -- What an event does, whatever its kind: one deed.
-use Rattle.std.specs.Prelude.{ℕ, Bool, true, false, List, Option, None, Some, Result, Ok}
+use Rattle.std.specs.Prelude.{ℕ, Bool, true, false, List, [], Option, None, Some, Result, Ok, unwrap_or}
 use Rattle.dimm_topology.specs.declared.row.Row.{Row}
 use Rattle.erst_store.specs.Store.{Stored}
 use Rattle.ras_events.specs.declared.event.Event.{Event}
@@ -47,3 +47,7 @@ abbrev pub counted_in : List Row → List Stored → Asking → Option (List Pie
 counted_in rows store nothing reported = reported
 counted_in rows store (polls seconds) reported = Some (polled rows seconds store)
 counted_in rows store asks reported = None
+
+-- the pieces of an event, by the rows of the machine and the records of the store at that time
+abbrev pub made_in : List Row → List Stored → Result Event LineRefusal → List Piece
+made_in rows store event = unwrap_or (counted_in rows store (deed_of event).asks (deed_of event).reported) []

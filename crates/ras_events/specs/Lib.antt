@@ -4,7 +4,7 @@ pub mod Deeds
 pub mod Events
 pub mod Sizes
 pub mod Texts
-pub mod Reports
+pub mod Described
 pub mod Preparing
 pub mod Repeats
 pub mod DoneLines

@@ -9,11 +9,10 @@ ghost use Rattle.ras_facts.specs.declared.bank.BankReport.{BankReport};
 ghost use Rattle.ras_panic.specs.Panics.{panic_bytes};
 ghost use Rattle.ras_panic.specs.Reports.{FitsFields};
 ghost use Rattle.ras_facts.specs.Reports.{bank_report};
-ghost use Rattle.std.specs.List.{flat_map, fold};
+ghost use Rattle.std.specs.List.{fold};
 ghost use Rattle.std.specs.Result.{is_ok};
 ghost use Rattle.cper_records.specs.Readable.{filled, read_under};
 ghost use Rattle.erst_store.specs.Store.{Stored, bytes_under};
-ghost use Rattle.ras_base.specs.Places.{places_behind};
 ghost use Rattle.ras_facts.specs.declared.entry.Entry.{Entry};
 ghost use Rattle.ras_account.specs.Account.{State, account_of};
 ghost use Rattle.ras_account.specs.Continued.{account_after_all};
@@ -21,12 +20,11 @@ ghost use Rattle.ras_account.specs.Fresh.{fresh_entries};
 ghost use Rattle.ras_account.specs.History.{History, with_entries};
 ghost use Rattle.ras_account.specs.Numbers.{fresh_entries_in};
 ghost use Rattle.ras_texts.specs.Orders.{order_lines};
-ghost use Rattle.ras_script.specs.declared.line.Line.{Line};
-ghost use Rattle.ras_events.specs.Events.{settings_after};
-ghost use Rattle.ras_events.specs.Reports.{NumberedLine, entries_at, reports, settings_told};
+ghost use Rattle.ras_events.specs.Described.{NumberedLine, settings_read, settings_told};
+ghost use Rattle.ras_events.specs.Events.{no_settings};
 ghost use Rattle.ras_events.specs.declared.made.Piece.{Piece};
 ghost use Rattle.ras_events.specs.Making.{entries_in, made_by_report, polled};
-ghost use Rattle.ras_events.specs.Stores.{found_after, laid, last_laid, unreadable};
+ghost use Rattle.ras_events.specs.Stores.{unreadable};
 ghost use Rattle.ras_events.specs.Preparing.{event_text_in, orders_along_entries, text_along};
 ghost use Rattle.ras_events.specs.Texts.{event_text, orders_of_entries, pieces_text};
 
@@ -66,29 +64,15 @@ pub fn event_laws()
         → event_text_in (account_of history) made ≡ event_text history made }
 {}
 
-/// What holds of the machine description and the reports of a script's lines.
-pub fn report_laws()
-    // What a line says of the machine applies from the next line on.
-    ensures settings { (before : List NumberedLine) (number : ℕ) (line : Line)
-        → settings_told (before ++ (number, Ok line) ∷ [])
-        ≡ settings_after (settings_told before) line }
-
-    // Lines report what the first of them report, and then what the others report after the first.
-    ensures cut { (store : List Stored) (first others : List NumberedLine)
-        → reports store (first ++ others)
-        ≡ reports store first ++ flat_map (entries_at store) (places_behind first others) }
+/// What holds of the machine description: what each line says of the machine applies from the next
+/// line on, so after lines it is what all of them tell.
+pub fn settings_laws()
+    ensures told { (reads : List NumberedLine)
+        → fold settings_read no_settings reads ≡ settings_told reads }
 {}
 
-/// What holds of the record store after lines.
+/// What holds of the record store.
 pub fn store_laws()
-    // The store after lines is what the later lines leave of what the first lines left. The same
-    // holds of the last record stored under an identifier.
-    ensures laid { (store : List Stored) (first others : List NumberedLine)
-        → laid store (first ++ others) ≡ laid (laid store first) others }
-    ensures last { (store : List Stored) (first others : List NumberedLine) (id : ℕ)
-        → last_laid store (first ++ others) id
-        ≡ fold (found_after id) (last_laid store first id) others }
-
     // A poll leaves bytes that can't be read under their identifier.
     ensures unread { (id : ℕ) (bytes : List ℕ) (store : List Stored)
         → IsFalse (is_ok (read_under id (filled bytes)))

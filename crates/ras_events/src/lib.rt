@@ -17,7 +17,7 @@ mod whole_lines;
 
 pub use done_lines::{done_lines_count, done_lines_count_events};
 pub use event::{Event, EventRefused, LineRefusal};
-pub use laws::{event_laws, poll_laws, report_laws, store_laws};
+pub use laws::{event_laws, poll_laws, settings_laws, store_laws};
 pub use made::{Made, Piece};
 pub use preparing::{News, PrepareRefused, Prepared, count, prepare};
 pub use printed::printed_lines_are_quiet;

@@ -325,8 +325,8 @@ fn name_of(held: Held) -> FileName
     }
 }
 
-// Makes a journal file durable that is only read. What a run wrote there before it ended may not be
-// durable yet.
+// Makes a journal file durable that is only read: a run may have written there and not yet synced
+// it.
 fn sync_to_read<K: Kernel>(kernel: &mut K, file: FileNo) -> Result<(), Refusal>
     ensures told { OnOk result (Did (synced (Journal file)) (K.told kernel.old)
         (K.told kernel.new)) }
@@ -398,9 +398,9 @@ fn remove_new<K: Kernel>(kernel: &mut K) -> Result<(), Refusal>
     kernel.leave()
 }
 
-// Makes the names durable. A run keeps its files, a report keeps none. What a run reported is
-// durable, because the run itself made the names durable first. So a report continues where it may
-// search the folder but not open it, or where the folder can't be synced, as it does with a file.
+// Makes the names durable. A run keeps its files, a report keeps none. A run made the names durable
+// before it reported anything. So a report continues where it may search the folder but not open
+// it, or where the folder can't be synced, as it does with a file.
 fn sync_folders<K: Kernel>(kernel: &mut K) -> Result<(), Refusal>
     ensures told { OnOk result (Did synced_names (K.told kernel.old) (K.told kernel.new)) }
     ensures failed { OnErr result (K.told kernel.new ≡ K.told kernel.old) }

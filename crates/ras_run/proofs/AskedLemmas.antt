@@ -21,7 +21,7 @@ use Rattle.ras_events.specs.Deeds.{Asking, Deed, nothing, polls, puts, saves}
 use Rattle.ras_run.specs.Deeds.{store_asked}
 use Rattle.ras_run.specs.LineActs.{CanAskFor, asking_calls}
 use Rattle.ras_run.specs.Moments.{IsBegun, course_to}
-use Rattle.ras_run.specs.Step.{Site, driving_lists}
+use Rattle.ras_run.specs.Sites.{Site, driving_lists}
 use Rattle.ras_run.proofs.DrivesLemmas.{Drives}
 use Rattle.ras_run.proofs.DeviceActLemmas.{calls_leave}
 use Rattle.ras_run.proofs.StoreLemmas.{put_store}

@@ -27,7 +27,7 @@ use Rattle.ras_exit.specs.declared.exit.Exit.TheVariants.{Full, PrintFault}
 use Rattle.ras_exit.proofs.EndingLemmas.{ends_weaker}
 use Rattle.ras_exit.proofs.PrintLemmas.{as_part}
 use Rattle.ras_run.specs.LineActs.{event_prints, made_acts, news_acts, told_acts}
-use Rattle.ras_run.specs.Places.{has_no_room_for, lacks_room_for, standing_with_news}
+use Rattle.ras_run.specs.News.{has_no_room_for, lacks_room_for, standing_with_news}
 use Rattle.ras_run.specs.Taking.{CountsMade, CountsNews, CountsPolled, IsPrintExit}
 
 -- ---- room

@@ -33,9 +33,9 @@ use Rattle.ras_run.specs.LineActs.{AreFollowingIn, clearing_calls, deed_acts, ne
 use Rattle.ras_run.specs.LineCalls.{AreDeedCalls, AreNewsCalls}
 use Rattle.ras_recover.specs.OpeningCalls.{IsRecoveryOf}
 use Rattle.ras_run.specs.Moments.{Course, CourseMoment, course_to, store_left}
-use Rattle.ras_run.specs.Places.{has_no_room_for, standing_with_news}
+use Rattle.ras_run.specs.News.{has_no_room_for, standing_with_news}
 use Rattle.ras_run.specs.Status.{asking_refusal, deed_refusal, room_refusal}
-use Rattle.ras_run.specs.Step.{Site, driving_lists}
+use Rattle.ras_run.specs.Sites.{Site, driving_lists}
 use Rattle.ras_run.proofs.AskedLemmas.{BoardAsked, HasAsked, asked_told, board_kept}
 use Rattle.ras_run.proofs.CountLemmas.{no_or, within_past}
 use Rattle.ras_run.proofs.CourseLemmas.{done_moment}

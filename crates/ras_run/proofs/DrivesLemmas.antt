@@ -1,27 +1,28 @@
 -- A line that drives the record store has admitted lists by which it does.
-use Rattle.std.proofs.Common.{◌≡◌, List, Result, Ok, Err, refl}
+use Rattle.std.proofs.Common.{◌≡◌, [], Option, Result, Ok, Err, ap, refl, subst, sym, unwrap_or}
 use Rattle.erst_interp.specs.Admission.{IsAdmittedTable}
+use Rattle.erst_interp.proofs.AdmitsLemmas.{is-admitted}
 use Rattle.ras_script.specs.declared.line.Line.{Line}
 use Rattle.ras_events.specs.declared.event.Event.{Event}
 use Rattle.ras_events.specs.declared.event.LineRefusal.{LineRefusal}
 use Rattle.ras_events.specs.Events.{Lists, event_of}
-use Rattle.ras_events.specs.Reports.{NumberedLine, Place, event_at, settings_told}
 use Rattle.ras_events.specs.Deeds.{Asking, deed_of}
-use Rattle.ras_run.specs.LineActs.{lists_after}
-use Rattle.ras_run.proofs.AdmittedLemmas.{after_admitted}
+use Rattle.ras_run.specs.Places.{Place, deed_at}
+use Rattle.ras_run.specs.Sites.{IsDrivable, Site, driving_lists}
 use Rattle.ras_run.proofs.DrivenLemmas.{IsByDriver, driven}
 
 -- the lists are admitted, if it is asked for what is done by them
 abbrev pub Drives : Lists → Asking → Type 0
 Drives lists asks = IsByDriver asks → IsAdmittedTable lists
 
-line_drives : (before : List NumberedLine) (line : Line) → Drives (lists_after before) (deed_of (event_of (settings_told before) line)).asks
-line_drives before line = by (event_of (settings_told before) line) refl
+line_drives : (site : Site) (line : Line) → IsDrivable site.settings.driver → Drives (driving_lists site) (deed_of (event_of site.settings line)).asks
+line_drives site line drivable = by (event_of site.settings line) refl
   where
-    by : (e : Result Event LineRefusal) → event_of (settings_told before) line ≡ e → Drives (lists_after before) (deed_of e).asks
-    by (Ok event) is = λ needs. (let found = driven (settings_told before) line event is needs in after_admitted before found.lists found.driver)
+    by : (e : Result Event LineRefusal) → event_of site.settings line ≡ e → Drives (driving_lists site) (deed_of e).asks
+    by (Ok event) is = λ needs. (let found = driven site.settings line event is needs in
+        subst IsAdmittedTable (sym (ap (λ (o : Option Lists). unwrap_or o []) found.driver)) (is-admitted found.lists (subst IsDrivable found.driver drivable)))
     by (Err why) is = λ never. absurd never
 
-pub place_drives : (place : Place) → Drives (lists_after place.0) (deed_of (event_at place)).asks
-place_drives (before, (number, Ok line)) = line_drives before line
-place_drives (before, (number, Err why)) = λ never. absurd never
+pub place_drives : (place : Place) → IsDrivable place.0.settings.driver → Drives (driving_lists place.0) (deed_at place).asks
+place_drives (site, (number, Ok line)) drivable = line_drives site line drivable
+place_drives (site, (number, Err why)) drivable = λ never. absurd never

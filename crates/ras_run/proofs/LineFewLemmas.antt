@@ -1,5 +1,5 @@
 -- No file that stands has more than 256 links at a moment of a line, or once it is done.
-use Rattle.std.proofs.Common.{◌≡◌, ◌∙◌, ℕ, false, List, [], ◌∷◌, ◌++◌, map, None, Result, refl, sym, ap, subst, inl, inr}
+use Rattle.std.proofs.Common.{◌≡◌, ◌∙◌, ℕ, false, List, [], ◌∷◌, ◌++◌, map, None, refl, sym, ap, subst, inl, inr}
 use Rattle.board_core.specs.Doing.{Act, DeviceCall, Moment, after_acts, calls}
 use Rattle.board_core.specs.Stop.{Begins, InOut, Left}
 use Rattle.board_core.specs.Told.{Told, after_print}
@@ -15,23 +15,19 @@ use Rattle.ras_journal.specs.File.{AreLinksFew}
 use Rattle.ras_journal.specs.Recovered.{HasFewLinks, IsAt}
 use Rattle.ras_run.specs.Keeping.{lacks_room}
 use Rattle.ras_run.proofs.KeepingLemmas.{keeping_few, keeping_few_done}
-use Rattle.ras_events.specs.declared.event.Event.{Event}
-use Rattle.ras_events.specs.declared.event.LineRefusal.{LineRefusal}
 use Rattle.ras_events.specs.declared.made.Piece.{Piece}
 use Rattle.ras_events.specs.Making.{entries_in}
-use Rattle.ras_events.specs.Reports.{NumberedLine, Place, event_at}
 use Rattle.ras_events.specs.Sizes.{IsFit}
 use Rattle.ras_records.proofs.ClearingLemmas.{calls_keep}
-use Rattle.ras_script.specs.declared.line.Line.{Line}
-use Rattle.ras_script.specs.declared.line.LineRefused.{LineRefused}
 use Rattle.ras_exit.specs.Acts.{print_acts}
 use Rattle.ras_exit.proofs.PrintLemmas.{after_printed, print_moment}
-use Rattle.ras_events.specs.Deeds.{Deed, deed_of}
+use Rattle.ras_events.specs.Deeds.{Deed}
 use Rattle.ras_run.specs.Deeds.{deed_done, deed_pieces, deed_text}
-use Rattle.ras_run.specs.LineActs.{AreFollowingIn, AreLineActs, CanAsk, HoldsAfter, asking_acts, asking_calls, clearing_calls, deed_acts, lists_after, news_acts, telling_acts}
-use Rattle.ras_run.specs.Places.{Start, has_no_room_for, lacks_room_for}
+use Rattle.ras_run.specs.LineActs.{AreFollowing, AreFollowingIn, AreLineActs, CanAsk, HoldsAt, asking_acts, asking_calls, clearing_calls, deed_acts, news_acts, telling_acts}
+use Rattle.ras_run.specs.News.{has_no_room_for, lacks_room_for}
 use Rattle.ras_run.specs.Status.{deed_refusal}
-use Rattle.ras_run.specs.Step.{Site, driving_lists, site_at}
+use Rattle.ras_run.specs.Places.{Place, deed_at, event_at}
+use Rattle.ras_run.specs.Sites.{Site, driving_lists}
 use Rattle.ras_run.specs.Taking.{IsAccepted}
 use Rattle.ras_run.proofs.AskedLemmas.{HasAsked}
 use Rattle.ras_run.proofs.DeedLemmas.{has_room, read_asked}
@@ -65,11 +61,11 @@ kept_few : (t u : Told) → KeepsButDevice t u → HasFewLinks t.here → HasFew
 kept_few t u keeps few = stored_few t.here u.here keeps.here few
 
 -- over what a line asks
-pub asking_few : (before : List NumberedLine) (event : Result Event LineRefusal) (t : Told) → HasFewLinks t.here → (left : Left) → Moment (asking_acts before event t) t left → HasFewLinks left
-asking_few before event t few left moment = device_few (asking_calls (lists_after before) (deed_of event).asks t) t left few moment
+pub asking_few : (place : Place) (t : Told) → HasFewLinks t.here → (left : Left) → Moment (asking_acts place t) t left → HasFewLinks left
+asking_few place t few left moment = device_few (asking_calls (driving_lists place.0) (deed_at place).asks t) t left few moment
 
-asked_few : (before : List NumberedLine) (event : Result Event LineRefusal) (t : Told) → HasFewLinks t.here → HasFewLinks (after_acts (asking_acts before event t) t).here
-asked_few before event t few = kept_few t (after_acts (asking_acts before event t) t) (calls_keep (asking_calls (lists_after before) (deed_of event).asks t) t) few
+asked_few : (place : Place) (t : Told) → HasFewLinks t.here → HasFewLinks (after_asked place t).here
+asked_few place t few = kept_few t (after_asked place t) (calls_keep (asking_calls (driving_lists place.0) (deed_at place).asks t) t) few
 
 -- ---- over what is made of a line
 
@@ -173,33 +169,29 @@ module _ (site : Site) (number : ℕ) (deed : Deed) (u : Told) (asked : HasAsked
 
 -- ---- over a line that is accepted
 
-module _ (start : Start) (before : List NumberedLine) (number : ℕ) (line : Result Line LineRefused) where
-  abbrev place : Place
-  place = (before, (number, line))
+module _ (place : Place) (t : Told) (holds : HoldsAt place.0 t) (can : CanAsk (event_at place) t) (few : HasFewLinks t.here) (acts : List Act) (are : AreLineActs place t acts) (accepted : IsAccepted place) where
+  abbrev site : Site
+  site = place.0
 
-  abbrev deed : Deed
-  deed = deed_of (event_at place)
+  abbrev number : ℕ
+  number = place.1.0
 
-  module _ (t : Told) (holds : HoldsAfter start before t) (can : CanAsk (event_at place) t) (few : HasFewLinks t.here) (acts : List Act) (are : AreLineActs start place t acts) (accepted : IsAccepted start place) where
-    abbrev now : Told
-    now = after_asked before (event_at place) t
+  abbrev now : Told
+  now = after_asked place t
 
-    now_few : HasFewLinks now.here
-    now_few = asked_few before (event_at place) t few
+  abbrev taken : deed_refusal site number (deed_at place) ≡ None
+  taken = deed_taken site number (event_at place) accepted.taken
 
-    abbrev taken : deed_refusal (site_at start before) number deed ≡ None
-    taken = deed_taken (site_at start before) number (event_at place) accepted.taken
+  abbrev follow : AreFollowing place now are.rest
+  follow = event_acts place t acts are accepted.taken
 
-    pub line_few : (left : Left) → Moment acts t left → HasFewLinks left
-    line_few left moment = elim (moment_parts (asking_acts before (event_at place) t) are.rest t left (subst (λ (l : List Act). Moment l t left) are.is moment)) [
-      | inl asking ↦ asking_few before (event_at place) t few left asking
-      | inr later ↦
-          follow_few (site_at start before) number deed now (line_asked start before number line t holds can) now_few taken accepted.fit are.rest
-          (event_acts start place t acts are accepted.taken) left later
-    ]
+  pub line_few : (left : Left) → Moment acts t left → HasFewLinks left
+  line_few left moment = elim (moment_parts (asking_acts place t) are.rest t left (subst (λ (l : List Act). Moment l t left) are.is moment)) [
+    | inl asking ↦ asking_few place t few left asking
+    | inr later ↦ follow_few site number (deed_at place) now (line_asked place t holds can) (asked_few place t few) taken accepted.fit are.rest follow left later
+  ]
 
-    pub line_few_done : HasFewLinks (after_acts acts t).here
-    line_few_done =
-        subst (λ (u : Told). HasFewLinks u.here) (sym (acts_then start place t acts are))
-        (follow_few_done (site_at start before) number deed now (line_asked start before number line t holds can) now_few taken accepted.fit are.rest
-        (event_acts start place t acts are accepted.taken))
+  pub line_few_done : HasFewLinks (after_acts acts t).here
+  line_few_done =
+      subst (λ (u : Told). HasFewLinks u.here) (sym (acts_then place t acts are))
+      (follow_few_done site number (deed_at place) now (line_asked place t holds can) (asked_few place t few) taken accepted.fit are.rest follow)

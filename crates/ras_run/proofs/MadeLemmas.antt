@@ -28,7 +28,7 @@ use Rattle.ras_exit.specs.declared.exit.Exit.TheVariants.{Full}
 use Rattle.ras_exit.specs.Acts.{print_acts}
 use Rattle.ras_run.specs.LineActs.{news_acts, telling_acts}
 use Rattle.ras_run.specs.Moments.{Course, CourseMoment}
-use Rattle.ras_run.specs.Places.{has_no_room_for, lacks_room_for, standing_with_news}
+use Rattle.ras_run.specs.News.{has_no_room_for, lacks_room_for, standing_with_news}
 use Rattle.ras_run.proofs.CourseLemmas.{begins_nothing, text_moment}
 use Rattle.ras_run.proofs.NewsLemmas.{fit_news}
 use Rattle.ras_run.proofs.PrintActLemmas.{can_make, news_off, news_out, told_is}

@@ -36,7 +36,7 @@ use Rattle.ras_records.proofs.ClearingLemmas.{calls_keep}
 use Rattle.ras_records.proofs.QuietLemmas.{look_begun, look_device, look_here, look_moment}
 use Rattle.ras_texts.specs.Text.{done_line}
 use Rattle.ras_run.specs.LineActs.{DoesPoll, polled_acts, told_acts}
-use Rattle.ras_run.specs.Places.{has_no_room_for}
+use Rattle.ras_run.specs.News.{has_no_room_for}
 use Rattle.ras_run.specs.Status.{counting_refusal, driver_exit, polling_refusal}
 use Rattle.ras_run.specs.Taking.{CountsMade, CountsPolled}
 use Rattle.ras_run.proofs.AskingLemmas.{asked_then, listing_refused}

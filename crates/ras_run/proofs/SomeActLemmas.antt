@@ -7,13 +7,12 @@ use Rattle.board_core.specs.Told.{Told}
 use Rattle.ras_recover.proofs.OpeningCallsLemmas.{an_opening}
 use Rattle.ras_events.specs.declared.event.Event.{Event}
 use Rattle.ras_events.specs.declared.event.LineRefusal.{LineRefusal}
-use Rattle.ras_events.specs.Reports.{Place, event_at}
+use Rattle.ras_run.specs.Places.{Place, event_at}
 use Rattle.ras_exit.specs.declared.exit.Exit.{Exit}
 use Rattle.ras_events.specs.Deeds.{Asking, Deed, deed_of, reopens}
 use Rattle.ras_run.specs.LineActs.{AreActsIn, AreFollowingIn, AreLineActs, AreUnlessRefused, IsReadAgain, asking_by, deed_acts}
-use Rattle.ras_run.specs.Places.{Start}
 use Rattle.ras_run.specs.Status.{site_refusal}
-use Rattle.ras_run.specs.Step.{Site, driving_lists, site_at}
+use Rattle.ras_run.specs.Sites.{Site, driving_lists}
 
 some_reading : (asks : Asking) (here : Left) → (reading : List DiskCall) × IsReadAgain asks here reading
 some_reading reopens here = (let opening = an_opening here in (opening.1.recovery, opening.1.recovers))
@@ -32,5 +31,5 @@ some_in site number event t =
     let rest = some_then site number (after_acts asked t) (site_refusal site number event) (deed_of event) in
     (asked ++ rest.0, record { rest = rest.0; is = refl; follow = rest.1 })
 
-pub some_acts : (start : Start) (place : Place) (t : Told) → (acts : List Act) × AreLineActs start place t acts
-some_acts start place t = some_in (site_at start place.0) place.1.0 (event_at place) t
+pub some_acts : (place : Place) (t : Told) → (acts : List Act) × AreLineActs place t acts
+some_acts place t = some_in place.0 place.1.0 (event_at place) t

@@ -22,7 +22,9 @@ use Rattle.ras_events.specs.declared.made.Piece.{Piece}
 use Rattle.ras_events.specs.declared.settings.Settings.{Settings}
 use Rattle.ras_events.specs.Events.{Lists, event_of, settings_after}
 use Rattle.ras_events.specs.Making.{entries_in, polled}
-use Rattle.ras_events.specs.Reports.{NumberedLine, event_at, made_in, settings_told}
+use Rattle.ras_events.specs.Deeds.{made_in}
+use Rattle.ras_events.specs.Described.{settings_read}
+use Rattle.ras_run.specs.Places.{event_at}
 use Rattle.ras_events.specs.Sizes.{CanBeSaved, IsFit}
 use Rattle.ras_events.proofs.FitLemmas.{nothing_fits}
 use Rattle.ras_exit.specs.declared.exit.Exit.{Exit}
@@ -35,11 +37,11 @@ use Rattle.ras_exit.proofs.PrintLemmas.{none_still}
 use Rattle.ras_records.specs.Polls.{look_calls, readable_ids}
 use Rattle.ras_texts.specs.Text.{done_line}
 use Rattle.ras_run.specs.declared.run.Run.{Run}
-use Rattle.ras_run.specs.LineActs.{AreActsIn, AreBegunIn, AreFollowingIn, AreUnlessRefused, AskingEnds, CanAsk, DoesAsking, DoesPoll, DoesReopening, TakesEvent, asking_by, event_prints, made_acts, polled_acts}
+use Rattle.ras_run.specs.LineActs.{AreActsIn, AreBegunIn, AreFollowingIn, AreUnlessRefused, AskingEnds, CanAsk, DoesAsking, DoesPoll, DoesReopening, TakesEvent, TakesLine, asking_by, event_prints, made_acts, polled_acts}
 use Rattle.ras_events.specs.Deeds.{deed_of}
-use Rattle.ras_run.specs.Places.{Start, has_no_room_for, standing_with_news}
+use Rattle.ras_run.specs.News.{has_no_room_for, standing_with_news}
 use Rattle.ras_run.specs.Status.{counting_refusal, put_refusal, site_refusal, refused_exit, saving_refusal}
-use Rattle.ras_run.specs.Step.{IsDrivable, Site, driving_lists, site_at, site_of}
+use Rattle.ras_run.specs.Sites.{IsDrivable, Site, driving_lists, site_of}
 use Rattle.ras_run.specs.Taking.{CountsMade, CountsPolled, EndsUnless, IsAcceptedIn, IsPrintExit, Reopens, TakesIn}
 use Rattle.ras_run.proofs.AskingLemmas.{asked_then}
 use Rattle.ras_run.proofs.CountLemmas.{counts_unless, ends_unless}
@@ -122,10 +124,10 @@ refused_for see old run number t x line why is =
     (refused_in see (site_of old t) number t run x (settings_after old.settings line) why)
 
 -- the line can't be read
-pub unread : {X : Type 0} (see : X → Seen) (start : Start) (before : List NumberedLine) (number : ℕ) (t : Told) (run : Run) (x : X) (read : Result Line LineRefused) (why : LineRefused) → GivesLine (Err why) read
-    → TakesEvent see (site_at start before) number (settings_told before) (event_at (before, (number, read))) t (Err (unread_exit number why)) run x x
-unread see start before number t run x read refused.NoMemory is = starved_in see (site_at start before) number t run x (settings_told before) (event_at (before, (number, read)))
-unread see start before number t run x read why is = rw is (refused_in see (site_at start before) number t run x (settings_told before) (Bad (reason.Line why)))
+pub unread : {X : Type 0} (see : X → Seen) (site : Site) (number : ℕ) (t : Told) (run : Run) (x : X) (read : Result Line LineRefused) (why : LineRefused) → GivesLine (Err why) read
+    → TakesLine see (site, (number, read)) t (Err (unread_exit number why)) run x x
+unread see site number t run x read refused.NoMemory is = starved_in see site number t run x (settings_read site.settings (number, read)) (event_at (site, (number, read)))
+unread see site number t run x read why is = rw is (refused_in see site number t run x site.settings (Bad (reason.Line why)))
 
 -- ---- an event that makes nothing
 

@@ -5,10 +5,10 @@ use Rattle.ras_account.specs.Account.{State}
 use Rattle.ras_events.specs.declared.made.Piece.{Piece}
 use Rattle.ras_events.specs.Deeds.{Asking, Deed, counted_in, polls, puts, reopens, saves}
 use Rattle.ras_events.specs.Preparing.{event_text_in}
-use Rattle.ras_events.specs.Stores.{store_with}
+use Rattle.ras_events.specs.Stores.{store_with, unreadable}
 use Rattle.ras_texts.specs.Orders.{standing_lines}
 use Rattle.ras_texts.specs.Text.{done_line}
-use Rattle.ras_run.specs.Step.{Site}
+use Rattle.ras_run.specs.Sites.{Site}
 
 -- ---- what it counts and prints there
 
@@ -45,3 +45,7 @@ store_asked asks store = store
 abbrev pub clears_by : Asking → Bool
 clears_by (polls seconds) = true
 clears_by asks = false
+
+-- the store once it is done
+abbrev pub store_done : Asking → List Stored → List Stored
+store_done asks store = if clears_by asks then unreadable (store_asked asks store) else store_asked asks store

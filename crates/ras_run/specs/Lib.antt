@@ -1,9 +1,10 @@
 pub mod Keeping
 pub mod KeepingCalls
 pub mod Files
-pub mod Places
-pub mod Step
+pub mod News
+pub mod Sites
 pub mod Deeds
+pub mod Places
 pub mod Status
 pub mod Output
 pub mod Moments

@@ -1,5 +1,5 @@
 -- What a line does to the board, as a list of acts.
-use Rattle.std.specs.Prelude.{◌≡◌, ◌⊎◌, ℕ, List, [], ◌∷◌, ◌++◌, Option, None, Some, Result, Ok, Err, map, unwrap_or}
+use Rattle.std.specs.Prelude.{◌≡◌, ◌⊎◌, ℕ, List, [], ◌∷◌, ◌++◌, Option, None, Some, Result, Ok, Err, map}
 use Rattle.board_core.specs.declared.board.DiskCall.{DiskCall}
 use Rattle.board_core.specs.Cause.{device_call}
 use Rattle.board_core.specs.Doing.{Act, Breaks, DeviceCall, GoesWell, Seen, after_acts, calls, put}
@@ -25,7 +25,7 @@ use Rattle.ras_events.specs.declared.made.Piece.{Piece}
 use Rattle.ras_events.specs.Events.{Lists}
 use Rattle.ras_events.specs.Making.{entries_in}
 use Rattle.ras_events.specs.Preparing.{event_text_in}
-use Rattle.ras_events.specs.Reports.{NumberedLine, Place, event_at, settings_told}
+use Rattle.ras_events.specs.Described.{settings_read}
 use Rattle.ras_events.specs.Sizes.{CanBeSaved, IsFit}
 use Rattle.ras_records.specs.Each.{each_calls}
 use Rattle.ras_records.specs.Polls.{look_calls, readable_ids}
@@ -38,9 +38,9 @@ use Rattle.ras_events.specs.declared.settings.Settings.{Settings}
 use Rattle.ras_run.specs.declared.run.Run.{Run}
 use Rattle.ras_events.specs.Deeds.{Asking, Deed, deed_of, polls, puts, reopens, saves}
 use Rattle.ras_run.specs.Deeds.{deed_done, deed_pieces, deed_text}
-use Rattle.ras_run.specs.Places.{IsBoardAfter, Start, account_at, standing_at}
+use Rattle.ras_run.specs.Places.{Place, deed_at, event_at}
+use Rattle.ras_run.specs.Sites.{IsBoardAt, IsDrivable, Site, driving_lists}
 use Rattle.ras_run.specs.Status.{polling_refusal, site_refusal}
-use Rattle.ras_run.specs.Step.{Site, driving_lists, site_at}
 use Rattle.ras_run.specs.Taking.{CountsPolled, IsAcceptedIn, TakesIn}
 
 -- new entries are appended as one link; without any, nothing is done
@@ -77,10 +77,6 @@ abbrev pub AreReopening : State → ℕ → Left → List Act → Type 0
 AreReopening account number here acts =
     (reading : List DiskCall) × IsRecoveryOf here reading
     × (acts ≡ map calls reading ++ event_prints (standing_lines account) number)
-
--- the lists by which the record store is driven after lines, if one of them told of some
-abbrev pub lists_after : List NumberedLine → Lists
-lists_after before = unwrap_or (settings_told before).driver []
 
 -- What a deed asks of the record store before all else, by the lists that drive it: a put puts its record, a saving
 -- writes it, and a poll lists the store's records and reads each.
@@ -161,23 +157,24 @@ pub record TakesEvent {X : Type 0} (see : X → Seen) (site : Site) (number : �
   pub does : DoesIn see site number event t result old new
 
 -- what a line asks of the record store, what it does then, and all its acts, at its place
-abbrev pub asking_acts : List NumberedLine → Result Event LineRefusal → Told → List Act
-asking_acts before event t = asking_by (lists_after before) event t
+abbrev pub asking_acts : Place → Told → List Act
+asking_acts place t = asking_by (driving_lists place.0) (event_at place) t
 
-abbrev pub AreFollowing : Start → Place → Result Event LineRefusal → Told → List Act → Type 0
-AreFollowing start place event t acts = AreFollowingIn (site_at start place.0) place.1.0 (deed_of event) t acts
+abbrev pub AreFollowing : Place → Told → List Act → Type 0
+AreFollowing place t acts = AreFollowingIn place.0 place.1.0 (deed_at place) t acts
 
-abbrev pub AreLineActs : Start → Place → Told → List Act → Type 0
-AreLineActs start place t acts = AreActsIn (site_at start place.0) place.1.0 (event_at place) t acts
+abbrev pub AreLineActs : Place → Told → List Act → Type 0
+AreLineActs place t acts = AreActsIn place.0 place.1.0 (event_at place) t acts
 
-abbrev pub AreBegun : Start → Place → Told → CallEnding → List Act → Type 0
-AreBegun start place t ending acts = AreBegunIn (site_at start place.0) place.1.0 (event_at place) t ending acts
+abbrev pub AreBegun : Place → Told → CallEnding → List Act → Type 0
+AreBegun place t ending acts = AreBegunIn place.0 place.1.0 (event_at place) t ending acts
 
--- A line does its acts, and so does an opening in the midst of a run.
-abbrev pub DoesLine : {X : Type 0} → (X → Seen) → Start → Place → Told → Result (Unit {0}) Exit → X → X → Type 0
-DoesLine see start place t result old new =
-    DoesIn see (site_at start place.0) place.1.0 (event_at place) t result old new
+-- A line is taken at its place, and does its acts.
+abbrev pub TakesLine : {X : Type 0} → (X → Seen) → Place → Told → Result (Unit {0}) Exit → Run → X → X → Type 0
+TakesLine see place t result run old new =
+    TakesEvent see place.0 place.1.0 (settings_read place.0.settings place.1) (event_at place) t result run old new
 
+-- So does an opening in the midst of a run.
 abbrev pub DoesReopening : {X : Type 0} → (X → Seen) → State → ℕ → Left → Result (Unit {0}) Exit → X → X → Type 0
 DoesReopening see account number here result old new =
     (acts : List Act) × AreReopening account number here acts × DoesBy see acts (ended_with result) old new
@@ -208,9 +205,10 @@ DoesPoll see lists t number made ids result ledger ledger' old new =
     × DoesAsking see (IsDevice (device_of t)) ((refusal ≡ None) × IsFit made) asked
     (polled_acts lists account number standing made ids (after_acts asked t)) result old new
 
--- The files hold the account that a run has come to after these lines, and the record store is what
--- they left.
-pub record HoldsAfter (start : Start) (before : List NumberedLine) (t : Told) : Type 0 where
-  pub account : IsAccount (account_at start before)
-  pub at : IsAt (standing_at start before) (account_at start before) t.here
-  pub board : IsBoardAfter start before t
+-- At a site the files hold its account, and the record store is as it says; if lines told of lists that drive the
+-- store, they are admitted.
+pub record HoldsAt (site : Site) (t : Told) : Type 0 where
+  pub account : IsAccount site.account
+  pub at : IsAt site.standing site.account t.here
+  pub board : IsBoardAt site t
+  pub drivable : IsDrivable site.settings.driver

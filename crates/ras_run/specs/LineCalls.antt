@@ -6,13 +6,12 @@ use Rattle.journal_format.specs.Links.{link_bytes}
 use Rattle.ras_account.specs.Numbers.{fresh_entries_in}
 use Rattle.ras_facts.specs.declared.entry.Entry.{Entry}
 use Rattle.ras_recover.specs.OpeningCalls.{IsRecoveryOf}
-use Rattle.ras_events.specs.Deeds.{Asking, Deed, deed_of, reopens}
+use Rattle.ras_events.specs.Deeds.{Asking, Deed, reopens}
 use Rattle.ras_run.specs.Deeds.{deed_pieces}
 use Rattle.ras_run.specs.KeepingCalls.{IsKeeping}
 use Rattle.ras_events.specs.Making.{entries_in}
-use Rattle.ras_events.specs.Reports.{Place, event_at}
-use Rattle.ras_run.specs.Places.{Start}
-use Rattle.ras_run.specs.Step.{Site, site_at}
+use Rattle.ras_run.specs.Places.{Place, deed_at}
+use Rattle.ras_run.specs.Sites.{Site}
 
 -- news are kept as one link, and no news need no call
 abbrev pub AreNewsCalls : List Entry → List DiskCall → Type 0
@@ -29,5 +28,5 @@ abbrev pub AreDeedCalls : Site → Left → Deed → List DiskCall → Type 0
 AreDeedCalls site here deed calls =
     AreCallsBy deed.asks here (fresh_entries_in site.account (entries_in (deed_pieces site deed))) calls
 
-abbrev pub AreCallsAt : Start → Place → Left → List DiskCall → Type 0
-AreCallsAt start place here calls = AreDeedCalls (site_at start place.0) here (deed_of (event_at place)) calls
+abbrev pub AreCallsAt : Place → Left → List DiskCall → Type 0
+AreCallsAt place here calls = AreDeedCalls place.0 here (deed_at place) calls

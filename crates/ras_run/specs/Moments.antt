@@ -1,19 +1,18 @@
 -- How a line goes, and what stops leave of it: one relation for every kind of line.
-use Rattle.std.specs.Prelude.{◌≡◌, ℕ, ◌⊎◌, Bool, List, [], ◌∷◌, ◌++◌, Result, if◌then◌else◌}
+use Rattle.std.specs.Prelude.{◌≡◌, ℕ, ◌⊎◌, Bool, List, ◌++◌, Result, if◌then◌else◌}
 use Rattle.board_core.specs.Stop.{Becomes, Begins, Left}
 use Rattle.erst_store.specs.Store.{Stored}
 use Rattle.ras_account.specs.Account.{State}
 use Rattle.ras_journal.specs.Recovered.{Recovers}
 use Rattle.ras_events.specs.declared.event.Event.{Event}
 use Rattle.ras_events.specs.declared.event.LineRefusal.{LineRefusal}
-use Rattle.ras_events.specs.Reports.{Place, event_at}
 use Rattle.ras_events.specs.Stores.{unreadable, without_first}
 use Rattle.ras_exit.specs.declared.exit.Exit.{Exit}
 use Rattle.ras_exit.specs.declared.exit.Exit.TheVariants.{ErstBusy}
 use Rattle.ras_events.specs.Deeds.{Deed, deed_of}
 use Rattle.ras_run.specs.Deeds.{clears_by, deed_done, deed_text, store_asked}
-use Rattle.ras_run.specs.Places.{Start, account_at}
-use Rattle.ras_run.specs.Step.{Site, site_at}
+use Rattle.ras_run.specs.Places.{Place, deed_at, site_after}
+use Rattle.ras_run.specs.Sites.{Site}
 
 -- The account before a line, and with what it reports; the store before it, and once its record is
 -- put; whether it clears the records that can be read then; its text, and its done line.
@@ -90,7 +89,6 @@ abbrev pub refused_store : Exit → Result Event LineRefusal → List Stored →
 refused_store ErstBusy event store = stored_by event store
 refused_store exit event store = store
 
--- A line leads to the account of all lines up to it.
-abbrev pub course_at : Start → Place → Course
-course_at start place =
-    course_to (site_at start place.0) place.1.0 (deed_of (event_at place)) (account_at start (place.0 ++ place.1 ∷ []))
+-- A line leads to the account of the site after it.
+abbrev pub course_at : Place → Course
+course_at place = course_to place.0 place.1.0 (deed_at place) (site_after place.0 place.1).account

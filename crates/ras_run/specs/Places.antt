@@ -1,62 +1,56 @@
--- Where a run begins, and what it has come to before a line: the account that its journal has, the journal's position,
--- and the record store.
-use Rattle.std.specs.Prelude.{◌≡◌, ℕ, Bool, false, ◌||◌, List, [], ◌∷◌}
-use Rattle.board_core.specs.Told.{Told}
-use Rattle.erst_store.specs.Store.{Stored}
-use Rattle.ras_base.specs.Places.{places}
+-- The lines of a script at their places: each is taken at the site that the run has come to.
+use Rattle.std.specs.Prelude.{List, [], ◌∷◌, Result}
+use Rattle.std.specs.List.{flat_map, fold}
 use Rattle.ras_facts.specs.declared.entry.Entry.{Entry}
-use Rattle.ras_account.specs.Account.{State}
 use Rattle.ras_account.specs.Continued.{account_after_all}
-use Rattle.ras_account.specs.Numbers.{are_past, fresh_entries_in, numbers_with}
-use Rattle.journal_format.specs.Links.{link_bytes}
-use Rattle.ras_journal.specs.declared.standing.Standing.{Standing}
-use Rattle.ras_run.specs.Keeping.{lacks_room, standing_kept}
-use Rattle.ras_events.specs.Reports.{NumberedLine, Place, entries_at, reports}
-use Rattle.ras_events.specs.Stores.{laid}
+use Rattle.ras_account.specs.Numbers.{fresh_entries_in}
+use Rattle.ras_events.specs.declared.event.Event.{Event}
+use Rattle.ras_events.specs.declared.event.LineRefusal.{LineRefusal}
+use Rattle.ras_events.specs.Deeds.{Deed, deed_of}
+use Rattle.ras_events.specs.Described.{NumberedLine, event_read, settings_read}
+use Rattle.ras_events.specs.Making.{entries_in}
+use Rattle.ras_run.specs.Deeds.{deed_pieces, store_done}
+use Rattle.ras_run.specs.News.{standing_with_news}
+use Rattle.ras_run.specs.Sites.{Site, Start, first_site}
 
--- where a run begins: the account that its journal has, the journal's position, the record store, and how many busy
--- answers a command of its device costs
-pub record Start : Type 0 where
-  pub account : State
-  pub standing : Standing
-  pub store : List Stored
-  pub slow : ℕ
+-- a line at the site where it is taken
+abbrev pub Place : Type 0
+Place = Site × NumberedLine
 
--- the account with what lines report, and the store with what they lay
-abbrev pub account_at : Start → List NumberedLine → State
-account_at start before = account_after_all start.account (reports start.store before)
+-- what it asks for there, or why it is refused; and what it does
+abbrev pub event_at : Place → Result Event LineRefusal
+event_at place = event_read place.0.settings place.1
 
-abbrev pub store_at : Start → List NumberedLine → List Stored
-store_at start before = laid start.store before
+abbrev pub deed_at : Place → Deed
+deed_at place = deed_of (event_at place)
 
--- the position once an event's new entries are kept after an account: they are one link, and without new entries
--- there is no link
-abbrev pub standing_with_news : State → Standing → List Entry → Standing
-standing_with_news account standing [] = standing
-standing_with_news account standing (entry ∷ entries) = standing_kept standing account (link_bytes (entry ∷ entries))
+-- the entries that it reports
+abbrev pub entries_at : Place → List Entry
+entries_at place = entries_in (deed_pieces place.0 (deed_at place))
 
--- whether the journal has no room for the link of an event's news
-abbrev pub lacks_room_for : State → Standing → List Entry → Bool
-lacks_room_for account standing [] = false
-lacks_room_for account standing (entry ∷ entries) = lacks_room standing account (link_bytes (entry ∷ entries))
+-- The site after it: it may describe the machine, what it reports is counted and its news are kept, and it may change
+-- the record store.
+abbrev pub site_after : Site → NumberedLine → Site
+site_after site read = record {
+  settings = settings_read site.settings read;
+  account = account_after_all site.account (entries_at (site, read));
+  standing = standing_with_news site.account site.standing (fresh_entries_in site.account (entries_at (site, read)));
+  store = store_done (deed_at (site, read)).asks site.store;
+  slow = site.slow;
+}
 
--- whether an account has no room for what is news of entries, or the journal has none
-abbrev pub has_no_room_for : State → Standing → List Entry → Bool
-has_no_room_for account standing entries =
-    are_past (numbers_with account entries)
-    || lacks_room_for account standing (fresh_entries_in account entries)
+-- lines at their places, from a site on
+abbrev pub places_from : Site → List NumberedLine → List Place
+places_from site [] = []
+places_from site (read ∷ reads) = (site, read) ∷ places_from (site_after site read) reads
 
--- the position after lines, each at its place
-abbrev pub standing_along : Start → Standing → List Place → Standing
-standing_along start standing [] = standing
-standing_along start standing (place ∷ places) =
-    let account = account_at start place.0 in
-    standing_along start (standing_with_news account standing (fresh_entries_in account (entries_at start.store place))) places
+-- the site after lines, and after the first lines of a run
+abbrev pub site_along : Site → List NumberedLine → Site
+site_along site reads = fold site_after site reads
 
-abbrev pub standing_at : Start → List NumberedLine → Standing
-standing_at start before = standing_along start start.standing (places before)
+abbrev pub site_at : Start → List NumberedLine → Site
+site_at start before = site_along (first_site start) before
 
--- what a board tells of its record store and of the store's device is what these lines left
-pub record IsBoardAfter (start : Start) (before : List NumberedLine) (t : Told) : Type 0 where
-  pub store : t.here.store ≡ store_at start before
-  pub slow : t.volatile.slow ≡ start.slow
+-- the entries that lines report, in order
+abbrev pub reports : Site → List NumberedLine → List Entry
+reports site reads = flat_map entries_at (places_from site reads)

@@ -14,13 +14,13 @@ use Rattle.ras_events.specs.declared.event.LineRefusal.{LineRefusal}
 use Rattle.ras_events.specs.declared.event.LineRefusal.TheVariants.{Bad, NoTable}
 use Rattle.ras_events.specs.declared.made.Piece.{Piece}
 use Rattle.ras_events.specs.Making.{entries_in}
-use Rattle.ras_events.specs.Reports.{Place, event_at}
 use Rattle.ras_records.specs.Polls.{is_busy_for_reads}
 use Rattle.ras_exit.specs.declared.reason.Reason.TheVariants as reason
 use Rattle.ras_exit.specs.declared.exit.Exit.{Exit}
 use Rattle.ras_exit.specs.declared.exit.Exit.TheVariants.{BadLine, RegisterFault, Full, ErstRefused, ErstBusy, ErstStatus, NoMemory}
-use Rattle.ras_run.specs.Places.{Start, has_no_room_for}
-use Rattle.ras_run.specs.Step.{Site, site_at}
+use Rattle.ras_run.specs.News.{has_no_room_for}
+use Rattle.ras_run.specs.Places.{Place, event_at}
+use Rattle.ras_run.specs.Sites.{Site}
 use Rattle.ras_events.specs.Deeds.{Asking, Deed, deed_of, polls, puts, saves}
 use Rattle.ras_run.specs.Deeds.{deed_counts}
 
@@ -78,14 +78,10 @@ site_refusal site number (Err why) = Some (refused_exit number why)
 site_refusal site number (Ok event) = deed_refusal site number (deed_of (Ok event))
 
 -- why a line is refused at its place
-abbrev pub event_refusal : Start → Place → Result Event LineRefusal → Option Exit
-event_refusal start place event = site_refusal (site_at start place.0) place.1.0 event
-
-abbrev pub refusal_at : Start → Place → Option Exit
-refusal_at start place = event_refusal start place (event_at place)
+abbrev pub refusal_at : Place → Option Exit
+refusal_at place = site_refusal place.0 place.1.0 (event_at place)
 
 -- the places that stand before the first refused one
-abbrev pub places_before_refusal : Start → List Place → List Place
-places_before_refusal start [] = []
-places_before_refusal start (place ∷ places) =
-    if is_some (refusal_at start place) then [] else place ∷ places_before_refusal start places
+abbrev pub places_before_refusal : List Place → List Place
+places_before_refusal [] = []
+places_before_refusal (place ∷ places) = if is_some (refusal_at place) then [] else place ∷ places_before_refusal places

@@ -1,5 +1,5 @@
 -- How far a run has come, and how each part of it ends.
-use Rattle.std.specs.Prelude.{◌≡◌, ℕ, Bool, true, false, List, [], ◌∷◌, ◌++◌, IfErr, IfOk, IfSome, Option, None, Some, Result, Ok, Err, ⊤}
+use Rattle.std.specs.Prelude.{◌≡◌, ℕ, Bool, true, false, List, ◌++◌, IfErr, IfOk, IfSome, Option, None, Some, Result, Ok, Err, ⊤}
 use Rattle.board_core.specs.Cause.{Faults, disk_call, print_call}
 use Rattle.board_core.specs.Clock.{Clock}
 use Rattle.board_core.specs.Stop.{Left}
@@ -20,7 +20,7 @@ use Rattle.ras_run.specs.Keeping.{Stands}
 use Rattle.ras_events.specs.declared.preparing.News.{News}
 use Rattle.ras_events.specs.declared.made.Piece.{Piece}
 use Rattle.ras_events.specs.Making.{entries_in}
-use Rattle.ras_events.specs.Reports.{NumberedLine, Place, event_at, made_in, settings_told}
+use Rattle.ras_events.specs.Deeds.{made_in}
 use Rattle.ras_events.specs.declared.event.Event.{Event}
 use Rattle.ras_events.specs.declared.event.LineRefusal.{LineRefusal}
 use Rattle.ras_events.specs.declared.settings.Settings.{Settings}
@@ -32,16 +32,10 @@ use Rattle.ras_exit.specs.Endings.{AnyFault, EndsBy, IsStop, OnlyFault, ending_o
 use Rattle.ras_run.specs.declared.run.Run.{Run}
 use Rattle.ras_run.specs.Files.{refusal_exit}
 use Rattle.ras_run.specs.Moments.{CourseMoment, course_at}
-use Rattle.ras_run.specs.Places.{Start, account_at, has_no_room_for, lacks_room_for, standing_at, standing_with_news}
-use Rattle.ras_run.specs.Status.{refusal_at, site_refusal}
-use Rattle.ras_run.specs.Step.{Site, site_at}
-
--- What a run has at hand after these lines: what they told of the machine, and the account of what
--- was reported with its journal.
-pub record IsRunAfter (start : Start) (before : List NumberedLine) (run : Run) : Type 0 where
-  pub settings : run.settings ≡ settings_told before
-  pub account : run.ledger.account.state ≡ account_at start before
-  pub standing : run.ledger.journal.standing ≡ standing_at start before
+use Rattle.ras_run.specs.News.{has_no_room_for, lacks_room_for, standing_with_news}
+use Rattle.ras_run.specs.Places.{Place, event_at}
+use Rattle.ras_run.specs.Sites.{Site}
+use Rattle.ras_run.specs.Status.{site_refusal}
 
 -- the printed text grew by a piece
 abbrev pub Prints : List ℕ → Told → Told → Type 0
@@ -83,16 +77,12 @@ TakesIn site number told event (Ok done) run =
 TakesIn site number told event (Err exit) run = EndsBy (site_refusal site number event ≡ Some exit) ⊤ AnyFault (ending_of exit)
 
 -- the same of a line at its place
-abbrev pub IsAccepted : Start → Place → Type 0
-IsAccepted start place = IsAcceptedIn (site_at start place.0) place.1.0 (event_at place)
+abbrev pub IsAccepted : Place → Type 0
+IsAccepted place = IsAcceptedIn place.0 place.1.0 (event_at place)
 
-abbrev pub TakesLine : Start → Place → Result (Unit {0}) Exit → Run → Type 0
-TakesLine start place (Ok done) run = IsAccepted start place × IsRunAfter start (place.0 ++ place.1 ∷ []) run
-TakesLine start place (Err exit) run = EndsBy (refusal_at start place ≡ Some exit) ⊤ AnyFault (ending_of exit)
-
--- what a stop leaves while a line is taken over this
-abbrev pub LineMoment : Start → Place → Left → Left → Type 0
-LineMoment start place here left = CourseMoment (IsAccepted start place) (course_at start place) here.out left
+-- what a crash leaves while a line is taken over this
+abbrev pub LineMoment : Place → Left → Left → Type 0
+LineMoment place here left = CourseMoment (IsAccepted place) (course_at place) here.out left
 
 -- ---- a record that is put or saved
 

@@ -16,7 +16,7 @@ mod refused;
 mod run;
 
 pub use keeping::keeping_laws;
-pub use laws::line_laws;
+pub use laws::{line_laws, place_laws};
 pub use ledger::Ledger;
 pub use line::take_line;
 pub use opening::{open, print_standing};

@@ -1,24 +1,20 @@
 //! A line of a script, taken whole.
 
-ghost use Rattle.std.specs.Prelude.{◌≡◌, ◌≤◌, List, length, None, Some};
+ghost use Rattle.std.specs.Prelude.{◌≡◌, ◌≤◌, List, length, None, Ok, Some};
 ghost use Rattle.std.specs.Prelude.{IfErr, MatchResult, OnOk};
 ghost use Rattle.board_core.specs.Doing.{Does};
 ghost use Rattle.board_core.specs.Told.{Told};
-ghost use Rattle.ras_events.specs.Reports.{NumberedLine};
 ghost use Rattle.ras_script.specs.Line.{line_of};
 ghost use Rattle.ras_script.specs.LineLaws.{IsInRange};
 ghost use Rattle.ras_script.specs.declared.reader.TheConstants.{LONGEST_LINE};
 ghost use Rattle.ras_exit.specs.Acts.{part_end};
 ghost use Rattle.ras_exit.specs.Causes.{BoardCause, Causes};
 ghost use Rattle.ras_exit.specs.Endings.{IsStop};
-ghost use Rattle.ras_events.specs.Events.{event_of, settings_after};
 ghost use Rattle.ras_events.specs.Sizes.{IsShortLine};
-ghost use Rattle.ras_run.specs.LineActs.{DoesLine, DoesReopening, TakesEvent, event_prints};
-ghost use Rattle.ras_run.specs.Places.{IsBoardAfter, Start};
+ghost use Rattle.ras_run.specs.LineActs.{DoesReopening, TakesLine, event_prints};
+ghost use Rattle.ras_run.specs.Sites.{IsDrivable, site_of};
 ghost use Rattle.ras_run.specs.Status.{refused_exit};
-ghost use Rattle.ras_run.specs.Step.{IsDrivable, site_of};
-ghost use Rattle.ras_run.specs.Taking.{IsPrintExit, IsReady, IsRunAfter, LedgerStands};
-ghost use Rattle.ras_run.specs.Taking.{Reopens, TakesLine};
+ghost use Rattle.ras_run.specs.Taking.{IsPrintExit, IsReady, LedgerStands, Reopens};
 ghost use Rattle.ras_texts.specs.Text.{known_line};
 
 use crate::counting::tell_made;
@@ -59,13 +55,10 @@ pub fn take_line<B: Board>(
     requires short { length bytes.now ≤ LONGEST_LINE }
     requires ready { IsReady run.old.ledger (B.seen board.old).told (B.seen board.old).clock }
 
-    ensures takes { (start : Start) (before : List NumberedLine) → IsRunAfter start before run.old
-        → (t : Told) → (B.seen board.old).told ≡ Some t → IsBoardAfter start before t
-        → TakesLine start (before, (number, line_of bytes.now)) result run.new }
-    ensures does { (start : Start) (before : List NumberedLine) → IsRunAfter start before run.old
-        → (t : Told) → (B.seen board.old).told ≡ Some t → IsBoardAfter start before t
-        → DoesLine B.seen start (before, (number, line_of bytes.now))
-        t result board.old board.new }
+    ensures takes { (t : Told) → (B.seen board.old).told ≡ Some t
+        → IsDrivable run.old.settings.driver
+        → TakesLine B.seen (site_of run.old t, (number, line_of bytes.now)) t result
+        run.new board.old board.new }
     ensures ready { OnOk result
         (IsReady run.new.ledger (B.seen board.new).told (B.seen board.new).clock) }
     ensures stop { IfErr result IsStop }
@@ -91,12 +84,10 @@ fn take_read<B: Board>(
     requires short { IsShortLine line }
     requires ready { IsReady run.old.ledger (B.seen board.old).told (B.seen board.old).clock }
 
-    ensures takes { (t : Told) → (B.seen board.old).told ≡ Some t → IsDrivable
-        run.old.settings.driver
-        → let site = site_of run.old t in
-        TakesEvent B.seen site number
-        (settings_after site.settings line) (event_of site.settings line) t result
-        run.new board.old board.new }
+    ensures takes { (t : Told) → (B.seen board.old).told ≡ Some t
+        → IsDrivable run.old.settings.driver
+        → TakesLine B.seen (site_of run.old t, (number, Ok line)) t result run.new
+        board.old board.new }
     ensures ready { OnOk result
         (IsReady run.new.ledger (B.seen board.new).told (B.seen board.new).clock) }
     ensures stop { IfErr result IsStop }

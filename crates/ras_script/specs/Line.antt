@@ -1,5 +1,5 @@
 -- What a line of a script asks for, or why it is refused.
-use Rattle.std.specs.Prelude.{◌≡◌, ℕ, ◌==◌, List, [], ◌∷◌, codes, Result, Ok, Err, ⊤, if◌then◌else◌, slice_index}
+use Rattle.std.specs.Prelude.{◌≡◌, ℕ, ◌==◌, Bool, true, false, List, [], ◌∷◌, codes, Result, Ok, Err, ⊤, if◌then◌else◌, slice_index}
 use Rattle.std.specs.Str.{bytes_eq}
 use Rattle.ras_script.specs.declared.line.Line.{Line}
 use Rattle.ras_script.specs.declared.line.Line.TheVariants.{Nothing}
@@ -34,6 +34,11 @@ line_of_words (kind ∷ words) =
 -- what a line asks for, by its bytes without the line feed
 abbrev pub line_of : List ℕ → Result Line LineRefused
 line_of bytes = line_of_words (words_of bytes)
+
+-- An empty line and a comment ask for nothing. A line that is refused asks for something.
+abbrev pub is_asking : Result Line LineRefused → Bool
+is_asking (Ok Nothing) = false
+is_asking read = true
 
 -- What was read is what a line asks for, or memory ran out.
 abbrev pub GivesLine : {A : Type 0} → Result A LineRefused → Result A LineRefused → Type 0

@@ -1,5 +1,5 @@
 -- Terms that the laws of lines use: a line's words in their ranges, and a line as text.
-use Rattle.std.specs.Prelude.{ℕ, ◌^◌, ◌<◌, ◌≤◌, IsTrue, List, [], ◌∷◌, codes, ⊤, false}
+use Rattle.std.specs.Prelude.{ℕ, ◌^◌, ◌<◌, ◌≤◌, IsTrue, List, [], ◌∷◌, length, codes, ⊤, false}
 use Rattle.std.specs.Fmt.{decimal, digits}
 use Rattle.std.specs.List.{AllByRecursion, join_with_byte}
 use Rattle.dimm_topology.specs.Labels.{is_label}
@@ -63,6 +63,12 @@ IsInRange (asks.Put id bytes) = (id < 2 ^ 64) × AreBytes bytes
 IsInRange (asks.Panic id bank) = (id < 2 ^ 64) × IsBankInRange bank
 IsInRange (asks.Poll seconds) = seconds < 2 ^ 64
 IsInRange asks.Restart = ⊤
+
+-- a report has at most so many bytes, in its block or in its region
+abbrev pub HasFewBytes : ℕ → Line → Type 0
+HasFewBytes most (asks.Report (Block boot seconds source number bytes)) = length bytes ≤ most
+HasFewBytes most (asks.Report (Boot boot seconds table region)) = length region ≤ most
+HasFewBytes most line = ⊤
 
 -- hexadecimal digits, small and with no zero before them
 abbrev pub hexadecimal : ℕ → List ℕ

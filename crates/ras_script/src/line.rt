@@ -2,7 +2,7 @@
 
 ghost use Rattle.std.specs.Prelude.{◌≡◌, ℕ, ◌<◌, List, length, map, IfOk, IsErr, IsTrue};
 ghost use Rattle.ras_script.specs.Line.{GivesLine, ReadsLine, line_of, line_of_words};
-ghost use Rattle.ras_script.specs.LineLaws.{IsInRange, line_text};
+ghost use Rattle.ras_script.specs.LineLaws.{HasFewBytes, IsInRange, line_text};
 ghost use Rattle.ras_script.specs.Refusals.{line_number};
 ghost use Rattle.ras_script.specs.Splitting.{AreHeldWords, words_of};
 ghost use Rattle.ras_script.specs.declared.line.LineRefused.TheVariants as RefusedFor;
@@ -156,9 +156,11 @@ fn line_of_words(alloc: Global, words: &[&[u8]]) -> Result<Line, LineRefused>
 }
 
 /// The numbers of a line that was read are in their ranges: a bank's registers below 2^64, its CPU
-/// below 2^16 and its number below 2^8. Labels are labels, and no bytes are empty.
+/// below 2^16 and its number below 2^8. Labels are labels, and no bytes are empty. A report has no
+/// more bytes than its line.
 pub fn numbers_are_in_range()
-    ensures { (bytes : List ℕ) → IfOk (line_of bytes) IsInRange }
+    ensures range { (bytes : List ℕ) → IfOk (line_of bytes) IsInRange }
+    ensures few { (bytes : List ℕ) → IfOk (line_of bytes) (HasFewBytes (length bytes)) }
 {}
 
 /// A line written with single spaces, plain numbers and hexadecimal bytes is read back.

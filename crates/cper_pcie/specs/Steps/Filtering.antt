@@ -1,10 +1,7 @@
 -- The steps of the filter of PCI Express sections.
-use Rattle.std.specs.Prelude.{ℕ, ◌*◌, ◌≤◌, List, [], length, Option, ⊤}
+use Rattle.std.specs.Prelude.{ℕ, ◌*◌, ◌≤◌, List, [], Option}
 use Rattle.std.specs.List.{AllByRecursion, filter_map}
 use Rattle.ras_facts.specs.declared.name.Name.{Name}
-use Rattle.ras_script.specs.declared.line.ErrorReport.TheVariants.{Block}
-use Rattle.ras_script.specs.declared.line.Line.{Line}
-use Rattle.ras_script.specs.declared.line.Line.TheVariants.{Report as Reported}
 use Rattle.cper_pcie.specs.Reports.{Found, Taken, block_sections, pcie_section, record_sections}
 use Rattle.cper_pcie.specs.Totals.{Totals}
 use Rattle.cper_pcie.specs.declared.counts.ErrorCounts.{ErrorCounts}
@@ -21,11 +18,6 @@ sections_in (sections.Block block) = block_sections block
 -- the PCI Express sections of a report of this name
 abbrev pub taken_from : Name → List Found → List Taken
 taken_from name found = filter_map (pcie_section name) found
-
--- the block of a line has at most this many bytes
-abbrev pub FewBytes : ℕ → Line → Type 0
-FewBytes most (Reported (Block boot seconds source number bytes)) = length bytes ≤ most
-FewBytes most line = ⊤
 
 abbrev pub no_totals : Totals
 no_totals = record { rows = []; sections = 0 }

@@ -9,7 +9,7 @@ use Rattle.ras_base.specs.Prefix.{IsPrefixOf}
 use Rattle.ras_script.specs.declared.line.LineRefused.{LineRefused}
 use Rattle.ras_script.specs.Reader.{Reader, lines_to_come}
 use Rattle.ras_exit.specs.declared.exit.Exit.{Exit}
-use Rattle.ras_exit.specs.declared.exit.Exit.TheVariants.{BadLine, Done, PrintFault, NoMemory, SourceFault}
+use Rattle.ras_exit.specs.declared.exit.Exit.TheVariants.{BadLine, PrintFault, NoMemory, SourceFault}
 use Rattle.ras_exit.specs.Endings.{IsAnswer, IsCut, OnAnswer, unread_exit}
 use Rattle.ras_exit.specs.Telling.{PrintMoment}
 use Rattle.line_filters.specs.Filter.{Filter, Took}
@@ -124,11 +124,6 @@ GathersBoth whole script before old exit filter waiting reader left told new =
 abbrev pub EndsBoth : Filter → List ℕ → Told → Clock → Exit → Filter → Reader → Option (List ℕ) → Option Told → Clock → Type 0
 EndsBoth whole script before old exit filter reader left told new =
     IsSomeAnd left (λ rest. IsSomeAnd told (λ now. LinesEnd whole script before old exit filter reader rest now new))
-
--- the exit of lines that were all taken is Done
-abbrev pub exit_of : Result (Unit {0}) Exit → Exit
-exit_of (Ok done) = Done
-exit_of (Err exit) = exit
 
 -- whether a call of the source or the board failed, which is then the last one
 abbrev pub has_failed : Exit → Bool

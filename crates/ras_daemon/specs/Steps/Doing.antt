@@ -4,12 +4,14 @@ use Rattle.board_core.specs.Cause.{Faults, disk_call, print_call}
 use Rattle.board_core.specs.Clock.{Adds, Rests}
 use Rattle.board_core.specs.Doing.{Act, Breaks, GoesWell, Seen, after_acts}
 use Rattle.board_core.specs.Told.{Told}
-use Rattle.ras_base.specs.Places.{places}
 use Rattle.ras_recover.specs.Opening.{Opening, OpeningSynced}
 use Rattle.ras_recover.specs.OpeningActs.{LeavesUnopened}
 use Rattle.ras_recover.specs.OpeningCalls.{AfterOpening, MakesOpening}
 use Rattle.ras_recover.specs.Recovering.{MaySync, SyncsFirst}
-use Rattle.ras_events.specs.Reports.{NumberedLine, event_at}
+use Rattle.ras_events.specs.Described.{NumberedLine}
+use Rattle.ras_run.specs.Sites.{IsRunAt, Start, first_site}
+use Rattle.ras_run.specs.Places.{event_at, places_from, site_at}
+use Rattle.ras_daemon.specs.Script.{reads_of, places_taken}
 use Rattle.ras_exit.specs.Acts.{AreStill, ended_with, print_acts}
 use Rattle.ras_exit.specs.Causes.{BoardCause, Causes, SourceCause}
 use Rattle.ras_exit.specs.Endings.{CallEnding, EndsBy, IsAnswer, IsCut, IsLineExit, OnlyFault, answered, ending_of, faulted}
@@ -17,13 +19,9 @@ use Rattle.ras_exit.specs.ScriptEnd.{script_exit}
 use Rattle.ras_exit.specs.declared.exit.Exit.{Exit}
 use Rattle.ras_exit.specs.declared.exit.Exit.TheVariants.{DiskFault, Done, ErstBusy, NoMemory, PrintFault, SourceFault}
 use Rattle.ras_run.specs.declared.run.Run.{Run}
-use Rattle.ras_run.specs.LineActs.{CanAsk, HoldsAfter, asking_acts}
-use Rattle.ras_run.specs.Places.{Start}
-use Rattle.ras_run.specs.Status.{places_before_refusal}
-use Rattle.ras_run.specs.Taking.{IsRunAfter}
+use Rattle.ras_run.specs.LineActs.{CanAsk, HoldsAt, asking_acts}
 use Rattle.ras_daemon.specs.RunActs.{AreActsAlong, AreDoneAlong, AreScriptActs, last_acts, orders_acts, script_asked}
 use Rattle.ras_daemon.specs.Steps.Running.{AreAll, AreFirst, EndsAhead, lines_from}
-use Rattle.ras_daemon.specs.Script.{reads_of}
 
 -- Behind these acts a line only read, maybe nothing, and then memory ran out or the source failed.
 -- Together they are the first ones of such acts.
@@ -44,7 +42,7 @@ DoesFirst see Are t acts ending old new = DoesPart see Are t acts old new
 -- the acts of all lines up to the first refused one
 pub record AreLinesActs (start : Start) (script : List ℕ) (t : Told) (acts : List Act) : Type 0 where
   pub along : List Act
-  pub lines : AreActsAlong start (places_before_refusal start (places (reads_of script))) t along
+  pub lines : AreActsAlong (places_taken start script) t along
   pub is : acts ≡ along ++ script_asked start script (after_acts along t)
 
 -- What the record store was asked after these lines: nothing, or what the next line asks; t is told
@@ -53,8 +51,8 @@ pub record IsAsked (start : Start) (script : List ℕ) (before : List NumberedLi
   pub read : NumberedLine
   pub rest : List NumberedLine
   pub splits : before ++ read ∷ rest ≡ reads_of script
-  pub can : CanAsk (event_at (before, read)) t
-  pub is : asked ≡ asking_acts before (event_at (before, read)) t
+  pub can : CanAsk (event_at (site_at start before, read)) t
+  pub is : asked ≡ asking_acts (site_at start before, read) t
 
 abbrev pub MayAsk : Start → List ℕ → List NumberedLine → Told → List Act → Type 0
 MayAsk start script before t asked = (asked ≡ []) ⊎ IsAsked start script before t asked
@@ -73,7 +71,7 @@ AsksBy start script before t asked exit (faulted kind) = ⊤
 AsksBy start script before t asked exit ending = asked ≡ []
 
 abbrev pub EndsBehind : Start → List ℕ → List NumberedLine → Told → List Act → Result (Unit {0}) Exit → Run → Type 0
-EndsBehind start script before t asked (Ok done) run = AreAllAsked start script Done before t asked × IsRunAfter start before run
+EndsBehind start script before t asked (Ok done) run = AreAllAsked start script Done before t asked × IsRunAt (site_at start before) run
 EndsBehind start script before t asked (Err exit) run = AsksBy start script before t asked exit (ending_of exit)
 
 -- The first lines of a script did their acts, or the last of them was cut short.
@@ -81,7 +79,7 @@ pub record DoesLines {X : Type 0} (see : X → Seen) (start : Start) (script : L
   pub before : List NumberedLine
   pub first : AreFirst start script before
   pub acts : List Act
-  pub along : AreDoneAlong start (places before) t acts
+  pub along : AreDoneAlong (places_from (first_site start) before) t acts
   pub asked : List Act
   pub asks : MayAsk start script before (after_acts acts t) asked
   pub does : DoesFirst see (AreLinesActs start script t) t (acts ++ asked) (ended_with result) old new
@@ -135,7 +133,7 @@ pub record DoesScript {X : Type 0} (see : X → Seen) (start : Start) (script : 
   pub before : List NumberedLine
   pub first : AreFirst start script before
   pub along : List Act
-  pub lines : AreDoneAlong start (places before) (after_acts (orders_acts start) t) along
+  pub lines : AreDoneAlong (places_from (first_site start) before) (after_acts (orders_acts start) t) along
   pub asked : List Act
   pub asks : MayAsk start script before (after_acts along (after_acts (orders_acts start) t)) asked
   pub last : List Act
@@ -170,7 +168,7 @@ pub record Opens {X : Type 0} (see : X → Seen) (start : Start) (script : List 
   pub stops : Adds (Opening (see old).clock t.here) (see old).clock (see mid).clock
   pub syncs : SyncsFirst see (OpeningSynced t.here) t old mid
   pub rests : Rests there (see mid).told (see mid).clock
-  pub holds : HoldsAfter start [] there
+  pub holds : HoldsAt (first_site start) there
   pub takes : TakesScript see start script there exit mid new
 
 abbrev pub DoesRun : {X : Type 0} → (X → Seen) → Start → List ℕ → Exit → Told → X → X → Type 0

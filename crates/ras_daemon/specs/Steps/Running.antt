@@ -5,11 +5,13 @@ use Rattle.board_core.specs.Clock.{Clock, LeftNow}
 use Rattle.board_core.specs.Stop.{Left, Begins}
 use Rattle.board_core.specs.Told.{Told}
 use Rattle.erst_store.specs.Store.{Stored}
-use Rattle.ras_base.specs.Places.{places}
 use Rattle.ras_account.specs.Accounts.{IsAccount}
 use Rattle.ras_journal.specs.Recovered.{Recovers}
 use Rattle.ras_run.specs.declared.ledger.Ledger.{Ledger}
-use Rattle.ras_events.specs.Reports.{NumberedLine, event_at}
+use Rattle.ras_events.specs.Described.{NumberedLine}
+use Rattle.ras_run.specs.Sites.{IsBoardAt, Start, first_site}
+use Rattle.ras_run.specs.Places.{event_at, places_from, site_at}
+use Rattle.ras_daemon.specs.Script.{reads_in, reads_of, places_taken}
 use Rattle.ras_script.specs.declared.reader.TheConstants.{LONGEST_LINE}
 use Rattle.ras_script.specs.Splitting.{lines_of}
 use Rattle.ras_script.specs.SplittingLaws.{script_of}
@@ -19,23 +21,21 @@ use Rattle.ras_exit.specs.Endings.{CallEnding, answered, ending_of, faulted}
 use Rattle.ras_exit.specs.ScriptEnd.{script_exit}
 use Rattle.ras_run.specs.Output.{output_at}
 use Rattle.ras_run.specs.Moments.{CourseMoment, course_at, refused_store}
-use Rattle.ras_run.specs.Places.{IsBoardAfter, Start, account_at, store_at}
-use Rattle.ras_run.specs.Status.{places_before_refusal, refusal_at}
+use Rattle.ras_run.specs.Status.{refusal_at}
 use Rattle.ras_run.specs.Taking.{IsAccepted}
 use Rattle.ras_daemon.specs.Headline.{AtOpening}
 use Rattle.ras_daemon.specs.RunOutput.{closing_line}
 use Rattle.ras_events.specs.DoneLines.{ended_lines}
 use Rattle.ras_daemon.specs.Ahead.{events_in}
 use Rattle.ras_daemon.specs.RunStatus.{run_exit}
-use Rattle.ras_daemon.specs.Script.{reads_in, reads_of}
 
 -- each of these lines is accepted at its place
 abbrev pub AreAccepted : Start → List NumberedLine → Type 0
-AreAccepted start reads = AllByRecursion (IsAccepted start) (places reads)
+AreAccepted start reads = AllByRecursion IsAccepted (places_from (first_site start) reads)
 
 -- what they print
 abbrev pub outputs : Start → List NumberedLine → List ℕ
-outputs start reads = flat_map (output_at start) (places reads)
+outputs start reads = flat_map output_at (places_from (first_site start) reads)
 
 -- the first lines of a script, each of which is accepted
 pub record AreFirst (start : Start) (script : List ℕ) (before : List NumberedLine) : Type 0 where
@@ -46,7 +46,7 @@ pub record AreFirst (start : Start) (script : List ℕ) (before : List NumberedL
 -- those before the line at which a run ends
 pub record AreAll (start : Start) (script : List ℕ) (exit : Exit) (before : List NumberedLine) : Type 0 where
   pub first : AreFirst start script before
-  pub all : places_before_refusal start (places (reads_of script)) ≡ places before
+  pub all : places_taken start script ≡ places_from (first_site start) before
   pub exit_is : run_exit start script ≡ exit
 
 -- ---- what a stop leaves; the text is that before the lines
@@ -55,8 +55,8 @@ pub record AreAll (start : Start) (script : List ℕ) (exit : Exit) (before : Li
 pub record BetweenLines (start : Start) (script : List ℕ) (out : List ℕ) (left : Left) : Type 0 where
   pub before : List NumberedLine
   pub first : AreFirst start script before
-  pub recovers : Recovers (account_at start before) left
-  pub store : left.store ≡ store_at start before
+  pub recovers : Recovers (site_at start before).account left
+  pub store : left.store ≡ (site_at start before).store
   pub text : left.out ≡ out ++ outputs start before
 
 pub record AtLine (start : Start) (script : List ℕ) (out : List ℕ) (left : Left) : Type 0 where
@@ -65,7 +65,7 @@ pub record AtLine (start : Start) (script : List ℕ) (out : List ℕ) (left : L
   pub rest : List NumberedLine
   pub splits : before ++ read ∷ rest ≡ reads_of script
   pub accepted : AreAccepted start before
-  pub course : CourseMoment (IsAccepted start (before, read)) (course_at start (before, read)) (out ++ outputs start before) left
+  pub course : CourseMoment (IsAccepted (site_at start before, read)) (course_at (site_at start before, read)) (out ++ outputs start before) left
 
 abbrev pub LinesMoment : Start → List ℕ → List ℕ → Left → Type 0
 LinesMoment start script out left = BetweenLines start script out left ⊎ AtLine start script out left
@@ -76,12 +76,12 @@ pub record LeftByRefused (start : Start) (script : List ℕ) (before : List Numb
   pub read : NumberedLine
   pub rest : List NumberedLine
   pub splits : before ++ read ∷ rest ≡ reads_of script
-  pub refused : refusal_at start (before, read) ≡ Some exit
-  pub is : store ≡ refused_store exit (event_at (before, read)) (store_at start before)
+  pub refused : refusal_at (site_at start before, read) ≡ Some exit
+  pub is : store ≡ refused_store exit (event_at (site_at start before, read)) (site_at start before).store
 
 abbrev pub StoreAtEnd : Start → List ℕ → List NumberedLine → Exit → List Stored → Type 0
 StoreAtEnd start script before exit store =
-    ((exit ≡ script_exit script) × (store ≡ store_at start before)) ⊎ LeftByRefused start script before exit store
+    ((exit ≡ script_exit script) × (store ≡ (site_at start before).store)) ⊎ LeftByRefused start script before exit store
 
 -- while the orders that stand at the start are printed, and while the last line is
 pub record AtStart (start : Start) (out : List ℕ) (left : Left) : Type 0 where
@@ -93,9 +93,9 @@ pub record AtEnd (start : Start) (script : List ℕ) (out : List ℕ) (left : Le
   pub before : List NumberedLine
   pub exit : Exit
   pub all : AreAll start script exit before
-  pub recovers : Recovers (account_at start before) left
+  pub recovers : Recovers (site_at start before).account left
   pub store : StoreAtEnd start script before exit left.store
-  pub text : Begins (closing_line (account_at start before) exit) (out ++ outputs start before) left.out
+  pub text : Begins (closing_line (site_at start before).account exit) (out ++ outputs start before) left.out
 
 -- the text that stands before the lines
 abbrev pub lines_from : Start → List ℕ → List ℕ
@@ -118,7 +118,7 @@ RunMoment clock start script here left =
 pub record IsStart (start : Start) (ledger : Ledger) (t : Told) : Type 0 where
   pub account : ledger.account.state ≡ start.account
   pub standing : ledger.journal.standing ≡ start.standing
-  pub board : IsBoardAfter start [] t
+  pub board : IsBoardAt (first_site start) t
 
 -- ---- how a run ends; the text is that before it
 
@@ -127,8 +127,8 @@ pub record IsStart (start : Start) (ledger : Ledger) (t : Told) : Type 0 where
 pub record EndsEarly (start : Start) (script out : List ℕ) (now : Told) : Type 0 where
   pub before : List NumberedLine
   pub first : AreFirst start script before
-  pub recovers : Recovers (account_at start before) now.here
-  pub store : now.here.store ≡ store_at start before
+  pub recovers : Recovers (site_at start before).account now.here
+  pub store : now.here.store ≡ (site_at start before).store
   pub text :
       (IsAccount start.account
       × (now.here.out ≡ out ++ (standing_lines start.account ++ outputs start before)))
@@ -139,9 +139,9 @@ pub record EndsSo (start : Start) (script : List ℕ) (exit : Exit) (out : List 
   pub before : List NumberedLine
   pub all : AreAll start script exit before
   pub account : IsAccount start.account
-  pub recovers : Recovers (account_at start before) now.here
+  pub recovers : Recovers (site_at start before).account now.here
   pub store : StoreAtEnd start script before exit now.here.store
-  pub text : now.here.out ≡ out ++ (standing_lines start.account ++ (outputs start before ++ closing_line (account_at start before) exit))
+  pub text : now.here.out ≡ out ++ (standing_lines start.account ++ (outputs start before ++ closing_line (site_at start before).account exit))
 
 abbrev pub EndsIn : Start → List ℕ → Exit → CallEnding → List ℕ → Told → Type 0
 EndsIn start script exit answered out now = EndsSo start script exit out now

@@ -16,10 +16,10 @@ read_so text word places bit unit mask location named low spaced marked masked l
 
 pub returns : goal.returns
 returns c =
-    read_so c.args.text.now c.in_ok-value_after.field-0.now c.in_ok-places.places.now c.in_ok-bit.bit c.in_ok-mark_place.field-0
+    read_so c.args.text.now c.in_ok-value_after.field-0.now c.in_ok-places.places.now c.in_ok-bit.bit c.in_ok-place_of.field-0
     c.low_bit_mask.result c.location_of.result
     (sym c.value_after.ensures ∙ ap (option_map (λ value. value.now)) c.in_ok-value_after.was)
     (ap low_bit_of (sym c.cut.ensures.front) ∙ sym c.low_bit_of.ensures.value ∙ c.in_ok-bit.was)
     (ap (value_after (codes " ")) (sym c.cut.ensures.rest) ∙ sym c.value_after-2.ensures ∙ ap (option_map (λ value. value.now)) c.in_ok-places.was)
-    (sym c.mark_place.ensures.place ∙ c.in_ok-mark_place.was)
+    (sym c.place_of.ensures.place ∙ c.in_ok-place_of.was)
     c.low_bit_mask.ensures c.location_of.ensures

@@ -32,7 +32,7 @@ pub returns-clause-module_stands : goal.returns-clause-module_stands
 returns-clause-module_stands c = λ history start script n label row is there. module-stands history start is script n label row there
 
 pub returns-clause-joined : goal.returns-clause-joined
-returns-clause-joined c = account-joined
+returns-clause-joined c = λ start next one other both joined none. account-joined one other both joined none start next
 
 pub returns-clause-ordered : goal.returns-clause-ordered
 returns-clause-ordered c = λ history start script n is. orders-follow history start is script n

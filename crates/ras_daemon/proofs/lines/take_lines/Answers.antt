@@ -7,7 +7,7 @@ use Rattle.ras_exit.specs.declared.exit.Exit.TheVariants.{Done}
 use Rattle.ras_exit.specs.Endings.{ending_of}
 use Rattle.ras_daemon.specs.Script.{reads_in}
 use Rattle.ras_daemon.proofs.GrowLemmas.{part_grows}
-use Rattle.ras_daemon.proofs.LinesLemmas.{board_then, failed_same, gave_as, given, if_more, line_ends, moved_as, moved_tells, next_ends, next_failed, none_given, stopped, tells_same, took_line, took_none}
+use Rattle.ras_daemon.proofs.LinesLemmas.{failed_same, gave_as, given, if_more, line_ends, moved_as, moved_tells, next_ends, next_failed, none_given, stopped, takes_next, tells_same, took_line, took_none}
 use Rattle.ras_daemon.proofs.FewLemmas.{TakesOf, takes_by, takes_more, takes_none}
 use Rattle.ras_daemon.proofs.LineEndLemmas.{ahead_given, ahead_none, line_not_done, next_not_done, not_fault}
 use Rattle.ras_daemon.proofs.ScriptLemmas.{told_after}
@@ -33,12 +33,11 @@ loop-alloc-preserved g c =
           (let took = c.loop-alloc.invariant.took start script t after left is holds in
           let taking = took.0 in
           let there = told_after taking.acts t (g.B.Board.seen c.args.board.now).told (g.B.Board.seen c.loop-alloc.board).told is took.1.told in
-          let takes = c.in_ok-take_line.ensures.takes start (reads_in taking.done) taking.after (after_acts taking.acts t) there (board_then start script t c.loop-alloc.lines.number c.loop-alloc.lines.reader (g.S.Source.left c.loop-alloc.source) c.loop-alloc.run taking) in
-          let does = c.in_ok-take_line.ensures.does start (reads_in taking.done) taking.after (after_acts taking.acts t) there (board_then start script t c.loop-alloc.lines.number c.loop-alloc.lines.reader (g.S.Source.left c.loop-alloc.source) c.loop-alloc.run taking) in
+          let takes = takes_next g.B.Board.seen start script t _ _ _ _ taking (c.number.result, line_of c.line.result.now) _ _ _ _ (c.in_ok-take_line.ensures.takes (after_acts taking.acts t) there) in
           rw number
-          (took_line start script t c.loop-alloc.lines.number c.loop-alloc.lines.reader c.next.new.self.reader (g.S.Source.left c.loop-alloc.source) (g.S.Source.left c.next.new.source) c.loop-alloc.run c.line.result.now c.line.ensures taking g.B.Board.seen _ does.0 c.args.board.now c.loop-alloc.board c.take_line.new.board took.1 does.2
+          (took_line start script t c.loop-alloc.lines.number c.loop-alloc.lines.reader c.next.new.self.reader (g.S.Source.left c.loop-alloc.source) (g.S.Source.left c.next.new.source) c.loop-alloc.run c.line.result.now c.line.ensures taking g.B.Board.seen _ c.args.board.now c.loop-alloc.board c.take_line.new.board took.1
           (c.in_ok-next.ensures.counts.bytes.line (ap Ok c.if-not-branch.false)) (c.in_ok-next.ensures.counts.bytes.grows (ap Ok c.if-not-branch.false)) (gave_as (Ok c.in_ok-next.field-0) (Ok true) c.loop-alloc.lines.number c.loop-alloc.lines.reader c.next.new.self.reader (g.S.Source.left c.loop-alloc.source) (g.S.Source.left c.next.new.source) (ap Ok c.if-not-branch.false) c.in_ok-next.ensures.gives) (moved_as (Ok c.in_ok-next.field-0) (Ok true) c.loop-alloc.lines.reader c.next.new.self.reader (g.S.Source.left c.loop-alloc.source) (g.S.Source.left c.next.new.source) (ap Ok c.if-not-branch.false) c.in_ok-next.ensures.moves)
-          (rw (c.number.ensures, number) at takes) (rw (c.number.ensures, number) at does.1)));
+          (rw (c.number.ensures, number) at takes)));
       tells = if_more _ _ _ c.loop-alloc.invariant.tells (λ script (now : (rest : List ℕ) × ((g.S.Source.left c.loop-alloc.source) ≡ Some rest)). moved_tells (Ok c.in_ok-next.field-0) c.loop-alloc.lines.reader c.next.new.self.reader now.0 _ _ now.1 c.in_ok-next.ensures.moves);
       few = takes_more (Ok c.in_ok-next.field-0) c.loop-alloc.lines.reader c.next.new.self.reader _ _ _ c.loop-alloc.invariant.few c.in_ok-next.ensures.moves;
       ready = c.in_ok-take_line.ensures.ready;
@@ -56,14 +55,13 @@ returns-in_err-take_line-clause-comes g c = λ start script t after left is hold
     let taking = took.0 in
     let there = told_after taking.acts t (g.B.Board.seen c.args.board.now).told (g.B.Board.seen c.loop-alloc.board).told is took.1.told in
     let line = (given start script t c.loop-alloc.lines.number c.loop-alloc.lines.reader c.next.new.self.reader (g.S.Source.left c.loop-alloc.source) (g.S.Source.left c.next.new.source) c.loop-alloc.run c.line.result.now c.line.ensures taking (gave_as (Ok c.in_ok-next.field-0) (Ok true) c.loop-alloc.lines.number c.loop-alloc.lines.reader c.next.new.self.reader (g.S.Source.left c.loop-alloc.source) (g.S.Source.left c.next.new.source) (ap Ok c.if-not-branch.false) c.in_ok-next.ensures.gives) (moved_as (Ok c.in_ok-next.field-0) (Ok true) c.loop-alloc.lines.reader c.next.new.self.reader (g.S.Source.left c.loop-alloc.source) (g.S.Source.left c.next.new.source) (ap Ok c.if-not-branch.false) c.in_ok-next.ensures.moves)) in
-    let takes = c.in_err-take_line.ensures.takes start (reads_in taking.done) taking.after (after_acts taking.acts t) there (board_then start script t c.loop-alloc.lines.number c.loop-alloc.lines.reader (g.S.Source.left c.loop-alloc.source) c.loop-alloc.run taking) in
-    let does = c.in_err-take_line.ensures.does start (reads_in taking.done) taking.after (after_acts taking.acts t) there (board_then start script t c.loop-alloc.lines.number c.loop-alloc.lines.reader (g.S.Source.left c.loop-alloc.source) c.loop-alloc.run taking) in
+    let takes = takes_next g.B.Board.seen start script t _ _ _ _ taking (c.number.result, line_of c.line.result.now) _ _ _ _ (c.in_err-take_line.ensures.takes (after_acts taking.acts t) there) in
     rw (p.1, p.2) (record {
-      does = stopped g.B.Board.seen start script t (reads_in taking.done) line.0 (c.loop-alloc.lines.number + 1, line_of c.line.result.now) line.1 taking.accepted taking.acts does.0 taking.along
-          c.args.board.now c.loop-alloc.board c.take_line.new.board took.1 c.in_err-take_line.field-0.0 c.take_line.new.run there (rw (c.number.ensures, number) at takes) (rw (c.number.ensures, number) at does.1) does.2;
+      does = stopped g.B.Board.seen start script t (reads_in taking.done) line.0 (c.loop-alloc.lines.number + 1, line_of c.line.result.now) line.1 taking.accepted taking.acts taking.along
+          c.args.board.now c.loop-alloc.board c.take_line.new.board took.1 c.in_err-take_line.field-0.0 c.take_line.new.run there (rw (c.number.ensures, number) at takes);
       ahead = ahead_given _ (λ fault. not_fault c.in_err-take_line.field-0.0 c.in_err-take_line.ensures.stop fault) start script t c.loop-alloc.lines.number c.loop-alloc.lines.reader c.next.new.self.reader (g.S.Source.left c.loop-alloc.source) (g.S.Source.left c.next.new.source) c.loop-alloc.run (g.B.Board.seen c.take_line.new.board).told c.line.result.now c.line.ensures taking
           (c.in_ok-next.ensures.counts.bytes.line (ap Ok c.if-not-branch.false)) (c.in_ok-next.ensures.counts.bytes.grows (ap Ok c.if-not-branch.false)) c.in_ok-next.ensures.counts.bytes.ahead (moved_as (Ok c.in_ok-next.field-0) (Ok true) c.loop-alloc.lines.reader c.next.new.self.reader (g.S.Source.left c.loop-alloc.source) (g.S.Source.left c.next.new.source) (ap Ok c.if-not-branch.false) c.in_ok-next.ensures.moves) line
-          (part_grows g.B.Board.seen does.0 (ending_of c.in_err-take_line.field-0.0) (after_acts taking.acts t) c.loop-alloc.board c.take_line.new.board there does.2);
+          (part_grows g.B.Board.seen takes.does.0 (ending_of c.in_err-take_line.field-0.0) (after_acts taking.acts t) c.loop-alloc.board c.take_line.new.board there takes.does.2);
     })
 
 pub returns-in_err-take_line-clause-takes : goal.returns-in_err-take_line-clause-takes

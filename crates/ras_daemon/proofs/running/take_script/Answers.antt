@@ -1,8 +1,8 @@
-use Rattle.std.proofs.Common.{◌≡◌, ◌∙◌, ℕ, [], Err, inl, inr, ap, subst, sym}
+use Rattle.std.proofs.Common.{◌≡◌, ◌∙◌, ℕ, Err, inl, inr, ap, subst, sym}
 use Rattle.std.specs.Prelude.{IfErr}
 use Rattle.board_core.specs.Cause.{Faults}
 use Rattle.board_core.specs.Doing.{Does, GoesWell, after_acts}
-use Rattle.line_filters.specs.Steps.Filtering.{exit_of}
+use Rattle.line_filters.specs.Filters.{exit_of}
 use Rattle.ras_exit.specs.Acts.{end_of, print_acts}
 use Rattle.ras_exit.specs.Causes.{BoardCause, Causes, SourceCause}
 use Rattle.ras_exit.specs.Endings.{IsLineExit, ending_of}
@@ -17,6 +17,7 @@ use Rattle.ras_daemon.proofs.AheadLemmas.{ahead_end, fault_before}
 use Rattle.ras_daemon.proofs.FewLemmas.{takes_as, takes_no_byte}
 use Rattle.ras_daemon.proofs.RunLemmas.{ledger_holds}
 use Rattle.ras_daemon.proofs.SaidLemmas.{done_before, ends_causes, ends_exit, ends_printed, orders_causes, orders_end, print_line_exit, print_not_done}
+use Rattle.ras_run.specs.Sites.{first_site}
 use Rattle.ras_daemon.proofs.ScriptLemmas.{printed_holds, printed_out, told_after}
 use Rattle.ras_daemon.proofs.TakenLemmas.{ends_as, lines_taken, no_orders, source_fault}
 use Rattle.ras_daemon.proofs.running.take_script.Goals as goal
@@ -43,7 +44,7 @@ returns-clause-comes g c = λ start script t begins left is.
           let holds = ledger_holds start c.args.ledger t _ _ begins c.requires.ledger.1 (before_of _ _ _ _ t c.requires.ledger.0.stands is) in
           let comes : ComesLines see start script (after_acts (orders_acts start) t) j.ended j.run (g.S.Source.left j.source) printed j.board =
           rw (w.ended-is, w.run-is, w.source-is, w.board-is) (w.take_lines-ended.ensures.comes start script (after_acts (orders_acts start) t)
-          (record { settings = c.new.ensures; account = begins.account; standing = begins.standing }) left (told_after (orders_acts start) t _ _ is orders.told) (printed_holds start [] (standing_lines start.account) t holds)) in
+          (record { settings = c.new.ensures; account = begins.account; standing = begins.standing }) left (told_after (orders_acts start) t _ _ is orders.told) (printed_holds (first_site start) (standing_lines start.account) t holds)) in
           let stop : IfErr j.ended IsLineExit = rw w.ended-is w.take_lines-ended.ensures.ends.stop in
           record {
             does = lines_taken see start script t here printed j.board end j.ended j.run c.exit_of.result c.end_run.result orders comes.does (rw c.exit_of.ensures (ends_as j.ended stop)) c.end_run.ensures.ends;

@@ -8,10 +8,11 @@ use Rattle.ras_events.specs.Sizes.{CanBeSaved, IsFit}
 use Rattle.ras_exit.specs.Acts.{part_end}
 use Rattle.ras_texts.specs.Text.{done_line, known_line}
 use Rattle.erst_interp.specs.Admission.{IsAdmittedTable}
+use Rattle.erst_interp.proofs.AdmitsLemmas.{is-admitted}
 use Rattle.erst_store.specs.Store.{refusal_of}
 use Rattle.erst_driver.proofs.DoesLemmas.{at_told}
 use Rattle.ras_run.specs.Status.{put_refusal, saving_refusal}
-use Rattle.ras_run.specs.Step.{IsDrivable}
+use Rattle.ras_run.specs.Sites.{IsDrivable}
 use Rattle.ras_run.specs.Taking.{EndsUnless}
 use Rattle.ras_run.proofs.CountLemmas.{counted_still, cut_short, not_told, print_exit, repeat_acts, repeat_counted, told_done}
 use Rattle.ras_run.proofs.StandsLemmas.{ready_printed}
@@ -129,7 +130,7 @@ returns-in_ok-driver-in-Polled-clause-takes g c = λ t at drivable.
     let asked = c.in-Ok.ensures.event ∙ ap (λ (e : Event). Ok e) c.in-Polled.is in
     let lists = c.in_ok-driver-in-Polled.driver.now in
     let told = c.in_ok-driver-in-Polled.ensures in
-    let admitted : IsAdmittedTable lists = subst IsDrivable told (still_drivable old run c.args.line c.in-Ok.ensures.settings (Polled c.in-Polled.seconds) asked tt drivable) in
+    let admitted : IsAdmittedTable lists = is-admitted lists (subst IsDrivable told (still_drivable old run c.args.line c.in-Ok.ensures.settings (Polled c.in-Polled.seconds) asked tt drivable)) in
     polled_in see old run c.args.number t c.poll_store.result c.args.board.now c.poll_store.new.board c.args.line c.in-Ok.ensures.settings lists told
     c.in-Polled.seconds asked (c.poll_store.ensures.polls t at admitted)
 

@@ -1,26 +1,23 @@
--- What the lines of a script report, each given the machine description of the lines before it and the record store
--- that they leave.
-use Rattle.std.specs.Prelude.{List, [], ◌∷◌, Option, None, Some, Result, Ok, Err, unwrap_or}
-use Rattle.std.specs.List.{filter_map, flat_map}
-use Rattle.ras_base.specs.Places.{places}
+-- What the lines of a script tell of the machine, and what a line asks for under that.
+use Rattle.std.specs.Prelude.{ℕ, List, [], ◌∷◌, Option, None, Some, Result, Ok, Err}
+use Rattle.std.specs.List.{filter_map}
 use Rattle.apei_sources.specs.Hest.{Sources, hest_of}
 use Rattle.dimm_topology.specs.declared.row.Row.{Row}
 use Rattle.erst_interp.specs.Table.{erst_of}
-use Rattle.erst_store.specs.Store.{Stored}
-use Rattle.ras_facts.specs.declared.entry.Entry.{Entry}
+use Rattle.ras_script.specs.declared.line.Line.{Line}
 use Rattle.ras_script.specs.declared.line.Line.TheVariants as asks
+use Rattle.ras_script.specs.declared.line.LineRefused.{LineRefused}
 use Rattle.ras_script.specs.declared.line.Table.TheVariants.{Hest, Erst}
 use Rattle.ras_events.specs.declared.event.Event.{Event}
 use Rattle.ras_events.specs.declared.event.LineRefusal.{LineRefusal}
 use Rattle.ras_events.specs.declared.event.LineRefusal.TheVariants.{Bad}
 use Rattle.ras_exit.specs.declared.reason.Reason.TheVariants as reason
 use Rattle.ras_events.specs.declared.settings.Settings.{Settings}
-use Rattle.ras_events.specs.declared.made.Piece.{Piece}
-use Rattle.ras_events.specs.Deeds.{counted_in, deed_of}
-use Rattle.ras_events.specs.Events.{Lists, admitted_in, event_of}
-use Rattle.ras_events.specs.Making.{entries_in}
-use Rattle.ras_events.specs.Stores.{laid}
-pub use Rattle.ras_events.specs.Stores.{NumberedLine}
+use Rattle.ras_events.specs.Events.{Lists, admitted_in, event_of, settings_after}
+
+-- a line's number, and what the line asks for or why it can't be read
+abbrev pub NumberedLine : Type 0
+NumberedLine = ℕ × Result Line LineRefused
 
 -- the row of the machine that a line gives, and the rows that lines give, in order
 abbrev pub row_by : NumberedLine → Option Row
@@ -59,27 +56,12 @@ settings_told reads = record {
   driver = last_of (filter_map driver_by reads);
 }
 
--- a line with all the lines before it
-abbrev pub Place : Type 0
-Place = List NumberedLine × NumberedLine
+-- the machine description after a line; a line that can't be read changes nothing
+abbrev pub settings_read : Settings → NumberedLine → Settings
+settings_read settings (number, Ok line) = settings_after settings line
+settings_read settings (number, Err refused) = settings
 
--- what a line asks for at its place, or why it is refused there
-abbrev pub event_at : Place → Result Event LineRefusal
-event_at (before, (number, Ok line)) = event_of (settings_told before) line
-event_at (before, (number, Err refused)) = Err (Bad (reason.Line refused))
-
--- the pieces of an event, by the rows of the machine and the records of the store at that time
-abbrev pub made_in : List Row → List Stored → Result Event LineRefusal → List Piece
-made_in rows store event = unwrap_or (counted_in rows store (deed_of event).asks (deed_of event).reported) []
-
--- the pieces of a line at its place, if the record store was this one before the first line
-abbrev pub pieces_at : List Stored → Place → List Piece
-pieces_at store place = made_in (settings_told place.0).topology (laid store place.0) (event_at place)
-
--- the entries of a line at its place, and the entries of lines, in order
-abbrev pub entries_at : List Stored → Place → List Entry
-entries_at store place = entries_in (pieces_at store place)
-
--- the entries that lines report, in order, from this record store on
-abbrev pub reports : List Stored → List NumberedLine → List Entry
-reports store reads = flat_map (entries_at store) (places reads)
+-- what a line asks for under a machine description, or why it is refused
+abbrev pub event_read : Settings → NumberedLine → Result Event LineRefusal
+event_read settings (number, Ok line) = event_of settings line
+event_read settings (number, Err refused) = Err (Bad (reason.Line refused))

@@ -1,11 +1,8 @@
--- What lines tell and report, a line at a time.
-use Rattle.std.proofs.Common.{◌≡◌, ℕ, List, [], ◌∷◌, ◌++◌, Option, None, Some, Result, Ok, Err, ap, refl, ◌∙◌, append-nil}
+-- What lines tell of the machine, a line at a time.
+use Rattle.std.proofs.Common.{◌≡◌, ℕ, List, [], ◌∷◌, ◌++◌, Option, None, Some, Result, Ok, Err, ap, refl, sym, ◌∙◌, append-nil, append_assoc}
 use Rattle.std.proofs.lemmas.List.Elements.{filter_map-append}
-use Rattle.std.proofs.lemmas.List.Concat.{flat_map-append}
-use Rattle.std.specs.List.{cons_option, filter_map, flat_map}
+use Rattle.std.specs.List.{cons_option, filter_map, fold}
 use Rattle.std.specs.Option.{option_map_or}
-use Rattle.ras_base.specs.Places.{places, places_behind}
-use Rattle.ras_base.specs.Steps.PlacesLemmas.{places_behind-append}
 use Rattle.apei_sources.specs.Hest.{Sources, hest_of}
 use Rattle.apei_sources.specs.declared.refusals.TableRefused.{TableRefused}
 use Rattle.ras_script.specs.declared.line.Line.{Line}
@@ -13,10 +10,9 @@ use Rattle.ras_script.specs.declared.line.Line.TheVariants as asks
 use Rattle.ras_script.specs.declared.line.Table.TheVariants.{Hest, Erst}
 use Rattle.ras_events.specs.declared.settings.Settings.{Settings}
 use Rattle.erst_interp.specs.Table.{erst_of}
-use Rattle.erst_store.specs.Store.{Stored}
 use Rattle.dimm_topology.specs.declared.row.Row.{Row}
-use Rattle.ras_events.specs.Events.{Lists, admitted_in, settings_after, with_driver, with_sources}
-use Rattle.ras_events.specs.Reports.{NumberedLine, driver_by, entries_at, last_of, reports, row_by, settings_told, sources_by, sources_in_table}
+use Rattle.ras_events.specs.Events.{Lists, admitted_in, no_settings, settings_after, with_driver, with_sources}
+use Rattle.ras_events.specs.Described.{NumberedLine, driver_by, last_of, row_by, settings_read, settings_told, sources_by, sources_in_table}
 
 -- the last of a list with one more
 last-snoc : {X : Type 0} (xs : List X) (x : X) → last_of (xs ++ x ∷ []) ≡ Some x
@@ -61,23 +57,30 @@ with-driver : (settings : Settings) (lists : Option Lists) → with_told setting
 with-driver settings (Some lists) = λ i. record settings { topology = append-nil settings.topology i; driver = Some lists }
 with-driver settings None = same settings
 
-pub settings-line : (before : List NumberedLine) (number : ℕ) (line : Line) → settings_told (before ++ (number, Ok line) ∷ []) ≡ settings_after (settings_told before) line
-settings-line before number line = settings-snoc before (number, Ok line) ∙ by (settings_told before) line
+settings-line : (before : List NumberedLine) (read : NumberedLine) → settings_told (before ++ read ∷ []) ≡ settings_read (settings_told before) read
+settings-line before (number, Err why) = settings-snoc before (number, Err why) ∙ same (settings_told before)
+settings-line before (number, Ok line) = settings-snoc before (number, Ok line) ∙ by (settings_told before) line
   where
     by : (s : Settings) (l : Line) → with_told s (row_by (number, Ok l)) (sources_by (number, Ok l)) (driver_by (number, Ok l)) ≡ settings_after s l
-    by s asks.Nothing = same s
     by s (asks.Row row) = refl
     by s (asks.Table (Hest bytes)) = with-sources s (hest_of bytes)
     by s (asks.Table (Erst bytes)) = with-driver s (admitted_in (erst_of bytes))
-    by s (asks.Report report) = same s
-    by s (asks.Entry entry) = same s
-    by s (asks.Put id bytes) = same s
-    by s (asks.Panic id bank) = same s
-    by s (asks.Poll seconds) = same s
-    by s asks.Restart = same s
+    by s line = same s
 
-pub reports-cut : (store : List Stored) (first others : List NumberedLine)
-    → reports store (first ++ others) ≡ reports store first ++ flat_map (entries_at store) (places_behind first others)
-reports-cut store first others =
-    ap (flat_map (entries_at store)) (places_behind-append [] first others)
-    ∙ flat_map-append (entries_at store) (places first) (places_behind first others)
+-- a table of error sources leaves the lists that drive the record store
+pub sources-leave : (settings : Settings) (bytes : List ℕ) → (settings_after settings (asks.Table (Hest bytes))).driver ≡ settings.driver
+sources-leave settings bytes = by (hest_of bytes)
+  where
+    by : (table : Result Sources TableRefused) → (with_sources settings table).driver ≡ settings.driver
+    by (Ok sources) = refl
+    by (Err why) = refl
+
+told-behind : (before reads : List NumberedLine) → fold settings_read (settings_told before) reads ≡ settings_told (before ++ reads)
+told-behind before [] = ap settings_told (sym (append-nil before))
+told-behind before (read ∷ reads) =
+    ap (λ (settings : Settings). fold settings_read settings reads) (sym (settings-line before read))
+    ∙ told-behind (before ++ read ∷ []) reads
+    ∙ ap settings_told (append_assoc before (read ∷ []) reads)
+
+pub told-along : (reads : List NumberedLine) → fold settings_read no_settings reads ≡ settings_told reads
+told-along reads = told-behind [] reads
