@@ -409,7 +409,7 @@ ledger_holds start ledger u told clock begins account before = record {
 
 pub was_opened : {X : Type 0} (see : X → Seen) (start : Start) (script : List ℕ) (exit : Exit) (ledger : Ledger) (t : Told) (a b new : X) → (is : (see a).told ≡ Some t)
     → (after : Relates AfterOpening (see a).told (see b).told) → IsStart start ledger (told_on AfterOpening (see a).told (see b).told t is after).0 → IsAccount ledger.account.state
-    → Relates MakesOpening (see a).told (see b).told → Adds (Opening (see a).clock t.here) (see a).clock (see b).clock → SyncsFirst see (OpeningSynced t.here) t a b → IsReady ledger (see b).told (see b).clock
+    → Relates MakesOpening (see a).told (see b).told → Adds (Opening (see a).clock t.here) (see a).clock (see b).clock → SyncsFirst see (OpeningSynced t.here) t a b → IsReady ledger (see b)
     → TakesScript see start script (told_on AfterOpening (see a).told (see b).told t is after).0 exit b new → OpensRun see start script exit t a new
 was_opened see start script exit ledger t a b new is after begins account makes stops syncs ready takes =
     let found = told_on AfterOpening (see a).told (see b).told t is after in

@@ -31,7 +31,7 @@ pub fn take_lines<S: Source, B: Board>(
     board: &mut B,
 ) -> Result<(), Exit>
     requires fresh { lines.old ≡ no_lines }
-    requires ready { IsReady run.old.ledger (B.seen board.old).told (B.seen board.old).clock }
+    requires ready { IsReady run.old.ledger (B.seen board.old) }
 
     ensures comes { (start : Start) (script : List ℕ) (t : Told) → IsRunAt (first_site start) run.old
         → S.left source.old ≡ Some script → (B.seen board.old).told ≡ Some t → HoldsAt (first_site start) t

@@ -62,7 +62,7 @@ fn take_script<S: Source, B: Board>(
     board: &mut B,
 ) -> Exit
     requires fresh { lines.old ≡ no_lines }
-    requires ledger { IsReady ledger (B.seen board.old).told (B.seen board.old).clock
+    requires ledger { IsReady ledger (B.seen board.old)
         × IsAccount ledger.account.state }
 
     ensures comes { (start : Start) (script : List ℕ) (t : Told) → IsStart start ledger t

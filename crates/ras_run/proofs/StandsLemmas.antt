@@ -57,8 +57,8 @@ prints_at one two s a t at =
     (print_at two s a (after_acts (print_acts one) t) (print_at one s a t at))
 
 -- the next line can be taken after prints
-pub ready_printed : {X : Type 0} (see : X → Seen) (one two : List ℕ) (ledger : Ledger) (result : Result (Unit {0}) Exit) (x y : X) → IsReady ledger (see x).told (see x).clock → Does see (print_acts one ++ print_acts two) (part_end result) x y
-    → OnOk result (IsReady ledger (see y).told (see y).clock)
+pub ready_printed : {X : Type 0} (see : X → Seen) (one two : List ℕ) (ledger : Ledger) (result : Result (Unit {0}) Exit) (x y : X) → IsReady ledger (see x) → Does see (print_acts one ++ print_acts two) (part_end result) x y
+    → OnOk result (IsReady ledger (see y))
 ready_printed see one two ledger (Ok over) x y ready does = record {
   usable = ready.usable;
   stands = stands_on (print_acts one ++ print_acts two) ledger.journal.standing ledger.journal.standing ledger.account.state ledger.account.state (see x) (see y)
@@ -66,8 +66,8 @@ ready_printed see one two ledger (Ok over) x y ready does = record {
 }
 ready_printed see one two ledger (Err exit) x y ready does = tt
 
-pub ready_print : {X : Type 0} (see : X → Seen) (text : List ℕ) (ledger : Ledger) (result : Result (Unit {0}) Exit) (x y : X) → IsReady ledger (see x).told (see x).clock → Does see (print_acts text) (one_end print_call result) x y
-    → OnOk result (IsReady ledger (see y).told (see y).clock)
+pub ready_print : {X : Type 0} (see : X → Seen) (text : List ℕ) (ledger : Ledger) (result : Result (Unit {0}) Exit) (x y : X) → IsReady ledger (see x) → Does see (print_acts text) (one_end print_call result) x y
+    → OnOk result (IsReady ledger (see y))
 ready_print see text ledger (Ok over) x y ready does = record {
   usable = ready.usable;
   stands = stands_on (print_acts text) ledger.journal.standing ledger.journal.standing ledger.account.state ledger.account.state (see x) (see y)
@@ -93,13 +93,13 @@ stands_called see calls s a x y kept does stands = by (see x).told refl kept doe
         stands_on (acts_of (calls t)) s s a a (see x) (see y) (calls_at (calls t) s a) (subst (λ (o : Option Told). Stands s a o (see x).clock) (sym is) st) does
 
 pub ready_called : {X : Type 0} (see : X → Seen) (calls : Told → List DeviceCall) (ledger : Ledger) (x y : X) → Relates KeepsButDevice (see x).told (see y).told → IfSome (see x).told (λ t. GoesWell (acts_of (calls t)) (see x) (see y))
-    → IsReady ledger (see x).told (see x).clock → IsReady ledger (see y).told (see y).clock
+    → IsReady ledger (see x) → IsReady ledger (see y)
 ready_called see calls ledger x y kept does ready = record {
   usable = ready.usable;
   stands = stands_called see calls ledger.journal.standing ledger.account.state x y kept does ready.stands;
 }
 
-pub ready_put : {X : Type 0} (see : X → Seen) (call : DeviceCall) (ledger : Ledger) (x y : X) → GoesWell (acts_of (call ∷ [])) (see x) (see y) → IsReady ledger (see x).told (see x).clock → IsReady ledger (see y).told (see y).clock
+pub ready_put : {X : Type 0} (see : X → Seen) (call : DeviceCall) (ledger : Ledger) (x y : X) → GoesWell (acts_of (call ∷ [])) (see x) (see y) → IsReady ledger (see x) → IsReady ledger (see y)
 ready_put see call ledger x y does ready = record {
   usable = ready.usable;
   stands = stands_on (acts_of (call ∷ [])) ledger.journal.standing ledger.journal.standing ledger.account.state ledger.account.state (see x) (see y)

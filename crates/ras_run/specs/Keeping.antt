@@ -10,8 +10,8 @@ use Rattle.ras_account.specs.Account.{State}
 use Rattle.ras_account.specs.Continued.{account_after_all}
 use Rattle.ras_facts.specs.declared.entry.Entry.{Entry}
 use Rattle.ras_journal.specs.declared.standing.Standing.{Standing}
-use Rattle.ras_journal.specs.Recovered.{Recovers}
-use Rattle.ras_journal.specs.Appending.{Before, append_acts, needs_switch, standing_with}
+use Rattle.ras_journal.specs.Recovered.{IsAt, Recovers}
+use Rattle.ras_journal.specs.Appending.{Before, Links, append_acts, needs_switch, standing_with}
 use Rattle.ras_recover.specs.Switching.{CanSwitch, has_no_room, switch_acts, switched}
 use Rattle.ras_run.specs.declared.ledger.Ledger.{Ledger}
 use Rattle.ras_run.specs.declared.refused.KeepRefused.{KeepRefused}
@@ -60,6 +60,14 @@ keep_end result = ended_by keep_refused_end result
 -- a switch that is due can be made
 abbrev pub CanMake : Standing → State → List ℕ → Type 0
 CanMake standing account link = IsTrue (needs_switch standing link) → CanSwitch standing account
+
+-- A link of these entries can be kept, over what the model says: a switch that is due can be made, there is room, and the
+-- journal is as the standing and the account say.
+pub record CanKeep (standing : Standing) (account : State) (entries : List Entry) (link : List ℕ) (t : Told) : Type 0 where
+  pub can : CanMake standing account link
+  pub room : ¬ IsTrue (lacks_room standing account link)
+  pub links : Links account entries link
+  pub at : IsAt standing account t.here
 
 -- What becomes of the ledger, if this is the journal's next position: the account doesn't change, and if a disk call
 -- failed the journal has failed.

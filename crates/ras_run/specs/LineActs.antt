@@ -41,7 +41,7 @@ use Rattle.ras_run.specs.Deeds.{deed_done, deed_pieces, deed_text}
 use Rattle.ras_run.specs.Places.{Place, deed_at, event_at}
 use Rattle.ras_run.specs.Sites.{IsBoardAt, IsDrivable, Site, driving_lists}
 use Rattle.ras_run.specs.Status.{polling_refusal, site_refusal}
-use Rattle.ras_run.specs.Taking.{CountsPolled, IsAcceptedIn, TakesIn}
+use Rattle.ras_run.specs.Taking.{CountsPolled, IsAccepted, IsAcceptedIn, TakesIn}
 
 -- new entries are appended as one link; without any, nothing is done
 abbrev pub news_acts : Standing → State → List Entry → List Act
@@ -127,8 +127,7 @@ pub record AreActsIn (site : Site) (number : ℕ) (event : Result Event LineRefu
       AreUnlessRefused (site_refusal site number event)
       (AreFollowingIn site number (deed_of event) (after_acts (asking_by (driving_lists site) event t) t)) rest
 
--- What its calls of the device showed: that what is told of it is a device, and that a record that it
--- saves is one.
+-- What its calls of the device showed: that the model's device is one, and that a record that it saves is a record.
 abbrev pub CanAskFor : Asking → Told → Type 0
 CanAskFor (saves r) t = CanBeSaved r.id r.bytes × IsDevice (device_of t)
 CanAskFor (polls seconds) t = IsDevice (device_of t)
@@ -151,7 +150,7 @@ abbrev pub DoesIn : {X : Type 0} → (X → Seen) → Site → ℕ → Result Ev
 DoesIn see site number event t result old new =
     (acts : List Act) × AreBegunIn site number event t (ended_with result) acts × DoesBy see acts (ended_with result) old new
 
--- An event was taken at a site, and did its acts. From then on this is told of the machine.
+-- An event was taken at a site, and did its acts. From then on the machine is described so.
 pub record TakesEvent {X : Type 0} (see : X → Seen) (site : Site) (number : ℕ) (told : Settings) (event : Result Event LineRefusal) (t : Told) (result : Result (Unit {0}) Exit) (run : Run) (old new : X) : Type 0 where
   pub takes : TakesIn site number told event result run
   pub does : DoesIn see site number event t result old new
@@ -212,3 +211,10 @@ pub record HoldsAt (site : Site) (t : Told) : Type 0 where
   pub at : IsAt site.standing site.account t.here
   pub board : IsBoardAt site t
   pub drivable : IsDrivable site.settings.driver
+
+-- An accepted line does these acts at its place, over files and a record store that hold what its site says.
+pub record AreAcceptedActs (place : Place) (t : Told) (acts : List Act) : Type 0 where
+  pub accepted : IsAccepted place
+  pub can : CanAsk (event_at place) t
+  pub holds : HoldsAt place.0 t
+  pub are : AreLineActs place t acts

@@ -1,4 +1,4 @@
--- How a line goes, and what stops leave of it: one relation for every kind of line.
+-- How a line goes, and what a crash leaves of it: one relation for every kind of line.
 use Rattle.std.specs.Prelude.{◌≡◌, ℕ, ◌⊎◌, Bool, List, ◌++◌, Result, if◌then◌else◌}
 use Rattle.board_core.specs.Stop.{Becomes, Begins, Left}
 use Rattle.erst_store.specs.Store.{Stored}

@@ -1,7 +1,7 @@
 -- How far a run has come, and how each part of it ends.
 use Rattle.std.specs.Prelude.{◌≡◌, ℕ, Bool, true, false, List, ◌++◌, IfErr, IfOk, IfSome, Option, None, Some, Result, Ok, Err, ⊤}
 use Rattle.board_core.specs.Cause.{Faults, disk_call, print_call}
-use Rattle.board_core.specs.Clock.{Clock}
+use Rattle.board_core.specs.Doing.{Seen}
 use Rattle.board_core.specs.Stop.{Left}
 use Rattle.board_core.specs.Told.{Told}
 use Rattle.ras_account.specs.Account.{State}
@@ -42,13 +42,13 @@ abbrev pub Prints : List ℕ → Told → Told → Type 0
 Prints piece old new = new.here.out ≡ old.here.out ++ piece
 
 -- if the board has a model, it agrees with the ledger
-abbrev pub LedgerStands : Ledger → Option Told → Clock → Type 0
-LedgerStands ledger told clock = Stands ledger.journal.standing ledger.account.state told clock
+abbrev pub LedgerStands : Ledger → Seen → Type 0
+LedgerStands ledger seen = Stands ledger.journal.standing ledger.account.state seen.told seen.clock
 
 -- it stands, and its journal hasn't failed: the next line can be taken
-pub record IsReady (ledger : Ledger) (told : Option Told) (clock : Clock) : Type 0 where
+pub record IsReady (ledger : Ledger) (seen : Seen) : Type 0 where
   pub usable : ledger.journal.failed ≡ false
-  pub stands : LedgerStands ledger told clock
+  pub stands : LedgerStands ledger seen
 
 -- an exit of a part that prints: printing failed, or memory ran out
 abbrev pub IsPrintExit : Exit → Type 0
@@ -61,7 +61,7 @@ pub record IsAcceptedIn (site : Site) (number : ℕ) (event : Result Event LineR
   pub taken : site_refusal site number event ≡ None
   pub fit : IsFit (made_in site.settings.topology site.store event)
 
--- What a run has at hand once this is told of the machine, and these pieces are counted after a site.
+-- What a run has at hand once the machine is described so, and these pieces are counted after a site.
 pub record HasCounted (site : Site) (told : Settings) (made : List Piece) (run : Run) : Type 0 where
   pub settings : run.settings ≡ told
   pub account : run.ledger.account.state ≡ account_after_all site.account (entries_in made)
@@ -144,10 +144,10 @@ OpensLedger (Ok ledger) held = held ≡ Ok ledger.account.state
 OpensLedger (Err exit) held = EndsBy (refusal_exit held ≡ Some exit) ⊤ (OnlyFault disk_call) (ending_of exit)
 
 -- What is opened, and where it stands: as the files say. It can be written, and holds an account.
-pub record Opened (result : Result Ledger Exit) (told now : Option Told) (clock : Clock) : Type 0 where
+pub record Opened (result : Result Ledger Exit) (told : Option Told) (now : Seen) : Type 0 where
   pub held : IfSome told (λ t. OpensLedger result (recovered t.here.file0 t.here.file1))
   pub standing : IfOk result (λ ledger. IfSome told (λ t. ledger.journal.standing ≡ standing_opened t.here.file0 t.here.file1))
-  pub ready : IfOk result (λ ledger. IsReady ledger now clock)
+  pub ready : IfOk result (λ ledger. IsReady ledger now)
   pub account : IfOk result (λ ledger. IsAccount ledger.account.state)
 
 -- how it ends, and why

@@ -38,14 +38,14 @@ pub(crate) fn tell_made<B: Board>(
     board: &mut B,
 ) -> Result<Vec<u8>, Exit>
     requires fit { IsFit made }
-    requires ready { IsReady ledger.old (B.seen board.old).told (B.seen board.old).clock }
+    requires ready { IsReady ledger.old (B.seen board.old) }
 
     ensures counts { CountsMade made result ledger.old ledger.new }
     ensures does { Does B.seen
         (told_acts ledger.old.account.state ledger.old.journal.standing made)
         (part_end result) board.old board.new }
     ensures ready { OnOk result
-        (IsReady ledger.new (B.seen board.new).told (B.seen board.new).clock) }
+        (IsReady ledger.new (B.seen board.new)) }
     ensures done { IfOk result (λ done. done.items ≡ done_line number) }
 {
     let Prepared {
@@ -71,7 +71,7 @@ fn keep<B: Board>(
     ledger: &mut Ledger,
     board: &mut B,
 ) -> Result<(), Exit>
-    requires ready { IsReady ledger.old (B.seen board.old).told (B.seen board.old).clock }
+    requires ready { IsReady ledger.old (B.seen board.old) }
     requires can_take { IfSome news (CanTake ledger.old.account) }
     requires can_keep { IfSome news CanBeKept }
     requires room { IfSome news (λ news. HasOrderRoom news.orders.room text.old) }
@@ -84,7 +84,7 @@ fn keep<B: Board>(
         ++ order_lines (account_after_all ledger.old.account.state (news_entries news)).modules
         (orders_along_entries ledger.old.account.state (news_entries news))) }
     ensures ready { OnOk result
-        (IsReady ledger.new (B.seen board.new).told (B.seen board.new).clock) }
+        (IsReady ledger.new (B.seen board.new)) }
 {
     let Some(news) = news else {
         return Ok(());

@@ -7,7 +7,7 @@ ghost use Rattle.board_core.specs.Told.{Told};
 ghost use Rattle.ras_account.specs.Continued.{account_after_all};
 ghost use Rattle.ras_events.specs.Described.{NumberedLine, settings_told};
 ghost use Rattle.ras_exit.specs.declared.exit.Exit.{Exit};
-ghost use Rattle.ras_run.specs.LineActs.{AreLineActs, CanAsk, HoldsAt, asking_acts};
+ghost use Rattle.ras_run.specs.LineActs.{AreAcceptedActs, AreLineActs, CanAsk, HoldsAt, asking_acts};
 ghost use Rattle.ras_run.specs.LineCalls.{AreCallsAt};
 ghost use Rattle.ras_run.specs.Moments.{refused_store};
 ghost use Rattle.ras_run.specs.Output.{output_at};
@@ -39,8 +39,7 @@ pub fn line_laws()
     // A crash at any moment of it leaves what its course says; and so does one while it asks the
     // record store, whether or not it is refused then.
     ensures moments { (place : Place) (t : Told) (acts : List Act) (left : Left)
-        → IsAccepted place → CanAsk (event_at place) t → HoldsAt place.0 t
-        → AreLineActs place t acts → Moment acts t left → LineMoment place t.here left }
+        → AreAcceptedActs place t acts → Moment acts t left → LineMoment place t.here left }
     ensures asking { (place : Place) (t : Told) (left : Left)
         → CanAsk (event_at place) t → HoldsAt place.0 t
         → Moment (asking_acts place t) t left → LineMoment place t.here left }
@@ -48,8 +47,8 @@ pub fn line_laws()
     // Once a line that is accepted is done, the files and the record store hold what the site after
     // it says, and the text that it prints is printed.
     ensures done { (place : Place) (t : Told) (acts : List Act)
-        → IsAccepted place → CanAsk (event_at place) t → HoldsAt place.0 t
-        → AreLineActs place t acts → HoldsAt (site_after place.0 place.1) (after_acts acts t) }
+        → AreAcceptedActs place t acts
+        → HoldsAt (site_after place.0 place.1) (after_acts acts t) }
     ensures prints { (place : Place) (t : Told) (acts : List Act)
         → IsAccepted place → AreLineActs place t acts
         → (after_acts acts t).here.out ≡ t.here.out ++ output_at place }

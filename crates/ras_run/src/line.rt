@@ -53,14 +53,14 @@ pub fn take_line<B: Board>(
     board: &mut B,
 ) -> Result<(), Exit>
     requires short { length bytes.now ≤ LONGEST_LINE }
-    requires ready { IsReady run.old.ledger (B.seen board.old).told (B.seen board.old).clock }
+    requires ready { IsReady run.old.ledger (B.seen board.old) }
 
     ensures takes { (t : Told) → (B.seen board.old).told ≡ Some t
         → IsDrivable run.old.settings.driver
         → TakesLine B.seen (site_of run.old t, (number, line_of bytes.now)) t result
         run.new board.old board.new }
     ensures ready { OnOk result
-        (IsReady run.new.ledger (B.seen board.new).told (B.seen board.new).clock) }
+        (IsReady run.new.ledger (B.seen board.new)) }
     ensures stop { IfErr result IsStop }
     ensures faults { Causes BoardCause result (B.seen board.old).faults (B.seen board.new).faults }
 {
@@ -82,14 +82,14 @@ fn take_read<B: Board>(
 ) -> Result<(), Exit>
     requires range { IsInRange line }
     requires short { IsShortLine line }
-    requires ready { IsReady run.old.ledger (B.seen board.old).told (B.seen board.old).clock }
+    requires ready { IsReady run.old.ledger (B.seen board.old) }
 
     ensures takes { (t : Told) → (B.seen board.old).told ≡ Some t
         → IsDrivable run.old.settings.driver
         → TakesLine B.seen (site_of run.old t, (number, Ok line)) t result run.new
         board.old board.new }
     ensures ready { OnOk result
-        (IsReady run.new.ledger (B.seen board.new).told (B.seen board.new).clock) }
+        (IsReady run.new.ledger (B.seen board.new)) }
     ensures stop { IfErr result IsStop }
     ensures faults { Causes BoardCause result (B.seen board.old).faults (B.seen board.new).faults }
 {
@@ -194,14 +194,14 @@ fn reopen<B: Board>(
     ledger: &mut Ledger,
     board: &mut B,
 ) -> Result<(), Exit>
-    requires stands { LedgerStands ledger.old (B.seen board.old).told (B.seen board.old).clock }
+    requires stands { LedgerStands ledger.old (B.seen board.old) }
     ensures reopens { (t : Told) → (B.seen board.old).told ≡ Some t
         → Reopens result ledger.old ledger.new }
     ensures does { (t : Told) → (B.seen board.old).told ≡ Some t
         → DoesReopening B.seen ledger.old.account.state number t.here
         result board.old board.new }
     ensures ready { OnOk result
-        (IsReady ledger.new (B.seen board.new).told (B.seen board.new).clock) }
+        (IsReady ledger.new (B.seen board.new)) }
     ensures stop { IfErr result IsStop }
     ensures faults { Causes BoardCause result (B.seen board.old).faults (B.seen board.new).faults }
 {

@@ -27,18 +27,17 @@ use std::alloc::Global;
 /// `TooLong` and `Damaged` come exactly if the files' bytes say so, `DiskFault` only if a disk call
 /// failed, and `NoMemory` only if memory runs out.
 pub fn open<B: Board>(alloc: Global, board: &mut B) -> Result<Ledger, Exit>
-    ensures opens { Opened result (B.seen board.old).told (B.seen board.new).told
-        (B.seen board.new).clock }
+    ensures opens { Opened result (B.seen board.old).told (B.seen board.new) }
     ensures does { DoesOpening (λ exit. exit ≡ Exit.DiskFault) result
         (B.seen board.old).told (B.seen board.new).told }
     ensures stops { (t : Told) → (B.seen board.old).told ≡ Some t
         → Adds (Opening (B.seen board.old).clock t.here) (B.seen board.old).clock
         (B.seen board.new).clock }
-    // Both files are synced first. From then on a stop leaves what the board told of the files, the
+    // Both files are synced first. From then on a crash leaves what the board told of the files, the
     // store and the text, or gives the empty account if no file stands.
     ensures syncs { (t : Told) → (B.seen board.old).told ≡ Some t
         → SyncsBy B.seen (OpeningSynced t.here) t result board.old board.new }
-    // If the files are refused, a stop then leaves just what the board told of them, the store and
+    // If the files are refused, a crash then leaves just what the board told of them, the store and
     // the text.
     ensures refused { IfErr result
         (λ exit. OnAnswer exit ((t : Told) → (B.seen board.old).told ≡ Some t

@@ -42,14 +42,14 @@ pub(crate) fn poll_store<B: Board>(
     ledger: &mut Ledger,
     board: &mut B,
 ) -> Result<(), Exit>
-    requires ready { IsReady ledger.old (B.seen board.old).told (B.seen board.old).clock }
+    requires ready { IsReady ledger.old (B.seen board.old) }
 
     ensures polls { (t : Told) → (B.seen board.old).told ≡ Some t → IsAdmittedTable driver.now
         → DoesPoll B.seen driver.now t number
         (polled topology.now seconds t.here.store) (readable_ids t.here.store)
         result ledger.old ledger.new board.old board.new }
     ensures ready { OnOk result
-        (IsReady ledger.new (B.seen board.new).told (B.seen board.new).clock) }
+        (IsReady ledger.new (B.seen board.new)) }
     ensures stop { IfErr result IsStop }
     ensures faults { Causes BoardCause result (B.seen board.old).faults (B.seen board.new).faults }
 {

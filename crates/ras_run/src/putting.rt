@@ -47,9 +47,8 @@ pub(crate) fn put_record<B: Board>(
         (refusal_of id bytes.now t.here.store ≡ None)
         (device (put id bytes.now) ∷ []) (print_acts (done_line number)) result
         board.old board.new }
-    ensures ready { (ledger : Ledger) → IsReady ledger (B.seen board.old).told
-        (B.seen board.old).clock
-        → OnOk result (IsReady ledger (B.seen board.new).told (B.seen board.new).clock) }
+    ensures ready { (ledger : Ledger) → IsReady ledger (B.seen board.old)
+        → OnOk result (IsReady ledger (B.seen board.new)) }
     ensures stop { IfErr result IsStop }
     ensures faults { Causes BoardCause result (B.seen board.old).faults (B.seen board.new).faults }
 {
@@ -91,9 +90,8 @@ pub(crate) fn save_record<B: Board>(
         (saving_refusal t.volatile.slow id t.here.store ≡ None)
         (acts_of (write_calls driver.now bytes.now (device_of t)))
         (print_acts (done_line number)) result board.old board.new }
-    ensures ready { (ledger : Ledger) → IsReady ledger (B.seen board.old).told
-        (B.seen board.old).clock
-        → OnOk result (IsReady ledger (B.seen board.new).told (B.seen board.new).clock) }
+    ensures ready { (ledger : Ledger) → IsReady ledger (B.seen board.old)
+        → OnOk result (IsReady ledger (B.seen board.new)) }
     ensures stop { IfErr result IsStop }
     ensures faults { Causes BoardCause result (B.seen board.old).faults (B.seen board.new).faults }
 {

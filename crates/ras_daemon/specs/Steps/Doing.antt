@@ -45,8 +45,8 @@ pub record AreLinesActs (start : Start) (script : List ℕ) (t : Told) (acts : L
   pub lines : AreActsAlong (places_taken start script) t along
   pub is : acts ≡ along ++ script_asked start script (after_acts along t)
 
--- What the record store was asked after these lines: nothing, or what the next line asks; t is told
--- by then.
+-- What the record store was asked after these lines: nothing, or what the next line asks, over
+-- what the model says by then.
 pub record IsAsked (start : Start) (script : List ℕ) (before : List NumberedLine) (t : Told) (asked : List Act) : Type 0 where
   pub read : NumberedLine
   pub rest : List NumberedLine
@@ -119,7 +119,7 @@ abbrev pub KeepsStore : Start → List ℕ → List NumberedLine → Told → Li
 KeepsStore start script before t asked =
     (asked ≡ []) ⊎ ((end : Exit) × AreAllAsked start script end before t asked × (end ≢ ErstBusy))
 
--- What is printed after these lines: the last line, if the run came so far; t is told after them.
+-- What is printed after these lines: the last line, if the run came so far.
 abbrev pub IsLastBy : Start → List ℕ → List NumberedLine → Told → List Act → Exit → CallEnding → List Act → Type 0
 IsLastBy start script before t asked exit answered last =
     AreAllAsked start script exit before t asked × (last ≡ last_acts start before exit)

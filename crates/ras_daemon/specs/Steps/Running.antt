@@ -1,4 +1,4 @@
--- How far a run has come among its lines, and what stops leave of it.
+-- How far a run has come among its lines, and what a crash leaves of it.
 use Rattle.std.specs.Prelude.{◌≡◌, ℕ, ◌⊎◌, List, [], ◌∷◌, ◌++◌, Option, ⊤, ◌+◌, ◌≤◌, length, IsSomeAnd, Some}
 use Rattle.std.specs.List.{AllByRecursion, flat_map}
 use Rattle.board_core.specs.Clock.{Clock, LeftNow}
@@ -49,7 +49,7 @@ pub record AreAll (start : Start) (script : List ℕ) (exit : Exit) (before : Li
   pub all : places_taken start script ≡ places_from (first_site start) before
   pub exit_is : run_exit start script ≡ exit
 
--- ---- what a stop leaves; the text is that before the lines
+-- ---- what a crash leaves; the text is the one before the lines
 
 -- between two lines, or while the next one is taken or refused
 pub record BetweenLines (start : Start) (script : List ℕ) (out : List ℕ) (left : Left) : Type 0 where
@@ -107,7 +107,7 @@ OpenMoment start script out left =
     AtStart start out left
     ⊎ (LinesMoment start script (lines_from start out) left ⊎ AtEnd start script (lines_from start out) left)
 
--- What a stop leaves of a run: what one at its start may have left, or what stands at a moment of
+-- What a crash leaves of a run: what one at its start may have left, or what stands at a moment of
 -- it. Once the journal is open, what it holds is an account.
 abbrev pub RunMoment : Clock → Start → List ℕ → Left → Left → Type 0
 RunMoment clock start script here left =

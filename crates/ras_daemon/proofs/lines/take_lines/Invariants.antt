@@ -17,7 +17,7 @@ invariant-loop-alloc g l = record {
       → Took g.B.Board.seen start script t l.lines.number l.lines.reader (g.S.Source.left l.source) l.run l.fn.board l.board;
   tells : IfSome (g.S.Source.left l.fn.source) (λ script. (now : List ℕ) × (g.S.Source.left l.source ≡ Some now));
   few : TakesOf l.lines.reader.taken (g.S.Source.left l.fn.source) (g.S.Source.left l.source);
-  ready : IsReady l.run.ledger (g.B.Board.seen l.board).told (g.B.Board.seen l.board).clock;
+  ready : IsReady l.run.ledger (g.B.Board.seen l.board);
   source : g.S.Source.faults l.source ≡ g.S.Source.faults l.fn.source;
   faults : (g.B.Board.seen l.board).faults ≡ (g.B.Board.seen l.fn.board).faults;
 }

@@ -15,10 +15,10 @@ pub returns-clause-some : goal.returns-clause-some
 returns-clause-some c = some_acts
 
 pub returns-clause-moments : goal.returns-clause-moments
-returns-clause-moments c = λ place t acts left accepted can holds are moment. line_moment place t holds can acts are accepted left moment
+returns-clause-moments c = λ place t acts left does moment. line_moment place t does.holds does.can acts does.are does.accepted left moment
 
 pub returns-clause-asking : goal.returns-clause-asking
 returns-clause-asking c = λ place t left can holds moment. asking_moment place t holds can left moment
 
 pub returns-clause-done : goal.returns-clause-done
-returns-clause-done c = λ place t acts accepted can holds are. line_holds place t holds can acts are accepted
+returns-clause-done c = λ place t acts does. line_holds place t does.holds does.can acts does.are does.accepted
