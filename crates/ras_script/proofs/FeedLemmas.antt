@@ -11,7 +11,7 @@ use Rattle.ras_script.specs.Steps.ReaderSteps.{FeedAt}
 use Rattle.ras_script.specs.SplittingLaws.{Lacks}
 use Rattle.ras_script.proofs.SpaceLemmas.{lacks_places}
 
-not_true : (t : Bool) → ¬ (t ≡ true) → t ≡ false
+pub not_true : (t : Bool) → ¬ (t ≡ true) → t ≡ false
 not_true true none = absurd (none refl)
 not_true false none = refl
 

@@ -17,3 +17,4 @@ pub mod LinesLemmas
 pub mod ReaderLemmas
 pub mod LinesLawLemmas
 pub mod ShapeLemmas
+pub mod InputLemmas

@@ -14,11 +14,11 @@ use Rattle.ras_script.specs.declared.reader.TheConstants.{LONGEST_LINE, LONGEST_
 use Rattle.ras_script.proofs.LinesLemmas.{lines_cut, feed_past, too_long_line, script_past, line_at_end, no_lines}
 
 -- no bytes, and some after others
-taken_none : (x : Option (List ℕ)) → AreTaken [] x x
+pub taken_none : (x : Option (List ℕ)) → AreTaken [] x x
 taken_none None = refl
 taken_none (Some left) = refl
 
-taken_more : (xs ys : List ℕ) (first before now : Option (List ℕ)) → AreTaken xs first before → AreTaken ys before now → AreTaken (xs ++ ys) first now
+pub taken_more : (xs ys : List ℕ) (first before now : Option (List ℕ)) → AreTaken xs first before → AreTaken ys before now → AreTaken (xs ++ ys) first now
 taken_more xs ys None before now one two = rw one at two
 taken_more xs ys (Some left) None now one two = absurd one
 taken_more xs ys (Some left) (Some rest) None one two = absurd two

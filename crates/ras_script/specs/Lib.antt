@@ -9,5 +9,7 @@ pub mod SplittingLaws
 pub mod LineLaws
 pub mod Lines
 pub mod Reader
+pub mod Inputs
+pub mod InputBuffer
 pub mod LinesLaws
 pub mod Steps

@@ -3,3 +3,4 @@ pub mod ReaderSteps
 pub mod Feeds
 pub mod Window
 pub mod Places
+pub mod InputSteps

@@ -6,6 +6,7 @@
 mod blocks;
 mod bytes;
 mod fields;
+mod input;
 mod kinds;
 mod laws;
 mod line;
@@ -17,6 +18,7 @@ mod window;
 pub use blocks::position_of;
 pub use bytes::{bytes_of, written_bytes_are_read};
 pub use fields::BANK_WORDS;
+pub use input::{InputReader, InputStep, inputs_laws};
 pub use kinds::{LAST_CHANNEL, MOST_WORDS};
 pub use laws::numbers_in_digits;
 pub use line::{
