@@ -17,7 +17,7 @@ use Rattle.ras_facts.specs.Entries.{IsValidEntry}
 use Rattle.ras_facts.specs.Valid.{IsValidItem, IsValidFact}
 use Rattle.entry_format.specs.Spelling.{name_bytes, label_bytes, page_bytes, item_bytes, fact_bytes, limit_bytes, entry_bytes}
 
-name_most : (name : Name) → length (name_bytes name) ≤ 20
+pub name_most : (name : Name) → length (name_bytes name) ≤ 20
 unfolding name_bytes
 name_most (Bank boot cpu bank tsc) = simp (length-append, length-u16_bytes, length-u64_bytes) (omega arith)
 name_most (Record id) = omega (arith, length-u64_bytes id)

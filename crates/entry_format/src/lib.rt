@@ -24,6 +24,6 @@ pub use list::read_list;
 pub use names::name_at;
 pub use reading::limit_at;
 pub use refused::EntryRefused;
-pub use sizes::{entry_len, name_len};
+pub use sizes::entry_len;
 pub use version::Version;
 pub use writing::{push_entry, push_label, push_limit, push_name, put_name};

@@ -6,9 +6,9 @@ ghost use Rattle.entry_format.specs.Spelling.{name_bytes, page_bytes, item_bytes
 
 use ras_facts::{Entry, Fact, Item, MOST_ITEMS, Name};
 
-/// Returns how many bytes the spelling of a name has: at most 20.
+// How many bytes the spelling of a name has.
 #[tactic(auto, using(crate::proofs::SizeLemmas::name_sizes), unfolding(crate::specs::Spelling::name_bytes))]
-pub fn name_len(name: &Name) -> usize
+fn name_len(name: &Name) -> usize
     ensures length { result ≡ length (name_bytes name.now) }
     ensures most { result ≤ 20 }
 {

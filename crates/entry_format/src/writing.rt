@@ -56,7 +56,7 @@ pub fn push_name(bytes: &mut Vec<u8>, name: &Name) -> Result<(), NoMemory>
 }
 
 /// Writes the spelling of the name of a report over the bytes from `place` on, and returns the
-/// index after it. So many names can be spelled into one array, which is then appended at once.
+/// index after it.
 #[inline(always)]
 #[tactic(auto, unfolding(crate::specs::Spelling::name_bytes))]
 pub fn put_name(room: &mut [u8], place: usize, name: &Name) -> usize

@@ -2,7 +2,6 @@ pub mod WholeLemmas
 pub mod PayloadLemmas
 pub mod LinkLemmas
 pub mod RowLemmas
-pub mod BlockLemmas
 pub mod ComparingLemmas
 pub mod SizeLemmas
 pub mod RowReadLemmas

@@ -1,16 +1,7 @@
 -- Bytes that grow by a row.
-use Rattle.std.proofs.Common.{◌≡◌, ℕ, ◌+◌, List, [], ◌∷◌, ◌++◌, length, take, Some, ap, sym, ◌∙◌, append-nil, append_assoc, length-append}
+use Rattle.std.proofs.Common.{◌≡◌, ℕ, ◌+◌, List, ◌++◌, length, take, Some, ap, sym, ◌∙◌, append_assoc, length-append}
 use Rattle.std.specs.List.{flat_map, slice_get}
-use Rattle.std.proofs.lemmas.List.{take_more}
-use Rattle.std.proofs.lemmas.List.Concat.{flat_map-append}
-use Rattle.std.proofs.lemmas.Option.{slice_get_within, get_or_from_slice_get}
-
--- the rows up to the next one
-rows_next : {X : Type 0} (spell : X → List ℕ) (xs : List X) (i : ℕ) (x : X) → slice_get xs i ≡ Some x → flat_map spell (take (i + 1) xs) ≡ flat_map spell (take i xs) ++ spell x
-rows_next spell xs i x is =
-    ap (flat_map spell) (take_more xs i x (slice_get_within xs i x is) ∙ ap (λ y. take i xs ++ y ∷ []) (get_or_from_slice_get xs i x x is))
-    ∙ flat_map-append spell (take i xs) (x ∷ [])
-    ∙ ap (λ w. flat_map spell (take i xs) ++ w) (append-nil (spell x))
+use Rattle.ras_account.proofs.SpelledLemmas.{rows_next}
 
 -- a row more, behind those before it
 pub rows_more : {X : Type 0} (spell : X → List ℕ) (front : List ℕ) (xs : List X) (i : ℕ) (x : X) (before after : List ℕ) → slice_get xs i ≡ Some x

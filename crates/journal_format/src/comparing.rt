@@ -5,7 +5,6 @@ ghost use Rattle.entry_format.specs.declared.version.Version.TheVariants.{Two};
 ghost use Rattle.entry_format.specs.Spelling.{name_bytes};
 ghost use Rattle.journal_format.specs.Checkpoints.{IsCheckpoint};
 
-use crate::blocks::{BLOCK_BYTES, BLOCK_NAMES, put_names};
 use crate::encoding::{push_front, push_modules, push_pages, tell_account};
 use ras_account::Account;
 use ras_base::NoMemory;
@@ -27,17 +26,7 @@ fn after_names<'a>(account: &Account, bytes: &'a [u8]) -> Option<&'a [u8]>
     ensures none { result ≡ None → (rest : List ℕ)
         → bytes.now ≢ flat_map name_bytes account.now.state.names ++ rest }
 {
-    let mut room = [0; BLOCK_BYTES];
-    let mut rest = bytes;
-    // This is one block more than needed if the names fill whole blocks; it then has no name.
-    for block in 0..account.names_len() / BLOCK_NAMES + 1 {
-        let end = put_names(&mut room, account, block * BLOCK_NAMES);
-        match after(&room[..end], rest) {
-            Some(later) => rest = later,
-            None => return None,
-        }
-    }
-    Some(rest)
+    after(account.spelled_names(), bytes)
 }
 
 /// Returns whether bytes are the checkpoint of this account in version 2. No second account is made

@@ -6,7 +6,6 @@ ghost use Rattle.entry_format.specs.Spelling.{name_bytes};
 ghost use Rattle.ras_account.specs.Accounts.{IsAccount};
 ghost use Rattle.journal_format.specs.Checkpoints.{list_bytes, module_bytes, page_row_bytes, front_bytes, checkpoint_bytes, IsCheckpoint};
 
-use crate::blocks::{BLOCK_BYTES, BLOCK_NAMES, put_names};
 use crate::rows::{push_module, push_page_row};
 use entry_format::push_limit;
 use ras_account::Account;
@@ -31,12 +30,7 @@ fn push_names(bytes: &mut Vec<u8>, account: &Account) -> Result<(), NoMemory>
 {
     let count = account.names_len();
     push_u64(bytes, count as u64)?;
-    let mut room = [0; BLOCK_BYTES];
-    // This is one block more than needed if the names fill whole blocks; it then has no name.
-    for block in 0..count / BLOCK_NAMES + 1 {
-        let end = put_names(&mut room, account, block * BLOCK_NAMES);
-        bytes.extend_from_slice(&room[..end])?;
-    }
+    bytes.extend_from_slice(account.spelled_names())?;
     Ok(())
 }
 

@@ -7,7 +7,6 @@
 //! A public function with an empty body is a law: its clauses are the point.
 #![tactic(auto)]
 
-mod blocks;
 mod comparing;
 mod decoding;
 mod encoding;

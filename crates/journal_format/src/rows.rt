@@ -76,7 +76,7 @@ pub(crate) fn push_module(bytes: &mut Vec<u8>, row: &ModuleRow) -> Result<(), No
 }
 
 /// Appends the row of a page.
-#[tactic(auto, unfolding(crate::specs::Checkpoints::page_row_bytes))]
+#[tactic(auto, unfolding(crate::specs::Checkpoints::page_row_bytes, crate::specs::Checkpoints::bucket_bytes, ras_base::specs::LittleEndian::u64_bytes))]
 pub(crate) fn push_page_row(
     bytes: &mut Vec<u8>,
     page: u64,
@@ -86,8 +86,13 @@ pub(crate) fn push_page_row(
     ensures { OnOk result (bytes.new.items
         ≡ bytes.old.items ++ page_row_bytes (page, record { bucket = bucket; state = state })) }
 {
-    push_u64(bytes, page)?;
-    push_bucket(bytes, bucket)?;
-    bytes.push(state_number(state))?;
+    let [p0, p1, p2, p3, p4, p5, p6, p7] = page.to_le_bytes();
+    let [c0, c1, c2, c3, c4, c5, c6, c7] = u64::from(bucket.count).to_le_bytes();
+    let [s0, s1, s2, s3, s4, s5, s6, s7] = bucket.stamp.to_le_bytes();
+    let state = state_number(state);
+    bytes.extend_from_slice(&[
+        p0, p1, p2, p3, p4, p5, p6, p7, c0, c1, c2, c3, c4, c5, c6, c7, s0, s1, s2, s3, s4, s5, s6,
+        s7, state,
+    ])?;
     Ok(())
 }

@@ -3,11 +3,9 @@ ghost use Rattle.std.specs.Prelude.{◌≡◌, ◌≤◌, ◌*◌, Bool, length,
 ghost use Rattle.std.specs.List.{flat_map};
 ghost use Rattle.ras_base.specs.LittleEndian.{u64_bytes};
 ghost use Rattle.entry_format.specs.declared.version.Version.TheVariants.{Two};
-ghost use Rattle.entry_format.specs.Spelling.{name_bytes};
 ghost use Rattle.ras_account.specs.Rows.{row_of};
 ghost use Rattle.journal_format.specs.Checkpoints.{replacement_bytes, module_bytes, page_row_bytes, checkpoint_bytes};
 
-use entry_format::name_len;
 use mca_status::CLASS_COUNT;
 use page_policy::Bucket;
 use ras_account::{Account, ModuleRow};
@@ -54,18 +52,6 @@ fn module_len(row: &ModuleRow) -> usize
     1 + row.label.bytes().len() + sums_len(&row.sums) + replacement_len(row.bucket)
 }
 
-// How many bytes the names have.
-fn names_len(account: &Account) -> u128
-    ensures length { result ≡ length (flat_map name_bytes account.now.state.names) }
-    ensures most { result ≤ 20 * usize.MAX }
-{
-    let mut total = 0;
-    for i in 0..account.names_len() {
-        total += name_len(account.name(i)) as u128;
-    }
-    total
-}
-
 // How many bytes the rows of modules have.
 fn modules_len(account: &Account) -> u128
     ensures length { result ≡ length (flat_map (module_bytes Two) account.now.state.modules) }
@@ -85,6 +71,7 @@ pub fn checkpoint_len(account: &Account) -> u64
     ensures { result ≡ min u64.MAX (length (checkpoint_bytes Two account.now.state)) }
 {
     let pages = PAGE_ROW_BYTES * account.pages().len() as u128;
-    let length = BYTES_BESIDE_ROWS + names_len(account) + modules_len(account) + pages;
+    let names = account.spelled_names().len() as u128;
+    let length = BYTES_BESIDE_ROWS + names + modules_len(account) + pages;
     length.min(u128::from(u64::MAX)) as u64
 }

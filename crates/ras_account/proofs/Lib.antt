@@ -19,3 +19,4 @@ pub mod AgainLemmas
 pub mod ModuleRowLemmas
 pub mod BucketLemmas
 pub mod KnownLemmas
+pub mod SpelledLemmas

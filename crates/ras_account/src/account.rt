@@ -1,8 +1,10 @@
 //! The account.
 ghost use Rattle.std.specs.Prelude.{◌≡◌, ◌+◌, ◌<◌, ◌≤◌, ◌*◌, ◌++◌, List, [], ◌∷◌, IsTrue, IfSome, Some, nat_eq, length, slice_get};
 ghost use Rattle.std.specs.Bool.{IsFalse, OnTrue};
+ghost use Rattle.std.specs.List.{flat_map};
 ghost use Rattle.page_policy.specs.Buckets.{IsLimit};
 ghost use Rattle.ras_facts.specs.Entries.{IsValidEntry, most_orders};
+ghost use Rattle.entry_format.specs.Spelling.{name_bytes};
 ghost use Rattle.ras_account.specs.History.{History, empty, with_entry, with_mark};
 ghost use Rattle.ras_account.specs.Fresh.{is_fresh_behind};
 ghost use Rattle.ras_account.specs.Account.{account_of, weight_in, IsAccountOf};
@@ -296,6 +298,13 @@ impl Account {
         ensures { slice_get self.now.state.names i ≡ Some result.now }
     {
         self.names.get(i)
+    }
+
+    /// Returns the names as a checkpoint spells them, one after the other.
+    pub fn spelled_names(&self) -> &[u8]
+        ensures { result.now ≡ flat_map name_bytes self.now.state.names }
+    {
+        self.names.spelled()
     }
 
     /// Returns how many entries are counted.

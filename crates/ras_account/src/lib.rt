@@ -17,6 +17,7 @@ mod names;
 mod orders;
 mod rebuilding;
 mod reserve;
+mod spelled;
 
 pub use account::Account;
 pub use laws::{

@@ -1,15 +1,17 @@
 //! The names that are counted, and after them the names that wait.
 ghost use Rattle.std.specs.Prelude.{◌≡◌, ◌↔◌, ◌<◌, ◌++◌, [], ◌∷◌, not, IsTrue, Some, Err, IfOk, OnOk, OnErr, length, take, drop, slice_get};
 ghost use Rattle.std.specs.Bool.{IsFalse, OnTrue};
-ghost use Rattle.std.specs.List.{list_any};
+ghost use Rattle.std.specs.List.{list_any, flat_map};
 ghost use Rattle.row_tables.specs.Tables.{added_keys};
 ghost use Rattle.ras_facts.specs.Names.{same_name};
+ghost use Rattle.entry_format.specs.Spelling.{name_bytes};
 ghost use Rattle.ras_account.specs.History.{is_retired};
 ghost use Rattle.ras_account.specs.Fresh.{is_among};
 ghost use Rattle.ras_account.specs.Account.{kept_names};
 ghost use Rattle.ras_account.specs.Rows.{has_retired};
 ghost use Rattle.ras_account.specs.Steps.Parts.{all_names};
 
+use crate::spelled::Spelled;
 use page_policy::RowRefused;
 use ras_base::NoMemory;
 use ras_facts::Name;
@@ -22,15 +24,20 @@ use std::marker::Model;
 #[derive(Drop)]
 pub(crate) struct Names {
     table: RowTable<Name, ()>,
+    // The counted names, with memory for those that wait.
+    spelled: Spelled,
 }
 
 impl Model for Names {
+    ghost use Rattle.std.specs.Prelude.{vec_capacity};
     ghost use Rattle.std.specs.Map.{keys_of};
-    ghost use Rattle.ras_account.specs.Steps.Parts.{NameList};
+    ghost use Rattle.ras_account.specs.Steps.Parts.{NameList, AreSpelled};
 
     ghost Value = { NameList };
 
     ghost view = { λ n. record { held = keys_of n.table.rows; waiting = n.table.waiting } };
+
+    ghost invariant = { λ n. AreSpelled n.table.rows n.table.waiting n.spelled.bytes.items (vec_capacity n.spelled.bytes) };
 }
 
 // The test of names whose boot isn't below a floor.
@@ -55,6 +62,7 @@ impl Names {
     {
         Names {
             table: RowTable::new(alloc),
+            spelled: Spelled::new(alloc),
         }
     }
 
@@ -95,6 +103,13 @@ impl Names {
         self.table.key(i)
     }
 
+    // The counted names as a checkpoint spells them, one after the other.
+    pub(crate) fn spelled(&self) -> &[u8]
+        ensures { result.now ≡ flat_map name_bytes self.now.held }
+    {
+        self.spelled.bytes.as_slice()
+    }
+
     // Counts the first name that waits.
     pub(crate) fn count_next(&mut self)
         requires { 0 < length self.old.waiting }
@@ -102,6 +117,7 @@ impl Names {
         ensures waiting { self.new.waiting ≡ drop 1 self.old.waiting }
     {
         self.table.begin_next(());
+        self.spelled.add_last(&self.table);
     }
 
     // Removes all names that wait.
@@ -120,6 +136,8 @@ impl Names {
         ensures fresh { IfOk result (λ fresh. fresh ≡ not (list_any (same_name name) (all_names self.old))) }
         ensures err { OnErr result (self.new.waiting ≡ self.old.waiting) }
     {
+        let names = self.table.len_with_waiting();
+        self.spelled.make_room(names.saturating_add(1))?;
         self.table.let_wait(name, ())
     }
 
@@ -141,12 +159,15 @@ impl Names {
         ensures waiting { self.new.waiting ≡ self.old.waiting }
     {
         self.table.retain(&NotRetired { floor });
+        self.spelled.spell(&self.table);
     }
 
     // Reserves memory for this many more names at once. The names don't change.
     pub(crate) fn make_room(&mut self, additional: usize) -> Result<(), NoMemory>
         ensures { self.new ≡ self.old }
     {
+        let names = self.table.len_with_waiting();
+        self.spelled.make_room(names.saturating_add(additional))?;
         self.table.make_room(additional)
     }
 
@@ -158,6 +179,18 @@ impl Names {
         ensures waiting { self.new.waiting ≡ [] }
         ensures repeated { (result ≡ Err RowRefused.Repeated) ↔ IsTrue (is_among self.old.held name) }
     {
-        self.table.push_row(name, ())
+        // A name that is there already needs no memory.
+        if let Err(NoMemory) = self.spelled.make_room(self.table.len().saturating_add(1)) {
+            return Err(if self.table.holds(&name) {
+                RowRefused::Repeated
+            } else {
+                RowRefused::NoMemory
+            });
+        }
+        let pushed = self.table.push_row(name, ());
+        if pushed.is_ok() {
+            self.spelled.add_last(&self.table);
+        }
+        pushed
     }
 }

@@ -99,11 +99,11 @@ pub fn rasd<S: Source, B: Board>(
             filter_lines(alloc, &mut filter, source, board)
         }
         Some(Task::TraceLines { boot }) => {
-            let mut filter = TraceFilter::new(boot);
+            let mut filter = TraceFilter::new(alloc, boot);
             filter_lines(alloc, &mut filter, source, board)
         }
         Some(Task::KlogLines { boot, cap }) => {
-            let mut filter = LogFilter::new(boot, cap);
+            let mut filter = LogFilter::new(alloc, boot, cap);
             filter_lines(alloc, &mut filter, source, board)
         }
         Some(Task::GhesLines { boot, began }) => {

@@ -24,6 +24,9 @@ const MAGIC: &[u8; 8] = b"RASJRNL2";
 /// checkpoint's bytes, and the closed gate.
 const BYTES_BESIDE_CHECKPOINT: usize = 25;
 
+/// In which steps the room for a checkpoint grows: 1 MiB.
+const STEP: usize = 1_048_576;
+
 /// The offset of the checkpoint's length in these bytes: after the magic and the generation.
 const COUNT_PLACE: usize = 16;
 
@@ -34,10 +37,13 @@ fn room_for(account: &Account) -> usize {
     let names = account.names_len().saturating_mul(20);
     let modules = account.modules_len().saturating_mul(131);
     let pages = account.pages().len().saturating_mul(25);
-    names
+    let all = names
         .saturating_add(modules)
         .saturating_add(pages)
-        .saturating_add(72 + BYTES_BESIDE_CHECKPOINT)
+        .saturating_add(72 + BYTES_BESIDE_CHECKPOINT);
+    // The allocator gives a large block back to the kernel, and takes it anew page by page, unless
+    // the next block has the same size. So the size grows in steps.
+    (all / STEP).saturating_add(1).saturating_mul(STEP)
 }
 
 // Writes the checkpoint's length over the eight bytes at its offset.

@@ -1,11 +1,12 @@
 -- What contracts see of the parts of an account, each with what waits after it.
-use Rattle.std.specs.Prelude.{◌≡◌, ◌≤◌, IfSome, length, Bool, if◌then◌else◌, List, ◌++◌, take, drop}
-use Rattle.std.specs.List.{list_any, AllByRecursion}
+use Rattle.std.specs.Prelude.{◌≡◌, ℕ, ◌+◌, ◌*◌, ◌≤◌, IfSome, length, Bool, if◌then◌else◌, List, ◌++◌, take, drop}
+use Rattle.std.specs.List.{list_any, flat_map, AllByRecursion}
 use Rattle.mca_status.specs.declared.classes.TheConstants.{CLASS_COUNT}
 use Rattle.page_policy.specs.declared.buckets.TheConstants.{MOST_COUNT}
 use Rattle.std.specs.Map.{keys_of}
 use Rattle.dimm_topology.specs.Labels.{Bytes, same_label}
 use Rattle.ras_facts.specs.declared.name.Name.{Name}
+use Rattle.entry_format.specs.Spelling.{name_bytes}
 use Rattle.ras_account.specs.declared.modules.ModuleRow.{ModuleRow}
 use Rattle.ras_account.specs.Sightings.{Sighting, label_of}
 use Rattle.ras_account.specs.Modules.{Module}
@@ -21,6 +22,11 @@ pub record NameList : Type 0 where
 pub record ModuleList : Type 0 where
   pub rows : List (Bytes × Module)
   pub waiting : List Bytes
+
+-- bytes spell the names that have rows, with memory for 20 bytes of each name, also of those that wait
+pub record AreSpelled {R : Type 0} (rows : List (Name × R)) (waiting : List Name) (bytes : List ℕ) (memory : ℕ) : Type 0 where
+  pub spelled : bytes ≡ flat_map name_bytes (keys_of rows)
+  pub room : 20 * (length rows + length waiting) ≤ memory
 
 -- all names, and all labels
 abbrev pub all_names : NameList → List Name
