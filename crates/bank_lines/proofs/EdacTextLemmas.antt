@@ -13,7 +13,7 @@ use Rattle.bank_lines.specs.EdacLines.{driver_text, edac_bank, edac_by_words, ed
 use Rattle.bank_lines.specs.Kernel.{IsPrinted, Printed}
 use Rattle.bank_lines.specs.LogHeads.{after, is_number, is_own, up_to}
 use Rattle.bank_lines.specs.LogKernel.{Driver, HasNo, status_words, check_words, driver_name, driver_prefix, edac_hex, edac_kind, edac_status, pnd2, sbridge, skx, time_words}
-use Rattle.bank_lines.specs.LogLines.{driver_told, edac_line_after, edac_told_by, log_line_by, log_line_of, log_mark, log_stamp_of, mark_of}
+use Rattle.bank_lines.specs.LogLines.{driver_told, edac_line_after, edac_told_by, log_line_by, log_line_of, log_mark, mark_of}
 use Rattle.bank_lines.specs.Parts.{value_after}
 use Rattle.bank_lines.specs.declared.edac_line.EdacLine.{EdacLine}
 use Rattle.bank_lines.specs.declared.edac_line.EdacLine.TheVariants.{Start, Tsc, Addr, Misc, Processor}
@@ -73,7 +73,7 @@ text_read : (words : List (List ℕ)) (line : EdacLine) → AreWords words → e
 text_read words line are reads = ap edac_by_words (words_split words are.some are.spaces) ∙ reads
 
 line_read : (driver : Driver) (controller : ℕ) (head : List ℕ) (words : List (List ℕ)) (line : EdacLine) → controller < 2 ^ 64 → is_own head ≡ true → HasNo log_mark head → HasNo edac_mark head → AreWords words → edac_by_words words ≡ Some line
-    → log_line_of (head ++ (driver_prefix driver controller ++ join_with_byte 32 words)) ≡ Edac line (log_stamp_of head)
+    → log_line_of (head ++ (driver_prefix driver controller ++ join_with_byte 32 words)) ≡ Edac line
 line_read driver controller head words line small own plain edac are reads =
     let text : List ℕ = join_with_byte 32 words in
     let behind : List ℕ = behind_mark driver controller text in
@@ -84,9 +84,9 @@ line_read driver controller head words line small own plain edac are reads =
     ∙ ap (λ (front : List ℕ). edac_line_after front (drop (length head) whole)) (take-append_seam head (edac_mark ++ behind))
     ∙ ap (λ (rest : List ℕ). edac_line_after head rest) (drop_at head (edac_mark ++ behind) (length head) refl)
     ∙ ap (λ (found : Option (List ℕ)). option_map_or (driver_told head) found (Plain Nothing)) (driver_read driver controller text small)
-    ∙ ap (λ (of : Bool). if of then edac_told_by (log_stamp_of head) (provided (is_own head) (edac_line_of text)) else Plain Nothing) are.of
-    ∙ ap (λ (is : Bool). edac_told_by (log_stamp_of head) (provided is (edac_line_of text))) own
-    ∙ ap (λ (read : Option EdacLine). edac_told_by (log_stamp_of head) read) (text_read words line are reads)
+    ∙ ap (λ (of : Bool). if of then edac_told_by (provided (is_own head) (edac_line_of text)) else Plain Nothing) are.of
+    ∙ ap (λ (is : Bool). edac_told_by (provided is (edac_line_of text))) own
+    ∙ ap (λ (read : Option EdacLine). edac_told_by read) (text_read words line are reads)
 
 -- ---- the literals
 
@@ -254,23 +254,23 @@ module _ (p : Printed) (h : IsPrinted p) (driver : Driver) (exception : Bool) wh
 
   -- the five lines, each behind a head
   module _ (controller : ℕ) (few : controller < 2 ^ 64) (head : List ℕ) (own : is_own head ≡ true) (plain : HasNo log_mark head) (edac : HasNo edac_mark head) where
-    pub start_line : log_line_of (head ++ (driver_prefix driver controller ++ join_with_byte 32 start_words)) ≡ Edac (Start p.event.cpu p.event.mcg p.event.bank p.event.status) (log_stamp_of head)
+    pub start_line : log_line_of (head ++ (driver_prefix driver controller ++ join_with_byte 32 start_words)) ≡ Edac (Start p.event.cpu p.event.mcg p.event.bank p.event.status)
     start_line = line_read driver controller head start_words (Start p.event.cpu p.event.mcg p.event.bank p.event.status) few own plain edac start_are start_read
 
-    pub tsc_line : log_line_of (head ++ (driver_prefix driver controller ++ join_with_byte 32 (register_words (codes "TSC") p.event.tsc))) ≡ Edac (Tsc p.event.tsc) (log_stamp_of head)
+    pub tsc_line : log_line_of (head ++ (driver_prefix driver controller ++ join_with_byte 32 (register_words (codes "TSC") p.event.tsc))) ≡ Edac (Tsc p.event.tsc)
     tsc_line =
         line_read driver controller head (register_words (codes "TSC") p.event.tsc) (Tsc p.event.tsc) few own plain edac
         (register_are (codes "TSC") p.event.tsc spaces.tsc brackets.tsc refl h.numbers.1.1.0) tsc_read
 
-    pub addr_line : log_line_of (head ++ (driver_prefix driver controller ++ join_with_byte 32 (register_words (codes "ADDR") p.event.addr))) ≡ Edac (Addr p.event.addr) (log_stamp_of head)
+    pub addr_line : log_line_of (head ++ (driver_prefix driver controller ++ join_with_byte 32 (register_words (codes "ADDR") p.event.addr))) ≡ Edac (Addr p.event.addr)
     addr_line =
         line_read driver controller head (register_words (codes "ADDR") p.event.addr) (Addr p.event.addr) few own plain edac
         (register_are (codes "ADDR") p.event.addr spaces.addr brackets.addr refl h.numbers.1.1.1.1.1.1.0) addr_read
 
-    pub misc_line : log_line_of (head ++ (driver_prefix driver controller ++ join_with_byte 32 (register_words (codes "MISC") p.event.misc))) ≡ Edac (Misc p.event.misc) (log_stamp_of head)
+    pub misc_line : log_line_of (head ++ (driver_prefix driver controller ++ join_with_byte 32 (register_words (codes "MISC") p.event.misc))) ≡ Edac (Misc p.event.misc)
     misc_line =
         line_read driver controller head (register_words (codes "MISC") p.event.misc) (Misc p.event.misc) few own plain edac
         (register_are (codes "MISC") p.event.misc spaces.misc brackets.misc refl h.numbers.1.1.1.1.1.1.1.0) misc_read
 
-    pub last_line : log_line_of (head ++ (driver_prefix driver controller ++ join_with_byte 32 last_words)) ≡ Edac (Processor p.event.vendor p.event.seconds) (log_stamp_of head)
+    pub last_line : log_line_of (head ++ (driver_prefix driver controller ++ join_with_byte 32 last_words)) ≡ Edac (Processor p.event.vendor p.event.seconds)
     last_line = line_read driver controller head last_words (Processor p.event.vendor p.event.seconds) few own plain edac last_are last_read

@@ -252,19 +252,19 @@ mark_behind (b ∷ before) text lacks =
     ap (λ (o : Option ℕ). one_on o (starts_with nat_eq (b ∷ (before ++ (event_mark ++ text))) event_mark)) (mark_behind before text lacks) ∙ ap Some next
 
 -- what is found in a line whose text behind the mark is read, and holds no underscore
-found_behind : (boot : ℕ) (before text : List ℕ) (e : TraceEvent) → is_traced before ≡ true → Lacks 95 text → event_in text ≡ Some e → trace_found boot (before ++ (event_mark ++ text)) ≡ event_found boot before e
+found_behind : (boot : ℕ) (before text : List ℕ) (e : TraceEvent) → is_traced before ≡ true → Lacks 95 text → event_in text ≡ Some e → trace_found boot (before ++ (event_mark ++ text)) ≡ event_found boot e
 found_behind boot before text e traced lacks reads =
     let line : List ℕ = before ++ (event_mark ++ text) in
     let front : take (length before) line ≡ before = take-append_seam before (event_mark ++ text) in
     let size : length before + 12 ≡ length (before ++ event_mark) = omega (arith, length-append before event_mark) in
     let behind : drop (length before + 12) line ≡ text = ap (drop (length before + 12)) (sym (append_assoc before event_mark text)) ∙ drop_at (before ++ event_mark) text (length before + 12) (sym size) in
     ap (λ (o : Option ℕ). option_map_or (found_at boot line) o Nothing) (mark_behind before text lacks)
-    ∙ ap (λ (t : List ℕ). if is_traced t then option_map_or (event_found boot t) (event_in (drop (length before + 12) line)) Unread else Unread) front
-    ∙ ap (λ (t : Bool). if t then option_map_or (event_found boot before) (event_in (drop (length before + 12) line)) Unread else Unread) traced
-    ∙ ap (λ (t : List ℕ). option_map_or (event_found boot before) (event_in t) Unread) behind
-    ∙ ap (λ (o : Option TraceEvent). option_map_or (event_found boot before) o Unread) reads
+    ∙ ap (λ (t : List ℕ). if is_traced t then option_map_or (event_found boot) (event_in (drop (length before + 12) line)) Unread else Unread) front
+    ∙ ap (λ (t : Bool). if t then option_map_or (event_found boot) (event_in (drop (length before + 12) line)) Unread else Unread) traced
+    ∙ ap (λ (t : List ℕ). option_map_or (event_found boot) (event_in t) Unread) behind
+    ∙ ap (λ (o : Option TraceEvent). option_map_or (event_found boot) o Unread) reads
 
 pub line_read : (boot : ℕ) (before : List ℕ) (form : Form) (p : Printed) (spaces : ℕ) → IsPrinted p → is_traced before ≡ true
-    → trace_found boot (before ++ (event_mark ++ (replicate spaces 32 ++ event_text form p))) ≡ event_found boot before p.event
+    → trace_found boot (before ++ (event_mark ++ (replicate spaces 32 ++ event_text form p))) ≡ event_found boot p.event
 line_read boot before form p spaces h traced =
     found_behind boot before (replicate spaces 32 ++ event_text form p) p.event traced (text_lacks form p spaces h) (event_read form p spaces h)

@@ -21,6 +21,8 @@ mod LinesLawLemmas
 mod EventLemmas
 mod EdacMarkLemmas
 mod TwiceLemmas
+mod NamingLemmas
+mod CountLemmas
 pub mod LogMarkLemmas
 pub mod LogTextLemmas
 mod EdacTextLemmas

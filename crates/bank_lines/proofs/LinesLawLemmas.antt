@@ -11,6 +11,7 @@ use Rattle.ras_exit.specs.declared.exit.Exit.{Exit}
 use Rattle.ras_script.proofs.LineAndWordLemmas.{few_lines}
 use Rattle.ras_script.specs.Lines.{Ending, Lines, is_too_long, line_too_long, lines_within, script_ended, script_lines, script_too_long, without_last}
 use Rattle.ras_script.specs.Splitting.{lines_of}
+use Rattle.bank_lines.specs.Counts.{KeyCounts, counts_after, named_found}
 use Rattle.bank_lines.specs.Filter.{answers_from, founds_from, trace_filter, trace_founds}
 use Rattle.bank_lines.specs.LogFilter.{log_answers, log_answers_after, log_filter, log_rest, log_script}
 use Rattle.bank_lines.specs.Texts.{found_text, printed}
@@ -80,23 +81,24 @@ module _ (f : Filter) (script : List ℕ) where
 -- ---- of a trace
 
 module _ (boot : ℕ) where
-  none-refused : (number : ℕ) (lines : List (List ℕ)) → refusal_in (answers_from boot number lines) ≡ None
-  none-refused number [] = refl
-  none-refused number (line ∷ lines) = none-refused (number + 1) lines
+  none-refused : (counts : KeyCounts) (number : ℕ) (lines : List (List ℕ)) → refusal_in (answers_from boot counts number lines) ≡ None
+  none-refused counts number [] = refl
+  none-refused counts number (line ∷ lines) = none-refused (counts_after counts (trace_found boot line)) (number + 1) lines
 
-  each-answered : (number : ℕ) (lines : List (List ℕ)) → length (texts_in (answers_from boot number lines)) ≡ length lines
-  each-answered number [] = refl
-  each-answered number (line ∷ lines) = ap suc (each-answered (number + 1) lines)
+  each-answered : (counts : KeyCounts) (number : ℕ) (lines : List (List ℕ)) → length (texts_in (answers_from boot counts number lines)) ≡ length lines
+  each-answered counts number [] = refl
+  each-answered counts number (line ∷ lines) = ap suc (each-answered (counts_after counts (trace_found boot line)) (number + 1) lines)
 
-  texts-are : (number : ℕ) (lines : List (List ℕ)) → joined (texts_in (answers_from boot number lines)) ≡ printed (founds_from boot number lines)
-  texts-are number [] = refl
-  texts-are number (line ∷ lines) = ap (λ (text : List ℕ). found_text number (trace_found boot line) ++ text) (texts-are (number + 1) lines)
+  texts-are : (counts : KeyCounts) (number : ℕ) (lines : List (List ℕ)) → joined (texts_in (answers_from boot counts number lines)) ≡ printed (founds_from boot counts number lines)
+  texts-are counts number [] = refl
+  texts-are counts number (line ∷ lines) =
+      ap (λ (text : List ℕ). found_text number (named_found counts (trace_found boot line)) ++ text) (texts-are (counts_after counts (trace_found boot line)) (number + 1) lines)
 
   pub trace-is : (input : List ℕ) → filter_output (trace_filter boot) input ≡ printed (trace_founds boot (script_lines input).whole) ++ stop_line (script_exit input)
   trace-is input =
       let whole : List (List ℕ) = (script_lines input).whole in
-      output-is (trace_filter boot) input (none-refused 1 whole) (each-answered 1 whole) refl
-      ∙ ap (λ (text : List ℕ). text ++ stop_line (script_exit input)) (texts-are 1 whole)
+      output-is (trace_filter boot) input (none-refused [] 1 whole) (each-answered [] 1 whole) refl
+      ∙ ap (λ (text : List ℕ). text ++ stop_line (script_exit input)) (texts-are [] 1 whole)
 
 -- ---- of a log
 

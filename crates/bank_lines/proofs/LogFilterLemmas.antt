@@ -1,5 +1,5 @@
 -- The filter by the report in work makes what the groups of the lines tell.
-use Rattle.std.proofs.Common.{◌≡◌, ℕ, ◌+◌, ◌==◌, ◌&&◌, Bool, true, false, not, List, [], ◌∷◌, ◌++◌, length, drop, refl, sym, ap, ◌∙◌, arith, Ok, None, unwrap_or, if◌then◌else◌}
+use Rattle.std.proofs.Common.{◌≡◌, ℕ, ◌+◌, ◌==◌, ◌&&◌, Bool, true, false, not, List, [], ◌∷◌, ◌++◌, length, drop, refl, sym, ap, ◌∙◌, arith, Ok, Option, None, Some, if◌then◌else◌}
 use Rattle.std.proofs.Math.Path.{fun_ext}
 use Rattle.std.proofs.lemmas.List.{append-nil, drop_at, length-append}
 use Rattle.std.proofs.lemmas.Grind.{flat_map-append}
@@ -15,11 +15,13 @@ use Rattle.ras_klog.specs.declared.state.Stage.{Stage}
 use Rattle.ras_klog.specs.declared.state.Stage.TheVariants.{Idle, Begun, Timed}
 use Rattle.ras_facts.specs.declared.bank.BankReport.{BankReport}
 use Rattle.ras_script.specs.SplittingLaws.{script_of}
-use Rattle.bank_lines.specs.Finding.{is_torn, lacks_address, log_found_of, without_address}
+use Rattle.bank_lines.specs.Counts.{KeyCounts, named_found, named_report, number_in, whole_by}
+use Rattle.bank_lines.specs.Naming.{key_of}
+use Rattle.bank_lines.specs.Finding.{is_torn, lacks_address, without_address}
 use Rattle.bank_lines.specs.LogAlong.{answers_along, log_found_at, found_at_end, log_at_start, rest_along, state_after, state_over}
 use Rattle.bank_lines.specs.LogFilter.{comment_at, comment_text, log_answers_after, early_lines, founds_of, founds_text, group_text, log_answers, log_filter, log_rest, tells_torn, work_after}
 use Rattle.bank_lines.specs.EdacReports.{edac_after, edac_over, no_edac, marked_told, told_lines}
-use Rattle.bank_lines.specs.LogGroups.{found_told, klog_part, named_report, none_polled, polled_counter, twin_counter}
+use Rattle.bank_lines.specs.LogGroups.{counts_by, found_told, judged, klog_part, no_names}
 use Rattle.bank_lines.specs.LogLines.{log_line_of, printed_plain}
 use Rattle.bank_lines.specs.Texts.{asking_line, found_text, torn_line, unread_line}
 use Rattle.bank_lines.specs.declared.edac_report.EdacReport.{EdacReport}
@@ -28,7 +30,7 @@ use Rattle.bank_lines.specs.declared.log_line.LogLine.{LogLine}
 use Rattle.bank_lines.specs.declared.log_line.LogLine.TheVariants.{Nothing, Unread, Part}
 use Rattle.bank_lines.specs.declared.log_line.Print.{Print}
 use Rattle.bank_lines.specs.declared.log_state.LogState.{LogState}
-use Rattle.bank_lines.specs.declared.log_state.Polled.{Polled}
+use Rattle.bank_lines.specs.declared.log_state.Printers.{Printers}
 use Rattle.bank_lines.proofs.LogGroupLemmas.{along, at_once, ends, group_found, to_end}
 
 -- what a text adds to its beginning
@@ -37,40 +39,44 @@ added_is begun more text is = ap (drop (length begun)) is ∙ drop_at begun more
 
 -- ---- one line
 
-abbrev kind : BankReport → Bool → Bool → Bool → Finding
-kind r is_valid firmware lacks =
-    if is_valid then (if firmware then Finding.Firmware r.cpu else (if lacks then Finding.Torn (without_address r) else Finding.Whole r)) else Finding.Nothing
+-- the number of its line doesn't matter to a whole report by its name
+whole_text : (n : ℕ) (counts : KeyCounts) (report : BankReport)
+    → found_text n (named_found counts (Finding.Whole report)) ≡ group_text (named_found counts (Finding.Whole report))
+whole_text n counts report = by (report.tsc == 0) (number_in counts (key_of report))
+  where
+    by : (polled : Bool) (number : Option ℕ)
+        → found_text n (if polled then whole_by report number else Finding.Whole report) ≡ group_text (if polled then whole_by report number else Finding.Whole report)
+    by true None = refl
+    by true (Some k) = refl
+    by false number = refl
 
--- a report by another counter is of the same kind
-kind_text : (n : ℕ) (r s : BankReport) (is_valid firmware lacks : Bool)
-    → found_text n (kind r is_valid firmware lacks)
-    ≡ (if is_torn (kind s is_valid firmware lacks) then script_of (torn_line n ∷ []) else []) ++ group_text (kind r is_valid firmware lacks)
-kind_text n r s true true lacks = refl
-kind_text n r s true false true =
-    flat_map-append (λ (line : List ℕ). line ++ 10 ∷ []) (torn_line n ∷ []) (asking_line (without_address r) ∷ [])
-kind_text n r s true false false = refl
-kind_text n r s false firmware lacks = refl
-
-counted_text : (n counter : ℕ) (report : BankReport) (none : Bool)
-    → found_text n (log_found_of (if none then record report { tsc = counter } else report))
-    ≡ (if is_torn (log_found_of report) then script_of (torn_line n ∷ []) else []) ++ group_text (log_found_of (if none then record report { tsc = counter } else report))
-counted_text n counter report true = kind_text n (record report { tsc = counter }) report (valid (status_in report)) (report.bank == 255) (lacks_address report)
-counted_text n counter report false = kind_text n report report (valid (status_in report)) (report.bank == 255) (lacks_address report)
+torn_text : (n : ℕ) (report : BankReport)
+    → found_text n (Finding.Torn report) ≡ script_of (torn_line n ∷ []) ++ group_text (Finding.Torn report)
+torn_text n report = flat_map-append (λ (line : List ℕ). line ++ 10 ∷ []) (torn_line n ∷ []) (asking_line report ∷ [])
 
 -- what is told of a report, by its comment and what is found in its group
-told_text : (n : ℕ) (before : Polled) (print : Print) (vendor : ℕ) (out : KlogOut)
+told_text : (n : ℕ) (before : Printers) (print : Print) (vendor : ℕ) (out : KlogOut)
     → found_text n (found_told before print vendor out)
     ≡ (if tells_torn vendor out then script_of (torn_line n ∷ []) else []) ++ group_text (found_told before print vendor out)
 told_text n before print vendor Told.Nothing = refl
 told_text n before print vendor (Told.Partial cpu bank) = refl
-told_text n before print vendor (Told.Whole report) = by (vendor == 0)
+told_text n before print vendor (Told.Whole r) = by (vendor == 0) (valid (status_in r)) (r.bank == 255) (lacks_address r)
   where
-    by : (intel : Bool)
-        → found_text n (if intel then log_found_of (named_report before print report) else Finding.Foreign vendor report.cpu report.bank)
-        ≡ (if intel && is_torn (log_found_of report) then script_of (torn_line n ∷ []) else [])
-        ++ group_text (if intel then log_found_of (named_report before print report) else Finding.Foreign vendor report.cpu report.bank)
-    by true = counted_text n (unwrap_or (twin_counter before print report) (polled_counter before.count print.stamp report.seconds)) report (report.tsc == 0)
-    by false = refl
+    counts : KeyCounts
+    counts = counts_by before print
+
+    by : (intel is_valid firmware lacks : Bool)
+        → found_text n (named_found counts (if intel then (if is_valid then (if firmware then Finding.Firmware r.cpu else (if lacks then Finding.Torn (without_address r) else Finding.Whole r)) else Finding.Nothing)
+        else Finding.Foreign vendor r.cpu r.bank))
+        ≡ (if intel && is_torn (if is_valid then (if firmware then Finding.Firmware r.cpu else (if lacks then Finding.Torn (without_address r) else Finding.Whole r)) else Finding.Nothing)
+        then script_of (torn_line n ∷ []) else [])
+        ++ group_text (named_found counts (if intel then (if is_valid then (if firmware then Finding.Firmware r.cpu else (if lacks then Finding.Torn (without_address r) else Finding.Whole r)) else Finding.Nothing)
+        else Finding.Foreign vendor r.cpu r.bank))
+    by true true true lacks = refl
+    by true true false true = torn_text n (named_report counts (without_address r))
+    by true true false false = whole_text n counts r
+    by true false firmware lacks = refl
+    by false is_valid firmware lacks = refl
 
 -- a line's text is its comment, and what is found in its group
 one_line : (boot cap n : ℕ) (state : LogState) (line : LogLine)
@@ -81,10 +87,10 @@ one_line boot cap n state Unread = sym (append-nil (found_text n Finding.Unread)
 one_line boot cap n state (Part line print vendor) = by (has_place state.work line)
   where
     by : (place : Bool)
-        → found_text n (if place then found_told state.polled state.print vendor (out_at boot cap state.work line) else Finding.Unread)
+        → found_text n (if place then found_told state.printers state.print vendor (out_at boot cap state.work line) else Finding.Unread)
         ≡ (if not place then script_of (unread_line n ∷ []) else (if tells_torn vendor (out_at boot cap state.work line) then script_of (torn_line n ∷ []) else []))
-        ++ group_text (if place then found_told state.polled state.print vendor (out_at boot cap state.work line) else Finding.Nothing)
-    by true = told_text n state.polled state.print vendor (out_at boot cap state.work line)
+        ++ group_text (if place then found_told state.printers state.print vendor (out_at boot cap state.work line) else Finding.Nothing)
+    by true = told_text n state.printers state.print vendor (out_at boot cap state.work line)
     by false = sym (append-nil (found_text n Finding.Unread))
 
 -- ---- the stage after lines
@@ -158,10 +164,10 @@ module _ (boot cap : ℕ) where
 
   -- the texts of what is found along lines, and of one more
   early_is : (lines : List (List ℕ)) → early_lines boot cap lines ≡ flat_map group_text (along boot cap log_at_start (told lines))
-  early_is lines = sym (at_once boot cap group_text refl at_start (printed_plain None) none_polled (told lines))
+  early_is lines = sym (at_once boot cap group_text refl at_start printed_plain no_names (told lines))
 
   text_is : (lines : List (List ℕ)) → founds_text (founds_of boot cap lines) ≡ flat_map group_text (to_end boot cap log_at_start (told lines))
-  text_is lines = sym (ends boot cap group_text refl at_start (printed_plain None) none_polled (told lines))
+  text_is lines = sym (ends boot cap group_text refl at_start printed_plain no_names (told lines))
 
   one_text : (found : Finding) → flat_map group_text (found ∷ []) ≡ group_text found
   one_text found = append-nil (group_text found)
@@ -182,7 +188,7 @@ module _ (boot cap : ℕ) where
   end_text : (state : LogState) → group_text (found_at_end state) ≡ found_text 0 (found_at_end state)
   end_text state = by state.work
     where
-      by : (stage : Stage) → group_text (found_told state.polled state.print 0 (out_at_end stage)) ≡ found_text 0 (found_told state.polled state.print 0 (out_at_end stage))
+      by : (stage : Stage) → group_text (judged 0 (out_at_end stage)) ≡ found_text 0 (judged 0 (out_at_end stage))
       by Idle = refl
       by (Begun head) = refl
       by (Timed head tsc addr misc) = refl

@@ -1,36 +1,40 @@
 -- What is printed of a log, and the reports that it has.
-use Rattle.std.proofs.Common.{◌≡◌, ℕ, suc, ◌+◌, ◌*◌, ◌%◌, ◌<◌, ◌==◌, ◌⊎◌, arith, inl, inr, Bool, true, false, List, [], ◌∷◌, ◌++◌, length, take, drop, refl, sym, ap, ◌∙◌, append_assoc, Option, None, Some, if◌then◌else◌, Result, Ok}
+use Rattle.std.proofs.Common.{◌≡◌, ℕ, suc, ◌+◌, ◌==◌, ◌⊎◌, inl, inr, Bool, true, false, List, [], ◌∷◌, ◌++◌, length, take, drop, refl, sym, ap, ◌∙◌, append_assoc, Option, None, Some, if◌then◌else◌, Result, Ok}
 use Rattle.std.proofs.lemmas.List.{append-nil}
 use Rattle.std.specs.List.{flat_map}
 use Rattle.std.specs.Option.{option_map_or}
 use Rattle.ras_klog.specs.Reading.{klog_line_of, provided}
 use Rattle.line_filters.specs.Filter.{Took}
 use Rattle.line_filters.specs.Filters.{texts_in}
-use Rattle.ras_facts.specs.Facts.{bank_name}
+use Rattle.mca_status.specs.Registers.{valid}
+use Rattle.ras_facts.specs.Facts.{status_in}
 use Rattle.ras_facts.specs.declared.bank.BankReport.{BankReport}
-use Rattle.ras_facts.specs.declared.name.Name.{Name}
-use Rattle.ras_facts.specs.declared.name.Name.TheVariants.{Bank}
+use Rattle.ras_klog.specs.declared.state.KlogOut.{KlogOut}
+use Rattle.ras_klog.specs.declared.state.KlogOut.TheVariants as Told
 use Rattle.ras_klog.specs.Stages.{at_start, has_place, out_at}
 use Rattle.ras_script.specs.declared.line.LineRefused.{LineRefused}
-use Rattle.bank_lines.specs.Finding.{report_in, reports_in}
+use Rattle.bank_lines.specs.Counts.{KeyCounts, counted_with, counts_after, named_after, named_found}
+use Rattle.bank_lines.specs.Finding.{lacks_address, report_in, reports_in, without_address}
 use Rattle.bank_lines.specs.LogAlong.{LogProgress, answers_along, log_found_at, found_at_end, log_at_start, log_makes, rest_along, state_after}
 use Rattle.bank_lines.specs.LogFilter.{log_reports, log_rest, log_script}
-use Rattle.bank_lines.specs.LogGroups.{found_told, none_polled, with_counter}
+use Rattle.bank_lines.specs.LogGroups.{LogGroup, found_told, group_founds_from, group_vendor, groups_judged, is_by, judged, log_founds, log_groups, named_by, no_names, printed_by, printers_with, told_in}
 use Rattle.bank_lines.specs.EdacLines.{driver_text, edac_line_of, edac_mark, is_of_edac}
 use Rattle.bank_lines.specs.EdacReports.{edac_after, no_edac, marked_told, told_lines}
 use Rattle.bank_lines.specs.LogHeads.{is_own}
-use Rattle.bank_lines.specs.LogLines.{driver_told, edac_told_by, is_of_report, is_own_line, left_unread, line_told_by, log_line_by, log_line_of, log_mark, log_stamp_of, mark_of, place_in, printed_plain}
+use Rattle.bank_lines.specs.LogLines.{driver_told, edac_told_by, is_of_report, is_own_line, left_unread, line_told_by, log_line_by, log_line_of, log_mark, mark_of, place_in, printed_plain}
 use Rattle.bank_lines.specs.Texts.{found_text, printed}
 use Rattle.bank_lines.specs.declared.found.Finding.{Finding}
 use Rattle.bank_lines.specs.declared.log_line.LogLine.{LogLine}
 use Rattle.bank_lines.specs.declared.edac_report.EdacReport.{EdacReport}
 use Rattle.bank_lines.specs.declared.log_line.LogLine.TheVariants.{Nothing, Unread, Part}
-use Rattle.bank_lines.specs.declared.log_line.TheConstants.{LAST_SECOND, MICROSECONDS}
 use Rattle.bank_lines.specs.declared.log_line.MarkedLine.{MarkedLine}
 use Rattle.bank_lines.specs.declared.log_line.MarkedLine.TheVariants.{Plain}
 use Rattle.bank_lines.specs.declared.mark.LogMark.{LogMark}
 use Rattle.bank_lines.specs.declared.mark.LogMark.TheVariants.{AtPlain, AtEdac}
+use Rattle.bank_lines.specs.declared.log_line.Print.{Print}
 use Rattle.bank_lines.specs.declared.log_state.LogState.{LogState}
+use Rattle.bank_lines.specs.declared.log_state.Printers.{Printers}
+use Rattle.bank_lines.proofs.CountLemmas.{is_full, names_on}
 use Rattle.bank_lines.proofs.LogFilterLemmas.{answers_are, rest_is}
 use Rattle.bank_lines.proofs.LogFoundLemmas.{numbered}
 use Rattle.bank_lines.proofs.LogGroupLemmas.{ends, group_found, to_end}
@@ -95,8 +99,8 @@ module _ (boot cap : ℕ) where
   report_is state (Part line print vendor) = by (has_place state.work line)
     where
       by : (place : Bool)
-          → report_in (if place then found_told state.polled state.print vendor (out_at boot cap state.work line) else Finding.Unread)
-          ≡ report_in (if place then found_told state.polled state.print vendor (out_at boot cap state.work line) else Finding.Nothing)
+          → report_in (if place then found_told state.printers state.print vendor (out_at boot cap state.work line) else Finding.Unread)
+          ≡ report_in (if place then found_told state.printers state.print vendor (out_at boot cap state.work line) else Finding.Nothing)
       by true = refl
       by false = refl
 
@@ -111,7 +115,7 @@ module _ (boot cap : ℕ) where
   pub reports_are : (lines : List (List ℕ)) → reports_in (numbered boot cap log_at_start 0 (told_lines no_edac lines)) ≡ log_reports boot cap lines
   reports_are lines =
       numbered_reports log_at_start 0 (told_lines no_edac lines)
-      ∙ ends boot cap report_in refl at_start (printed_plain None) none_polled (told_lines no_edac lines)
+      ∙ ends boot cap report_in refl at_start printed_plain no_names (told_lines no_edac lines)
 
 -- ---- lines that aren't the kernel's own
 
@@ -128,14 +132,14 @@ plain_is line (inr is) = inr (ap (λ (l : LogLine). Plain l) is)
 
 -- a head that isn't the kernel's own, before each mark
 after_plain : (head marked : List ℕ) (own : Bool) → own ≡ false
-    → ((if own then line_told_by (printed_plain (log_stamp_of head)) (drop (length log_mark) marked) (klog_line_of marked) else left_unread (drop (length log_mark) marked)) ≡ Nothing)
-    ⊎ ((if own then line_told_by (printed_plain (log_stamp_of head)) (drop (length log_mark) marked) (klog_line_of marked) else left_unread (drop (length log_mark) marked)) ≡ Unread)
+    → ((if own then line_told_by printed_plain (drop (length log_mark) marked) (klog_line_of marked) else left_unread (drop (length log_mark) marked)) ≡ Nothing)
+    ⊎ ((if own then line_told_by printed_plain (drop (length log_mark) marked) (klog_line_of marked) else left_unread (drop (length log_mark) marked)) ≡ Unread)
 after_plain head marked true is = absurd cc
 after_plain head marked false is = untold_is (drop (length log_mark) marked)
 
 after_driver : (head text : List ℕ) (own of : Bool) → own ≡ false
-    → ((if of then edac_told_by (log_stamp_of head) (provided own (edac_line_of text)) else Plain Nothing) ≡ Plain Nothing)
-    ⊎ ((if of then edac_told_by (log_stamp_of head) (provided own (edac_line_of text)) else Plain Nothing) ≡ Plain Unread)
+    → ((if of then edac_told_by (provided own (edac_line_of text)) else Plain Nothing) ≡ Plain Nothing)
+    ⊎ ((if of then edac_told_by (provided own (edac_line_of text)) else Plain Nothing) ≡ Plain Unread)
 after_driver head text true of is = absurd cc
 after_driver head text false true is = inr refl
 after_driver head text false false is = inl refl
@@ -191,7 +195,7 @@ module _ (boot cap : ℕ) where
       ap (λ (rest : List BankReport). report_in (group_found boot cap state b) ++ rest) (without (state_after boot cap state b) before after line is)
 
   all_reports : (lines : List (List ℕ)) → flat_map report_in (to_end boot cap log_at_start (told_lines no_edac lines)) ≡ log_reports boot cap lines
-  all_reports lines = ends boot cap report_in refl at_start (printed_plain None) none_polled (told_lines no_edac lines)
+  all_reports lines = ends boot cap report_in refl at_start printed_plain no_names (told_lines no_edac lines)
 
   pub reports_without : (before after : List (List ℕ)) (line : List ℕ) → is_own_line line ≡ false
       → log_reports boot cap (before ++ line ∷ after) ≡ log_reports boot cap (before ++ after)
@@ -205,46 +209,82 @@ module _ (boot cap : ℕ) where
 
 -- ---- names
 
-abbrev name_counter : Name → ℕ
-name_counter (Bank boot cpu bank tsc) = tsc
-name_counter name = 0
+never_full : (vendor : ℕ) (out : KlogOut) → is_full (judged vendor out) ≡ false
+never_full vendor Told.Nothing = refl
+never_full vendor (Told.Partial cpu bank) = refl
+never_full vendor (Told.Whole r) = by (vendor == 0) (valid (status_in r)) (r.bank == 255) (lacks_address r)
+  where
+    by : (intel is_valid firmware lacks : Bool)
+        → is_full (if intel then (if is_valid then (if firmware then Finding.Firmware r.cpu else (if lacks then Finding.Torn (without_address r) else Finding.Whole r)) else Finding.Nothing)
+        else Finding.Foreign vendor r.cpu r.bank) ≡ false
+    by true true true lacks = refl
+    by true true false true = refl
+    by true true false false = refl
+    by true false firmware lacks = refl
+    by false is_valid firmware lacks = refl
 
-counter_is : (count stamp : ℕ) (report : BankReport) → report.tsc ≡ 0 → (with_counter count (Some stamp) report).tsc ≡ stamp
-counter_is count stamp report none =
-    let is : (report.tsc == 0) ≡ true = ap (λ (n : ℕ). n == 0) none in
-    ap (λ (zero : Bool). (if zero then record report { tsc = stamp } else report).tsc) is
+-- the errors of one printer
+abbrev of_printer : Bool → Printers → KeyCounts
+of_printer by_edac before = if by_edac then before.edac else before.kernel
 
-pub same_stamp : (count next stamp other : ℕ) (first second : BankReport) → first.tsc ≡ 0 → second.tsc ≡ 0
-    → bank_name (with_counter count (Some stamp) first) ≡ bank_name (with_counter next (Some other) second)
-    → stamp ≡ other
-same_stamp count next stamp other first second one two same =
-    sym (counter_is count stamp first one) ∙ ap name_counter same ∙ counter_is next other second two
+one_more : (by_edac : Bool) (before : Printers) (is : Bool) (report : BankReport)
+    → of_printer by_edac (if is then record before { edac = counted_with before.edac report } else record before { kernel = counted_with before.kernel report })
+    ≡ (if is_by by_edac is then counted_with (of_printer by_edac before) report else of_printer by_edac before)
+one_more true before true report = refl
+one_more true before false report = refl
+one_more false before true report = refl
+one_more false before false report = refl
 
--- without a stamp
-unstamped_counter : (count : ℕ) (report : BankReport) → report.tsc ≡ 0
-    → (with_counter count None report).tsc ≡ report.seconds % (LAST_SECOND + 1) * MICROSECONDS + count
-unstamped_counter count report none =
-    let is : (report.tsc == 0) ≡ true = ap (λ (n : ℕ). n == 0) none in
-    ap (λ (zero : Bool). (if zero then record report { tsc = report.seconds % (LAST_SECOND + 1) * MICROSECONDS + count } else report).tsc) is
+no_more : (by_edac : Bool) (before : Printers) (is : Bool)
+    → of_printer by_edac before ≡ (if is_by by_edac is then of_printer by_edac before else of_printer by_edac before)
+no_more true before true = refl
+no_more true before false = refl
+no_more false before true = refl
+no_more false before false = refl
 
--- the two numbers that a counter is made of
-same_parts : (a b c d : ℕ) → c < 1000000 → d < 1000000 → a * 1000000 + c ≡ b * 1000000 + d → (a ≡ b) × (c ≡ d)
-same_parts a b c d few fewer same = (omega (arith, few, fewer, same), omega (arith, few, fewer, same))
+-- what is found of a report counts for its printer alone
+counts_on : (by_edac : Bool) (before : Printers) (print : Print) (found : Finding)
+    → of_printer by_edac (printers_with before print found)
+    ≡ (if is_by by_edac print.by_edac then counts_after (of_printer by_edac before) found else of_printer by_edac before)
+counts_on by_edac before print (Finding.Whole report) = one_more by_edac before print.by_edac report
+counts_on by_edac before print (Finding.Torn report) = one_more by_edac before print.by_edac report
+counts_on by_edac before print (Finding.Full report) = no_more by_edac before print.by_edac
+counts_on by_edac before print Finding.Nothing = no_more by_edac before print.by_edac
+counts_on by_edac before print (Finding.Partial cpu bank) = no_more by_edac before print.by_edac
+counts_on by_edac before print (Finding.Foreign vendor cpu bank) = no_more by_edac before print.by_edac
+counts_on by_edac before print (Finding.Firmware cpu) = no_more by_edac before print.by_edac
+counts_on by_edac before print Finding.Unread = no_more by_edac before print.by_edac
 
-pub same_unstamped : (count next : ℕ) (first second : BankReport) → first.tsc ≡ 0 → second.tsc ≡ 0
-    → count < MICROSECONDS → next < MICROSECONDS
-    → bank_name (with_counter count None first) ≡ bank_name (with_counter next None second)
-    → (first.seconds % (LAST_SECOND + 1) ≡ second.seconds % (LAST_SECOND + 1)) × (count ≡ next)
-same_unstamped count next first second one two few fewer same =
-    same_parts (first.seconds % (LAST_SECOND + 1)) (second.seconds % (LAST_SECOND + 1)) count next few fewer
-    (sym (unstamped_counter count first one) ∙ ap name_counter same ∙ unstamped_counter next second two)
+module _ (boot cap : ℕ) (by_edac : Bool) where
+  names_from : (before : Printers) (groups : List LogGroup)
+      → printed_by by_edac groups (group_founds_from boot cap before groups)
+      ≡ named_after (of_printer by_edac before) (printed_by by_edac groups (groups_judged boot cap groups))
+  names_from before [] = refl
+  names_from before (group ∷ groups) =
+      let vendor : ℕ = group_vendor group.rest in
+      let found : Finding = judged vendor (told_in boot cap group) in
+      let after : Printers = printers_with before group.print found in
+      let more : List BankReport = printed_by by_edac groups (groups_judged boot cap groups) in
+      ap (λ (rest : List BankReport). (if is_by by_edac group.print.by_edac then report_in (named_by before group.print found) else []) ++ rest) (names_from after groups)
+      ∙ ap (λ (counts : KeyCounts). (if is_by by_edac group.print.by_edac then report_in (named_by before group.print found) else []) ++ named_after counts more) (counts_on by_edac before group.print found)
+      ∙ by found (never_full vendor (told_in boot cap group)) more group.print.by_edac by_edac
+    where
+      by : (found : Finding) → is_full found ≡ false → (more : List BankReport) → (is other : Bool)
+          → (if is_by other is then report_in (named_found (if is then before.edac else before.kernel) found) else [])
+          ++ named_after (if is_by other is then counts_after (of_printer other before) found else of_printer other before) more
+          ≡ named_after (of_printer other before) ((if is_by other is then report_in found else []) ++ more)
+      by found none more true true = names_on before.edac found more none
+      by found none more true false = refl
+      by found none more false true = refl
+      by found none more false false = names_on before.kernel found more none
 
--- names differ where one of the two numbers does
-pub other_unstamped : (count next : ℕ) (first second : BankReport) → first.tsc ≡ 0 → second.tsc ≡ 0
-    → count < MICROSECONDS → next < MICROSECONDS
-    → (¬ (first.seconds % (LAST_SECOND + 1) ≡ second.seconds % (LAST_SECOND + 1))) ⊎ (¬ (count ≡ next))
-    → ¬ (bank_name (with_counter count None first) ≡ bank_name (with_counter next None second))
-other_unstamped count next first second one two few fewer (inl times) same =
-    times (same_unstamped count next first second one two few fewer same).0
-other_unstamped count next first second one two few fewer (inr counts) same =
-    counts (same_unstamped count next first second one two few fewer same).1
+  pub names_are : (lines : List LogLine)
+      → printed_by by_edac (log_groups lines) (log_founds boot cap lines)
+      ≡ named_after [] (printed_by by_edac (log_groups lines) (groups_judged boot cap (log_groups lines)))
+  names_are lines =
+      names_from no_names (log_groups lines)
+      ∙ ap (λ (counts : KeyCounts). named_after counts (printed_by by_edac (log_groups lines) (groups_judged boot cap (log_groups lines)))) (none by_edac)
+    where
+      none : (other : Bool) → of_printer other no_names ≡ []
+      none true = refl
+      none false = refl

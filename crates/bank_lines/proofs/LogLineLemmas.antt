@@ -5,11 +5,11 @@ use Rattle.std.specs.List.{starts_with}
 use Rattle.std.specs.Option.{option_map, option_map_or}
 use Rattle.std.proofs.lemmas.List.{drop-drop, take-append-drop}
 use Rattle.std.proofs.lemmas.Slice.Eq.{bytes_eq-Decides}
-use Rattle.ras_klog.specs.Reading.{klog_line_after, provided}
+use Rattle.ras_klog.specs.Reading.{klog_line_after}
 use Rattle.ras_klog.specs.declared.line.KlogLine.{KlogLine}
 use Rattle.bank_lines.specs.EdacLines.{driver_text, edac_mark}
 use Rattle.bank_lines.specs.LogHeads.{is_own, mark_place}
-use Rattle.bank_lines.specs.LogLines.{driver_told, edac_line_after, left_unread, line_told_by, log_line_after, log_line_by, log_line_of, log_mark, log_stamp_of, mark_by, mark_of, printed_plain}
+use Rattle.bank_lines.specs.LogLines.{driver_told, edac_line_after, left_unread, line_told_by, log_line_after, log_line_by, log_line_of, log_mark, mark_by, mark_of, printed_plain}
 use Rattle.bank_lines.specs.declared.log_line.LogLine.{LogLine}
 use Rattle.bank_lines.specs.declared.log_line.LogLine.TheVariants.{Nothing}
 use Rattle.bank_lines.specs.declared.log_line.MarkedLine.{MarkedLine}
@@ -26,29 +26,20 @@ plain_in (Some (AtPlain place)) = Some place
 plain_in (Some (AtEdac place)) = None
 plain_in None = None
 
-pub after_is : (head text : List ℕ) (stamp : Option ℕ) (line : KlogLine) (told : LogLine)
-    → Some stamp ≡ provided (is_own head) (Some (log_stamp_of head)) → line ≡ klog_line_after text
-    → told ≡ line_told_by (printed_plain stamp) text line
+pub after_is : (head text : List ℕ) (line : KlogLine) (told : LogLine)
+    → is_own head ≡ true → line ≡ klog_line_after text
+    → told ≡ line_told_by printed_plain text line
     → told ≡ log_line_after head (log_mark ++ text)
-after_is head text stamp line told own line_is told_is = by (is_own head) own
-  where
-    by : (holds : Bool) → Some stamp ≡ provided holds (Some (log_stamp_of head))
-        → told ≡ (if holds then line_told_by (printed_plain (log_stamp_of head)) text (klog_line_after text) else left_unread text)
-    by true is =
-        told_is
-        ∙ ap (λ (l : KlogLine). line_told_by (printed_plain stamp) text l) line_is
-        ∙ ap (λ (o : Option (Option ℕ)). line_told_by (printed_plain (unwrap_or o None)) text (klog_line_after text)) is
-    by false is = absurd cc
+after_is head text line told own line_is told_is =
+    told_is
+    ∙ ap (λ (l : KlogLine). line_told_by printed_plain text l) line_is
+    ∙ ap (λ (holds : Bool). if holds then line_told_by printed_plain text (klog_line_after text) else left_unread text) (sym own)
 
 pub other_is : (head text : List ℕ) (told : LogLine)
-    → None ≡ provided (is_own head) (Some (log_stamp_of head)) → told ≡ left_unread text
+    → is_own head ≡ false → told ≡ left_unread text
     → told ≡ log_line_after head (log_mark ++ text)
-other_is head text told own told_is = by (is_own head) own
-  where
-    by : (holds : Bool) → None ≡ provided holds (Some (log_stamp_of head))
-        → told ≡ (if holds then line_told_by (printed_plain (log_stamp_of head)) text (klog_line_after text) else left_unread text)
-    by true is = absurd cc
-    by false is = told_is
+other_is head text told own told_is =
+    told_is ∙ ap (λ (holds : Bool). if holds then line_told_by printed_plain text (klog_line_after text) else left_unread text) (sym own)
 
 -- a mark stands at its place
 at_mark : (line : List ℕ) (place : ℕ) → mark_place log_mark line ≡ Some place → starts_with nat_eq (drop place line) log_mark ≡ true

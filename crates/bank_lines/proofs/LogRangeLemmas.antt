@@ -1,5 +1,5 @@
 -- The numbers of the lines of `klog` are those of their types.
-use Rattle.std.proofs.Common.{◌≡◌, ℕ, ◌-◌, ◌^◌, ◌<◌, ◌≤◌, ◌==◌, ◌&&◌, Bool, true, false, List, [], ◌∷◌, refl, arith, Option, None, Some, if◌then◌else◌, is_some, nat_eq, nat_le, nat_lt, unwrap_or, codes, drop, length, take}
+use Rattle.std.proofs.Common.{◌≡◌, ℕ, ◌-◌, ◌^◌, ◌<◌, ◌≤◌, ◌&&◌, Bool, true, false, List, [], ◌∷◌, refl, arith, Option, None, Some, if◌then◌else◌, is_some, nat_eq, nat_le, nat_lt, unwrap_or, codes, drop, length, take}
 use Rattle.std.specs.Prelude.{⊤}
 use Rattle.std.proofs.lemmas.Bool.Decides.{nat_tests}
 use Rattle.std.specs.List.{AllByRecursion, ends_with, list_all}
@@ -12,8 +12,8 @@ use Rattle.ras_klog.specs.declared.line.KlogLine.TheVariants.{Start, Tsc, Proces
 use Rattle.ras_script.specs.Number.{decimal_of, hexadecimal_of, is_numeral, numeral_value}
 use Rattle.bank_lines.specs.EdacLines.{driver_text, edac_bank, edac_line_of, edac_mark, edac_processor, edac_register, edac_start, edac_vendor, is_check, is_of_edac, edac_number}
 use Rattle.bank_lines.specs.EdacReports.{edac_after, marked_told, told_lines}
-use Rattle.bank_lines.specs.LogHeads.{after, is_own, record_time, up_to, without_spaces}
-use Rattle.bank_lines.specs.LogLines.{bracket_stamp, driver_told, edac_line_after, edac_told_by, is_cut, is_of_report, log_line_after, log_line_by, log_line_of, log_mark, mark_of, micros_of, log_stamp_of, line_told_by, left_unread, printed_plain, vendor_of, with_vendor}
+use Rattle.bank_lines.specs.LogHeads.{after, is_own, up_to}
+use Rattle.bank_lines.specs.LogLines.{driver_told, edac_line_after, edac_told_by, is_cut, is_of_report, log_line_after, log_line_by, log_line_of, log_mark, mark_of, line_told_by, left_unread, printed_plain, vendor_of, with_vendor}
 use Rattle.bank_lines.specs.Parts.{cut_at, value_after}
 use Rattle.bank_lines.specs.declared.edac_line.EdacLine.{EdacLine}
 use Rattle.bank_lines.specs.declared.edac_line.EdacLine.TheVariants as Edac
@@ -41,7 +41,7 @@ IsLineInRange Other = ⊤
 
 -- the numbers of a line of a log
 abbrev pub IsLogLineInRange : LogLine → Type 0
-IsLogLineInRange (Part line print vendor) = IsLineInRange line × Each (λ s. s < 2 ^ 64) print.stamp × (vendor < 2 ^ 64)
+IsLogLineInRange (Part line print vendor) = IsLineInRange line × (vendor < 2 ^ 64)
 IsLogLineInRange line = ⊤
 
 -- ---- numbers
@@ -159,30 +159,14 @@ klog_in bytes =
 
 -- ---- lines of a log
 
-micros_in : (w : List ℕ) → Each (λ n. n ≤ 999999) (micros_of w)
-micros_in w = each_if (λ n. n ≤ 999999) (length w == 6) (decimal_of 999999 w) None (decimal_in 999999 w) tt
-
-bracket_in : (head : List ℕ) → Each (λ s. s < 2 ^ 64) (bracket_stamp head)
-bracket_in head =
-    let text : List ℕ = without_spaces (up_to 93 (after 91 head)) in
-    each_then (λ n. n ≤ 999999999999) (λ s. s < 2 ^ 64) (decimal_of 999999999999 (up_to 46 text)) _ (decimal_in 999999999999 (up_to 46 text)) (λ seconds s.
-    each_then (λ n. n ≤ 999999) (λ s. s < 2 ^ 64) (micros_of (after 46 text)) _ (micros_in (after 46 text)) (λ micros m. omega (arith, s, m)))
-
-stamp_in : (head : List ℕ) → Each (λ s. s < 2 ^ 64) (log_stamp_of head)
-stamp_in head =
-    let read : Option ℕ = decimal_of 999999999999999999 (record_time head) in
-    each_if (λ s. s < 2 ^ 64) (ends_with nat_eq head (codes ";")) read (bracket_stamp head)
-    (each_wider (λ n. n ≤ 999999999999999999) (λ s. s < 2 ^ 64) read (λ n h. omega (arith, h)) (decimal_in 999999999999999999 (record_time head)))
-    (bracket_in head)
-
 vendor_in : (text : List ℕ) → Each (λ n. n ≤ 2 ^ 64 - 1) (vendor_of text)
 vendor_in text =
     each_if (λ n. n ≤ 2 ^ 64 - 1) (is_cut text) None (decimal_of (2 ^ 64 - 1) (up_to 58 (after 32 text))) tt (decimal_in (2 ^ 64 - 1) (up_to 58 (after 32 text)))
 
-timed_in : (print : Print) (seconds : ℕ) (vendor : Option ℕ) → Each (λ s. s < 2 ^ 64) print.stamp → seconds < 2 ^ 64 → Each (λ n. n ≤ 2 ^ 64 - 1) vendor
+timed_in : (print : Print) (seconds : ℕ) (vendor : Option ℕ) → seconds < 2 ^ 64 → Each (λ n. n ≤ 2 ^ 64 - 1) vendor
     → IsLogLineInRange (with_vendor print seconds vendor)
-timed_in print seconds None s t v = tt
-timed_in print seconds (Some vendor) s t v = (t, s, omega (arith, v))
+timed_in print seconds None t v = tt
+timed_in print seconds (Some vendor) t v = (t, omega (arith, v))
 
 untold_in : (text : List ℕ) → IsLogLineInRange (left_unread text)
 untold_in text = by (is_of_report text)
@@ -191,11 +175,11 @@ untold_in text = by (is_of_report text)
     by true = tt
     by false = tt
 
-told_in : (print : Print) (text : List ℕ) (line : KlogLine) → Each (λ s. s < 2 ^ 64) print.stamp → IsLineInRange line → IsLogLineInRange (line_told_by print text line)
-told_in print text Other s h = untold_in text
-told_in print text (Processor seconds) s h = timed_in print seconds (vendor_of text) s h (vendor_in text)
-told_in print text (Start cpu mcg bank status) s h = (h, s, omega arith)
-told_in print text (Tsc tsc addr misc) s h = (h, s, omega arith)
+told_in : (print : Print) (text : List ℕ) (line : KlogLine) → IsLineInRange line → IsLogLineInRange (line_told_by print text line)
+told_in print text Other h = untold_in text
+told_in print text (Processor seconds) h = timed_in print seconds (vendor_of text) h (vendor_in text)
+told_in print text (Start cpu mcg bank status) h = (h, omega arith)
+told_in print text (Tsc tsc addr misc) h = (h, omega arith)
 
 own_or_other : (is : Bool) (line other : LogLine) → IsLogLineInRange line → IsLogLineInRange other → IsLogLineInRange (if is then line else other)
 own_or_other true line other h k = h
@@ -204,7 +188,7 @@ own_or_other false line other h k = k
 after_in : (head marked : List ℕ) → IsLogLineInRange (log_line_after head marked)
 after_in head marked =
     let text : List ℕ = drop (length log_mark) marked in
-    own_or_other (is_own head) _ _ (told_in (printed_plain (log_stamp_of head)) text (klog_line_of marked) (stamp_in head) (klog_in marked)) (untold_in text)
+    own_or_other (is_own head) _ _ (told_in printed_plain text (klog_line_of marked) (klog_in marked)) (untold_in text)
 
 -- ---- EDAC's lines
 
@@ -286,17 +270,17 @@ edac_line_in text =
 
 abbrev IsMarkedInRange : MarkedLine → Type 0
 IsMarkedInRange (Marked.Plain line) = IsLogLineInRange line
-IsMarkedInRange (Marked.Edac line stamp) = IsEdacLineInRange line × Each (λ s. s < 2 ^ 64) stamp
+IsMarkedInRange (Marked.Edac line) = IsEdacLineInRange line
 
-told_by_in : (stamp : Option ℕ) (line : Option EdacLine) → Each (λ s. s < 2 ^ 64) stamp → Each IsEdacLineInRange line → IsMarkedInRange (edac_told_by stamp line)
-told_by_in stamp None s l = tt
-told_by_in stamp (Some line) s l = (l, s)
+told_by_in : (line : Option EdacLine) → Each IsEdacLineInRange line → IsMarkedInRange (edac_told_by line)
+told_by_in None l = tt
+told_by_in (Some line) l = l
 
 driver_in : (head text : List ℕ) → IsMarkedInRange (driver_told head text)
 driver_in head text = by (is_of_edac text)
   where
-    by : (is : Bool) → IsMarkedInRange (if is then edac_told_by (log_stamp_of head) (provided (is_own head) (edac_line_of text)) else Marked.Plain Nothing)
-    by true = told_by_in (log_stamp_of head) _ (stamp_in head) (each_provided IsEdacLineInRange (is_own head) (edac_line_of text) (edac_line_in text))
+    by : (is : Bool) → IsMarkedInRange (if is then edac_told_by (provided (is_own head) (edac_line_of text)) else Marked.Plain Nothing)
+    by true = told_by_in _ (each_provided IsEdacLineInRange (is_own head) (edac_line_of text) (edac_line_in text))
     by false = tt
 
 edac_after_in : (head marked : List ℕ) → IsMarkedInRange (edac_line_after head marked)
@@ -322,12 +306,12 @@ IsReportInRange (Placed tsc addr) = (tsc < 2 ^ 64) × (addr < 2 ^ 64)
 IsReportInRange report = ⊤
 
 told_marked_in : (report : EdacReport) (line : MarkedLine) → IsReportInRange report → IsMarkedInRange line → IsLogLineInRange (marked_told report line)
-told_marked_in report (Marked.Edac (Edac.Start cpu mcg bank status) stamp) r l = (l.0, l.1, omega arith)
-told_marked_in Begun (Marked.Edac (Edac.Tsc n) stamp) r l = tt
-told_marked_in (Counted tsc) (Marked.Edac (Edac.Addr n) stamp) r l = tt
-told_marked_in (Placed tsc addr) (Marked.Edac (Edac.Misc n) stamp) r l = ((r.0, r.1, l.0), l.1, omega arith)
-told_marked_in Told (Marked.Edac (Edac.Processor vendor seconds) stamp) r l = (l.0.1, l.1, l.0.0)
-told_marked_in report (Marked.Edac line stamp) r l = tt
+told_marked_in report (Marked.Edac (Edac.Start cpu mcg bank status)) r l = (l, omega arith)
+told_marked_in Begun (Marked.Edac (Edac.Tsc n)) r l = tt
+told_marked_in (Counted tsc) (Marked.Edac (Edac.Addr n)) r l = tt
+told_marked_in (Placed tsc addr) (Marked.Edac (Edac.Misc n)) r l = ((r.0, r.1, l), omega arith)
+told_marked_in Told (Marked.Edac (Edac.Processor vendor seconds)) r l = (l.1, l.0)
+told_marked_in report (Marked.Edac line) r l = tt
 told_marked_in report (Marked.Plain (Part (Start cpu mcg bank status) print vendor)) r l = l
 told_marked_in Idle (Marked.Plain (Part line print vendor)) r l = l
 told_marked_in report (Marked.Plain (Part line print vendor)) r l = tt
@@ -335,12 +319,12 @@ told_marked_in report (Marked.Plain Nothing) r l = tt
 told_marked_in report (Marked.Plain Unread) r l = tt
 
 edac_next_in : (report : EdacReport) (line : MarkedLine) → IsReportInRange report → IsMarkedInRange line → IsReportInRange (edac_after report line)
-edac_next_in report (Marked.Edac (Edac.Start cpu mcg bank status) stamp) r l = tt
-edac_next_in Begun (Marked.Edac (Edac.Tsc n) stamp) r l = l.0
-edac_next_in (Counted tsc) (Marked.Edac (Edac.Addr n) stamp) r l = (r, l.0)
-edac_next_in (Placed tsc addr) (Marked.Edac (Edac.Misc n) stamp) r l = tt
-edac_next_in Told (Marked.Edac (Edac.Processor vendor seconds) stamp) r l = tt
-edac_next_in report (Marked.Edac line stamp) r l = r
+edac_next_in report (Marked.Edac (Edac.Start cpu mcg bank status)) r l = tt
+edac_next_in Begun (Marked.Edac (Edac.Tsc n)) r l = l
+edac_next_in (Counted tsc) (Marked.Edac (Edac.Addr n)) r l = (r, l)
+edac_next_in (Placed tsc addr) (Marked.Edac (Edac.Misc n)) r l = tt
+edac_next_in Told (Marked.Edac (Edac.Processor vendor seconds)) r l = tt
+edac_next_in report (Marked.Edac line) r l = r
 edac_next_in report (Marked.Plain (Part (Start cpu mcg bank status) print vendor)) r l = tt
 edac_next_in report (Marked.Plain line) r l = r
 

@@ -13,7 +13,7 @@ use Rattle.ras_script.specs.SplittingLaws.{Lacks}
 use Rattle.bank_lines.specs.Kernel.{IsPrinted, Printed, register}
 use Rattle.bank_lines.specs.LogHeads.{after, is_joined, is_own, up_to}
 use Rattle.bank_lines.specs.LogKernel.{HasNo, status_words, named_words, plain_registers, plain_start, plain_time, pnd2}
-use Rattle.bank_lines.specs.LogLines.{left_unread, line_told_by, log_line_after, log_line_by, log_line_of, log_mark, log_stamp_of, printed_plain, vendor_of, with_vendor}
+use Rattle.bank_lines.specs.LogLines.{left_unread, line_told_by, log_line_after, log_line_by, log_line_of, log_mark, printed_plain, vendor_of, with_vendor}
 use Rattle.bank_lines.specs.declared.log_line.LogLine.{LogLine}
 use Rattle.bank_lines.specs.declared.log_line.LogLine.TheVariants.{Part}
 use Rattle.bank_lines.specs.declared.log_line.MarkedLine.TheVariants.{Plain}
@@ -33,14 +33,14 @@ klog_reads words line some spaces reads =
     ∙ ap (λ (read : Option KlogLine). unwrap_or read Klog.Other) reads
 
 line_read : (head text : List ℕ) (line : KlogLine) (told : LogLine) → is_own head ≡ true → HasNo log_mark head → klog_line_of (log_mark ++ text) ≡ line
-    → line_told_by (printed_plain (log_stamp_of head)) text line ≡ told → log_line_of (head ++ (log_mark ++ text)) ≡ Plain told
+    → line_told_by printed_plain text line ≡ told → log_line_of (head ++ (log_mark ++ text)) ≡ Plain told
 line_read head text line told own none reads tells =
     let whole : List ℕ = head ++ (log_mark ++ text) in
     ap (λ (mark : Option LogMark). log_line_by whole mark) (plain_marked head text none)
     ∙ ap (λ (front : List ℕ). Plain (log_line_after front (drop (length head) whole))) (take-append_seam head (log_mark ++ text))
     ∙ ap (λ (marked : List ℕ). Plain (log_line_after head marked)) (drop_at head (log_mark ++ text) (length head) refl)
-    ∙ ap (λ (is : Bool). Plain (if is then line_told_by (printed_plain (log_stamp_of head)) text (klog_line_of (log_mark ++ text)) else left_unread text)) own
-    ∙ ap (λ (read : KlogLine). Plain (line_told_by (printed_plain (log_stamp_of head)) text read)) reads
+    ∙ ap (λ (is : Bool). Plain (if is then line_told_by printed_plain text (klog_line_of (log_mark ++ text)) else left_unread text)) own
+    ∙ ap (λ (read : KlogLine). Plain (line_told_by printed_plain text read)) reads
     ∙ ap (λ (t : LogLine). Plain t) tells
 
 -- ---- the words of the three lines
@@ -214,7 +214,7 @@ module _ (p : Printed) (h : IsPrinted p) (exception : Bool) where
   -- ---- the three lines, each behind a head
 
   module _ (head : List ℕ) (own : is_own head ≡ true) (none : HasNo log_mark head) where
-    pub start_line : log_line_of (head ++ (log_mark ++ join_with_byte 32 (plain_start exception p))) ≡ Plain (Part (Klog.Start p.event.cpu p.event.mcg p.event.bank p.event.status) (printed_plain (log_stamp_of head)) 0)
+    pub start_line : log_line_of (head ++ (log_mark ++ join_with_byte 32 (plain_start exception p))) ≡ Plain (Part (Klog.Start p.event.cpu p.event.mcg p.event.bank p.event.status) printed_plain 0)
     start_line =
         line_read head (join_with_byte 32 (plain_start exception p)) (Klog.Start p.event.cpu p.event.mcg p.event.bank p.event.status) _ own none
         (klog_reads (plain_start exception p) (Klog.Start p.event.cpu p.event.mcg p.event.bank p.event.status) (some exception) start_lacks start_read) refl
@@ -223,13 +223,13 @@ module _ (p : Printed) (h : IsPrinted p) (exception : Bool) where
         some true = omega arith
         some false = omega arith
 
-    pub registers_line : log_line_of (head ++ (log_mark ++ join_with_byte 32 (plain_registers p))) ≡ Plain (Part (Klog.Tsc p.event.tsc p.event.addr p.event.misc) (printed_plain (log_stamp_of head)) 0)
+    pub registers_line : log_line_of (head ++ (log_mark ++ join_with_byte 32 (plain_registers p))) ≡ Plain (Part (Klog.Tsc p.event.tsc p.event.addr p.event.misc) printed_plain 0)
     registers_line =
         line_read head (join_with_byte 32 (plain_registers p)) (Klog.Tsc p.event.tsc p.event.addr p.event.misc) _ own none
         (klog_reads (plain_registers p) (Klog.Tsc p.event.tsc p.event.addr p.event.misc) (omega arith) registers_lack registers_read) refl
 
-    pub time_line : log_line_of (head ++ (log_mark ++ join_with_byte 32 (plain_time p))) ≡ Plain (Part (Klog.Processor p.event.seconds) (printed_plain (log_stamp_of head)) p.event.vendor)
+    pub time_line : log_line_of (head ++ (log_mark ++ join_with_byte 32 (plain_time p))) ≡ Plain (Part (Klog.Processor p.event.seconds) printed_plain p.event.vendor)
     time_line =
         line_read head text (Klog.Processor p.event.seconds) _ own none
         (klog_reads (plain_time p) (Klog.Processor p.event.seconds) (omega arith) time_lacks time_read)
-        (ap (λ (o : Option ℕ). with_vendor (printed_plain (log_stamp_of head)) p.event.seconds o) vendor_is)
+        (ap (λ (o : Option ℕ). with_vendor printed_plain p.event.seconds o) vendor_is)

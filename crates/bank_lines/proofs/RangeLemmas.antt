@@ -1,5 +1,5 @@
 -- What is found in a line fits its types.
-use Rattle.std.proofs.Common.{◌≡◌, ℕ, ◌+◌, ◌-◌, ◌^◌, ◌<◌, ◌≤◌, ◌==◌, ◌&&◌, Bool, true, false, cond, nat_le, if◌then◌else◌, List, [], ◌∷◌, codes, take, drop, length, refl, arith, Option, Some, None}
+use Rattle.std.proofs.Common.{◌≡◌, ℕ, ◌+◌, ◌-◌, ◌^◌, ◌<◌, ◌≤◌, ◌==◌, ◌&&◌, Bool, true, false, cond, nat_le, if◌then◌else◌, List, [], ◌∷◌, codes, take, drop, refl, arith, Option, Some, None}
 use Rattle.std.specs.Prelude.{IfSome}
 use Rattle.std.specs.List.{position_or_len}
 use Rattle.std.specs.Option.{option_map_or}
@@ -18,12 +18,10 @@ use Rattle.bank_lines.specs.declared.event.Fields.{Fields}
 use Rattle.bank_lines.specs.declared.event.Global.{Global}
 use Rattle.bank_lines.specs.declared.event.Registers.{Registers}
 use Rattle.bank_lines.specs.declared.found.Finding.TheVariants.{Nothing, Whole, Foreign, Firmware, Unread}
-use Rattle.bank_lines.specs.declared.stamp.TheConstants.{MOST_SECONDS}
 use Rattle.bank_lines.specs.TraceEvent.{addr_told, bank_named, cpu_told, event_in, whole_event, fields_after, global_of, global_told, misc_told, no_fields, once, processor_vendor, processor_told, registers_of, registers_told, seconds_told, status_told, tellings, part_told_by, took, tsc_told, vendor_told}
 use Rattle.bank_lines.specs.Finding.{IsInTypes, found_of}
 use Rattle.bank_lines.specs.Parts.{after_spaces, cut_at, value_after}
-use Rattle.bank_lines.specs.Stamp.{last_stamp, stamp_of}
-use Rattle.bank_lines.specs.Trace.{counter_of, event_found, found_at, is_traced, last_mark, event_report, trace_found}
+use Rattle.bank_lines.specs.Trace.{event_found, found_at, is_traced, last_mark, event_report, trace_found}
 
 -- ---- what is read after something that was read
 
@@ -240,34 +238,11 @@ event_in_range : (text : List ℕ) → IfSome (event_in text) EventIn
 event_in_range text =
     then_some FieldsIn EventIn (fields_after no_fields (without_last (cut_at 44 text))) whole_event (fields_in no_fields (without_last (cut_at 44 text)) none_in) event_of_in
 
--- ---- a counter
-
-stamp_in : (word : List ℕ) → IfSome (stamp_of word) Is64
-stamp_in word =
-    let point : ℕ = length word - 8 in
-    provided_some Is64 _ _ (
-    then_some (λ n. n ≤ MOST_SECONDS) Is64 (decimal_of MOST_SECONDS (take point word)) _ (decimal_in MOST_SECONDS (take point word)) (λ seconds few.
-    then_some (λ n. n ≤ 999999) Is64 (decimal_of 999999 (take 6 (drop (point + 1) word))) _ (decimal_in 999999 (take 6 (drop (point + 1) word))) (λ micros less.
-    omega arith)))
-
-last_in : (stamp : Option ℕ) (words : List (List ℕ)) → IfSome stamp Is64 → IfSome (last_stamp stamp words) Is64
-last_in stamp [] within = within
-last_in stamp (word ∷ words) within =
-    last_in (option_map_or (λ here. Some here) (stamp_of word) stamp) words
-    (choice Is64 Is64 (λ here. Some here) (stamp_of word) stamp (stamp_in word) (λ here is. is) within)
-
-counter_in : (tsc : ℕ) (before : List ℕ) → Is64 tsc → IfSome (counter_of tsc before) Is64
-counter_in tsc before within = by (tsc == 0)
-  where
-    by : (none : Bool) → IfSome (if none then last_stamp None (cut_at 32 before) else Some tsc) Is64
-    by true = last_in None (cut_at 32 before) tt
-    by false = within
-
 -- ---- what is found
 
-bank_in : (boot tsc : ℕ) (e : TraceEvent) → boot < 2 ^ 64 → Is64 tsc → EventIn e → IsBankInRange (event_report boot e tsc)
-bank_in boot tsc e small counter h =
-    ((small, (omega (arith, h.seconds), (omega (arith, counter), (omega (arith, h.cap), (omega (arith, h.mcg), (omega (arith, h.status), (omega (arith, h.addr), (omega (arith, h.misc), tt)))))))), omega (arith, h.cpu), omega (arith, h.bank))
+bank_in : (boot : ℕ) (e : TraceEvent) → boot < 2 ^ 64 → EventIn e → IsBankInRange (event_report boot e)
+bank_in boot e small h =
+    ((small, (omega (arith, h.seconds), (omega (arith, h.tsc), (omega (arith, h.cap), (omega (arith, h.mcg), (omega (arith, h.status), (omega (arith, h.addr), (omega (arith, h.misc), tt)))))))), omega (arith, h.cpu), omega (arith, h.bank))
 
 found_in : (report : BankReport) → IsBankInRange report → IsInTypes (found_of report)
 found_in report within = by (valid (status_in report)) (report.bank == 255)
@@ -277,28 +252,23 @@ found_in report within = by (valid (status_in report)) (report.bank == 255)
     by true false = within
     by false firmware = tt
 
-counted_in : (boot : ℕ) (e : TraceEvent) (counter : Option ℕ) → boot < 2 ^ 64 → EventIn e → IfSome counter Is64
-    → IsInTypes (option_map_or (λ tsc. found_of (event_report boot e tsc)) counter Unread)
-counted_in boot e None small h within = tt
-counted_in boot e (Some tsc) small h within = found_in (event_report boot e tsc) (bank_in boot tsc e small within h)
-
-event_found_in : (boot : ℕ) (before : List ℕ) (e : TraceEvent) → boot < 2 ^ 64 → EventIn e → IsInTypes (event_found boot before e)
-event_found_in boot before e small h = by (e.vendor == 0)
+event_found_in : (boot : ℕ) (e : TraceEvent) → boot < 2 ^ 64 → EventIn e → IsInTypes (event_found boot e)
+event_found_in boot e small h = by (e.vendor == 0)
   where
-    by : (intel : Bool) → IsInTypes (if intel then option_map_or (λ tsc. found_of (event_report boot e tsc)) (counter_of e.tsc before) Unread else Foreign e.vendor e.cpu e.bank)
-    by true = counted_in boot e (counter_of e.tsc before) small h (counter_in e.tsc before h.tsc)
+    by : (intel : Bool) → IsInTypes (if intel then found_of (event_report boot e) else Foreign e.vendor e.cpu e.bank)
+    by true = found_in (event_report boot e) (bank_in boot e small h)
     by false = (omega (arith, h.vendor), omega (arith, h.cpu), omega (arith, h.bank))
 
-told_in : (boot : ℕ) (before : List ℕ) (event : Option TraceEvent) → boot < 2 ^ 64 → IfSome event EventIn → IsInTypes (option_map_or (event_found boot before) event Unread)
-told_in boot before None small h = tt
-told_in boot before (Some e) small h = event_found_in boot before e small h
+told_in : (boot : ℕ) (event : Option TraceEvent) → boot < 2 ^ 64 → IfSome event EventIn → IsInTypes (option_map_or (event_found boot) event Unread)
+told_in boot None small h = tt
+told_in boot (Some e) small h = event_found_in boot e small h
 
 marked_in : (boot : ℕ) (line : List ℕ) (place : Option ℕ) → boot < 2 ^ 64 → IsInTypes (option_map_or (found_at boot line) place Nothing)
 marked_in boot line None small = tt
 marked_in boot line (Some place) small = by (is_traced (take place line))
   where
-    by : (traced : Bool) → IsInTypes (if traced then option_map_or (event_found boot (take place line)) (event_in (drop (place + 12) line)) Unread else Unread)
-    by true = told_in boot (take place line) (event_in (drop (place + 12) line)) small (event_in_range (drop (place + 12) line))
+    by : (traced : Bool) → IsInTypes (if traced then option_map_or (event_found boot) (event_in (drop (place + 12) line)) Unread else Unread)
+    by true = told_in boot (event_in (drop (place + 12) line)) small (event_in_range (drop (place + 12) line))
     by false = tt
 
 pub trace_in : (boot : ℕ) (line : List ℕ) → boot < 2 ^ 64 → IsInTypes (trace_found boot line)

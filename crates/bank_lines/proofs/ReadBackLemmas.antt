@@ -19,9 +19,9 @@ use Rattle.ras_script.specs.declared.line.Line.TheVariants as asks
 use Rattle.ras_script.specs.declared.line.LineRefused.{LineRefused}
 use Rattle.ras_script.specs.declared.reader.TheConstants.{LONGEST_LINE}
 use Rattle.bank_lines.specs.declared.found.Finding.{Finding}
-use Rattle.bank_lines.specs.declared.found.Finding.TheVariants.{Nothing, Whole, Torn, Partial, Foreign, Firmware, Unread}
+use Rattle.bank_lines.specs.declared.found.Finding.TheVariants.{Nothing, Whole, Torn, Full, Partial, Foreign, Firmware, Unread}
 use Rattle.bank_lines.specs.Finding.{IsFoundInRange, IsInTypes, Numbered, report_in, reports_in}
-use Rattle.bank_lines.specs.Texts.{asks_in, asks_of, asking_line, firmware_line, found_lines, found_text, lines_at, partial_comment, printed, printed_lines, torn_line, unread_line, vendor_line}
+use Rattle.bank_lines.specs.Texts.{asks_in, asks_of, asking_line, firmware_line, found_lines, found_text, full_line, lines_at, partial_comment, printed, printed_lines, torn_line, unread_line, vendor_line}
 use Rattle.bank_lines.proofs.NumeralLemmas.{WordOk, both, decimal_ok, hexadecimal_ok, joined_lack, joined_short, lack_both, literal_lacks}
 
 -- ---- what a line asks for
@@ -42,6 +42,9 @@ each_of number Nothing within = refl
 each_of number (Whole report) within = asked_alone (asking_line report) (Ok (asks.Report (Bank report))) (bank_read report within)
 each_of number (Torn report) within =
     ap (λ (a : Result Line LineRefused). filter is_asking (a ∷ line_of (asking_line report) ∷ [])) (comment (drop 2 (torn_line number)))
+    ∙ asked_alone (asking_line report) (Ok (asks.Report (Bank report))) (bank_read report within)
+each_of number (Full report) within =
+    ap (λ (a : Result Line LineRefused). filter is_asking (a ∷ line_of (asking_line report) ∷ [])) (comment (drop 2 full_line))
     ∙ asked_alone (asking_line report) (Ok (asks.Report (Bank report))) (bank_read report within)
 each_of number (Firmware cpu) within = asked_alone (firmware_line cpu) (Ok asks.Nothing) (comment (drop 2 (firmware_line cpu)))
 each_of number (Partial cpu bank) within = asked_alone (partial_comment cpu bank) (Ok asks.Nothing) (comment (drop 2 (partial_comment cpu bank)))
@@ -117,6 +120,7 @@ lines_ok : (number : ℕ) (found : Finding) → number < 2 ^ 64 → IsInTypes fo
 lines_ok number Nothing small within = tt
 lines_ok number (Whole report) small within = (bank_ok report within, tt)
 lines_ok number (Torn report) small within = (torn_ok number small, (bank_ok report within, tt))
+lines_ok number (Full report) small within = ((literal_lacks 10 full_line refl, omega arith), (bank_ok report within, tt))
 lines_ok number (Firmware cpu) small within = (firmware_ok cpu within, tt)
 lines_ok number (Partial cpu bank) small within = (partial_ok cpu bank within.0 within.1, tt)
 lines_ok number (Foreign vendor cpu bank) small within = (vendor_ok vendor cpu bank within.0 within.1 within.2, tt)

@@ -6,7 +6,7 @@ use Rattle.ras_klog.specs.declared.line.KlogLine.TheVariants.{Start, Tsc, Proces
 use Rattle.ras_klog.specs.declared.state.Stage.{Stage}
 use Rattle.ras_klog.specs.declared.state.Stage.TheVariants.{Idle, Begun, Timed}
 use Rattle.bank_lines.specs.LogAlong.{print_after, state_after}
-use Rattle.bank_lines.specs.LogGroups.{polled_after}
+use Rattle.bank_lines.specs.LogGroups.{printers_after}
 use Rattle.bank_lines.specs.declared.log_line.LogLine.TheVariants.{Part}
 use Rattle.bank_lines.specs.declared.log_line.Print.{Print}
 use Rattle.bank_lines.specs.declared.log_state.LogState.{LogState}
@@ -16,10 +16,10 @@ pub no_place : (boot cap : ℕ) (state : LogState) (line : KlogLine) (print : Pr
 no_place boot cap state line print vendor none = by state.work line none
   where
     by : (stage : Stage) (line : KlogLine) → has_place stage line ≡ false
-        → ◌≡◌ {A = LogState} (record { work = stage; print = state.print; polled = state.polled }) (record {
+        → ◌≡◌ {A = LogState} (record { work = stage; print = state.print; printers = state.printers }) (record {
           work = stage_after stage line;
           print = print_after state.print line print;
-          polled = polled_after state.polled state.print (out_at boot cap stage line);
+          printers = printers_after state.printers state.print vendor (out_at boot cap stage line);
         })
     by Idle (Start cpu mcg bank status) none = absurd cc
     by Idle (Tsc tsc addr misc) none = refl

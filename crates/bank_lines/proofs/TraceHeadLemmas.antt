@@ -1,14 +1,15 @@
 -- The heads that tracers print give their stamps.
-use Rattle.std.proofs.Common.{◌≡◌, ℕ, zero, suc, ◌+◌, ◌-◌, ◌*◌, ◌^◌, ◌<◌, ◌≤◌, ◌==◌, ◌&&◌, ◌||◌, Bool, true, false, not, nat_eq, nat_le, nat_lt, List, [], ◌∷◌, ◌++◌, codes, decimal, take, drop, length, get_or, refl, sym, ap, ◌∙◌, arith, append_assoc, length-append, Option, None, Some}
-use Rattle.std.specs.Prelude.{replicate, slice_index}
+use Rattle.std.proofs.Common.{◌≡◌, ℕ, zero, suc, ◌+◌, ◌-◌, ◌*◌, ◌^◌, ◌<◌, ◌≤◌, ◌==◌, ◌&&◌, ◌||◌, Bool, true, false, not, nat_eq, nat_le, nat_lt, List, [], ◌∷◌, ◌++◌, codes, decimal, take, drop, length, get_or, refl, sym, ap, ◌∙◌, arith, append_assoc, length-append, Some}
+use Rattle.std.specs.Prelude.{replicate, slice_index, if◌then◌else◌}
 use Rattle.std.proofs.Math.Seq.{take-append_seam}
 use Rattle.std.proofs.lemmas.Bool.{lt-ltb}
 use Rattle.std.proofs.lemmas.Bool.Decides.{nat_tests}
 use Rattle.std.proofs.lemmas.Fmt.{decimal_is_IsNumeral, decimal_nonempty, length-decimal-le}
-use Rattle.std.proofs.lemmas.List.{drop_at, length-replicate}
+use Rattle.std.proofs.lemmas.List.{drop_at, drop-append-le, length-replicate}
+use Rattle.std.proofs.Math.ListN.{get_or-append}
+use Rattle.std.proofs.Math.Seq.{get_or-append_right}
 use Rattle.std.specs.Char.{digit_value, is_digit}
 use Rattle.std.specs.List.{list_all, list_any, prefix_len}
-use Rattle.std.specs.Option.{option_map_or}
 use Rattle.std.specs.Str.{bytes_eq}
 use Rattle.std.specs.Str.Parse.{AllDigits, digits_value}
 use Rattle.ras_script.proofs.LineAndWordLemmas.{split_between, split_lacking}
@@ -18,11 +19,11 @@ use Rattle.ras_script.specs.SplittingLaws.{Lacks}
 use Rattle.bank_lines.specs.LogHeads.{begins, has_digit, mark_place, without_spaces}
 use Rattle.bank_lines.specs.LogKernel.{HasNo}
 use Rattle.bank_lines.specs.Parts.{cut_at}
-use Rattle.bank_lines.specs.Stamp.{last_stamp, stamp_of}
-use Rattle.bank_lines.specs.Trace.{are_count_signs, is_count, is_system, is_traced, is_traced_by, last_word}
-use Rattle.bank_lines.specs.TraceHeads.{IsFront, Tracer, clock, digits_of, head_of, perf, system_of, trace_cmd, trace_pipe}
+use Rattle.bank_lines.specs.Stamp.{stamp_of}
+use Rattle.bank_lines.specs.Trace.{are_count_signs, behind_name, is_count, is_in_columns, is_system, is_traced, is_traced_by, last_word}
+use Rattle.bank_lines.specs.TraceHeads.{IsFront, Tracer, clock, digits_of, head_of, perf, pipe_front, system_of, trace_cmd, trace_pipe}
 use Rattle.bank_lines.proofs.LogMarkLemmas.{first_behind}
-use Rattle.bank_lines.proofs.NumeralLemmas.{decimal_lacks, lack_both}
+use Rattle.bank_lines.proofs.NumeralLemmas.{decimal_lacks, lack_both, literal_lacks}
 
 -- ---- digits
 
@@ -180,17 +181,6 @@ pub last_behind : (first : List ℕ) (words : List (List ℕ)) (word : List ℕ)
 last_behind first [] behind = refl
 last_behind first (w ∷ words) behind = last_behind w words behind
 
-stamp_over : (stamp : Option ℕ) (words more : List (List ℕ)) → last_stamp stamp (words ++ more) ≡ last_stamp (last_stamp stamp words) more
-stamp_over stamp [] more = refl
-stamp_over stamp (w ∷ words) more = stamp_over (option_map_or (λ here. Some here) (stamp_of w) stamp) words more
-
--- the spaces and the system behind the clock are no stamp
-no_stamp : (tracer : Tracer) (spaces : ℕ) (stamp : Option ℕ) → last_stamp stamp (cut_at 32 (replicate spaces 32 ++ system_of tracer)) ≡ stamp
-no_stamp trace_pipe zero stamp = refl
-no_stamp trace_cmd zero stamp = refl
-no_stamp perf zero stamp = refl
-no_stamp tracer (suc n) stamp = ap (last_stamp stamp) (split_between 32 [] (replicate n 32 ++ system_of tracer)) ∙ no_stamp tracer n stamp
-
 abbrev is_name_of : List ℕ → Bool
 is_name_of name = length name == 0 || bytes_eq name (codes "mce:")
 
@@ -218,6 +208,127 @@ and_false : (t u : Bool) → t ≡ false → (t && u) ≡ false
 and_false true u is = absurd cc
 and_false false u is = refl
 
+-- ---- a name in columns
+
+-- the bytes up to this place aren't `-`
+abbrev pub NoDash : List ℕ → Type 0
+NoDash text = (i : ℕ) → i < 16 → ¬ (slice_index text i ≡ 45)
+
+pub lacks_dash : (text : List ℕ) → Lacks 45 text → (i : ℕ) → ¬ (slice_index text i ≡ 45)
+lacks_dash [] lacks i is = absurd (omega (arith, is))
+lacks_dash (b ∷ text) lacks zero is = lacks.0 is
+lacks_dash (b ∷ text) lacks (suc i) is = lacks_dash text lacks.1 i is
+
+pub front_plain : (region rest : List ℕ) → Lacks 45 region → 16 ≤ length region → NoDash (region ++ rest)
+front_plain region rest lacks reaches i low is =
+    lacks_dash region lacks i (sym (get_or-append region rest 0 i (omega (arith, low, reaches))) ∙ is)
+
+pub clock_reaches : (seconds micros : ℕ) → seconds ≤ 18446744073708 → micros < 1000000 → 8 ≤ length (clock seconds micros)
+clock_reaches seconds micros most low = omega (arith, clock_long seconds micros most low, some_before seconds micros most low)
+
+and_nothing : (t : Bool) → (t && false) ≡ false
+and_nothing true = refl
+and_nothing false = refl
+
+both_true : (t u : Bool) → (t && u) ≡ true → t ≡ true
+both_true true u is = refl
+both_true false u is = absurd cc
+
+not_dash : (b : ℕ) (more : Bool) → ¬ (b ≡ 45) → ((b == 45) && more) ≡ false
+not_dash b more other = let is : (b == 45) ≡ false = grind (arith, nat_tests, other) in rw is refl
+
+module _ (front tail : List ℕ) (plain : NoDash tail) where
+  abbrev whole : List ℕ
+  whole = front ++ 32 ∷ tail
+
+  short_front : length front ≤ 17 → behind_name front ≡ front
+  short_front short =
+      let few : nat_lt 17 (length front) ≡ false = grind (arith, nat_tests, short) in
+      rw few refl
+
+  -- the byte in the column of the `-`, of a front that doesn't reach it
+  plain_there : length front ≤ 16 → ¬ (slice_index whole 16 ≡ 45)
+  plain_there short is =
+      let right : get_or whole 16 0 ≡ get_or (32 ∷ tail) (16 - length front) 0 = get_or-append_right front (32 ∷ tail) 16 0 short in
+      by (16 - length front) (omega arith) (sym right ∙ is)
+    where
+      by : (i : ℕ) → i ≤ 16 → ¬ (get_or (32 ∷ tail) i 0 ≡ 45)
+      by zero small is = omega (arith, is)
+      by (suc i) small is = plain i (omega (arith, small)) is
+
+  not_in_columns : length front ≤ 17 → is_in_columns whole ≡ false
+  not_in_columns short = by (nat_le (length front) 16) refl
+    where
+      by : (below : Bool) → nat_le (length front) 16 ≡ below → is_in_columns whole ≡ false
+      by true is =
+          let low : length front ≤ 16 = grind (arith, nat_tests, is) in
+          ap (λ (columns : Bool). nat_lt 17 (length whole) && columns) (not_dash (slice_index whole 16) (is_digit (slice_index whole 17) 10) (plain_there low))
+          ∙ and_nothing (nat_lt 17 (length whole))
+      by false is =
+          let full : length front ≡ 17 = let above : ¬ (length front ≤ 16) = grind (arith, nat_tests, is) in omega (arith, short, above) in
+          let here : slice_index whole 17 ≡ 32 = get_or-append_right front (32 ∷ tail) 17 0 (omega (arith, full)) ∙ ap (λ (i : ℕ). get_or (32 ∷ tail) (17 - i) 0) full in
+          ap (λ (b : ℕ). nat_lt 17 (length whole) && ((slice_index whole 16 == 45) && is_digit b 10)) here
+          ∙ ap (λ (columns : Bool). nat_lt 17 (length whole) && columns) (and_nothing (slice_index whole 16 == 45))
+          ∙ and_nothing (nat_lt 17 (length whole))
+
+  long_front : 17 < length front → behind_name whole ≡ behind_name front ++ 32 ∷ tail
+  long_front long = same ∙ by (is_in_columns front)
+    where
+      enough : nat_lt 17 (length front) ≡ true
+      enough = grind (arith, nat_tests, long)
+
+      more : nat_lt 17 (length whole) ≡ true
+      more = let sum : length whole ≡ length front + length (32 ∷ tail) = length-append front (32 ∷ tail) in grind (arith, nat_tests, long, sum)
+
+      columns_same : is_in_columns whole ≡ is_in_columns front
+      columns_same =
+          ap (λ (b : ℕ). nat_lt 17 (length whole) && ((b == 45) && is_digit (slice_index whole 17) 10)) (get_or-append front (32 ∷ tail) 0 16 (omega (arith, long)))
+          ∙ ap (λ (b : ℕ). nat_lt 17 (length whole) && ((slice_index front 16 == 45) && is_digit b 10)) (get_or-append front (32 ∷ tail) 0 17 long)
+          ∙ ap (λ (t : Bool). t && ((slice_index front 16 == 45) && is_digit (slice_index front 17) 10)) (more ∙ sym enough)
+
+      same : behind_name whole ≡ (if is_in_columns front then drop 17 whole else whole)
+      same = ap (λ (columns : Bool). if columns then drop 17 whole else whole) columns_same
+
+      by : (columns : Bool) → (if columns then drop 17 whole else whole) ≡ (if columns then drop 17 front else front) ++ 32 ∷ tail
+      by true = drop-append-le 17 front (32 ∷ tail) (omega (arith, long))
+      by false = refl
+
+  -- what is behind the name, of a text that goes on behind its front
+  pub named_front : behind_name whole ≡ behind_name front ++ 32 ∷ tail
+  named_front = by (nat_le (length front) 17) refl
+    where
+      by : (below : Bool) → nat_le (length front) 17 ≡ below → behind_name whole ≡ behind_name front ++ 32 ∷ tail
+      by true is =
+          let short : length front ≤ 17 = grind (arith, nat_tests, is) in
+          ap (λ (columns : Bool). if columns then drop 17 whole else whole) (not_in_columns short)
+          ∙ ap (λ (text : List ℕ). text ++ 32 ∷ tail) (sym (short_front short))
+      by false is = long_front (let above : ¬ (length front ≤ 17) = grind (arith, nat_tests, is) in omega (arith, above))
+
+spaces_lack : (n : ℕ) (text : List ℕ) → Lacks 45 text → Lacks 45 (replicate n 32 ++ text)
+spaces_lack zero text lacks = lacks
+spaces_lack (suc n) text lacks = ((λ (e : ◌≡◌ {A = ℕ} 32 45). omega (arith, e)), spaces_lack n text lacks)
+
+system_lacks : (tracer : Tracer) → Lacks 45 (system_of tracer)
+system_lacks trace_pipe = tt
+system_lacks trace_cmd = tt
+system_lacks perf = literal_lacks 45 (codes "mce:") refl
+
+-- a name in the 16 columns, and a number behind it
+pub behind_columns : (name rest : List ℕ) → length name ≡ 16 → is_digit (slice_index rest 0) 10 ≡ true → behind_name (name ++ 45 ∷ rest) ≡ rest
+behind_columns name [] long digit = absurd cc
+behind_columns name (d ∷ rest) long digit =
+    let line : List ℕ = name ++ 45 ∷ d ∷ rest in
+    let sum : length line ≡ length name + length (45 ∷ d ∷ rest) = length-append name (45 ∷ d ∷ rest) in
+    let enough : nat_lt 17 (length line) ≡ true = grind (arith, nat_tests, long, sum) in
+    let dash : slice_index line 16 ≡ 45 = get_or-append_right name (45 ∷ d ∷ rest) 16 0 (omega (arith, long)) ∙ ap (λ (i : ℕ). get_or (45 ∷ d ∷ rest) (16 - i) 0) long in
+    let number : slice_index line 17 ≡ d = get_or-append_right name (45 ∷ d ∷ rest) 17 0 (omega (arith, long)) ∙ ap (λ (i : ℕ). get_or (45 ∷ d ∷ rest) (17 - i) 0) long in
+    ap (λ (t : Bool). if t && ((slice_index line 16 == 45) && is_digit (slice_index line 17) 10) then drop 17 line else line) enough
+    ∙ ap (λ (b : ℕ). if (b == 45) && is_digit (slice_index line 17) 10 then drop 17 line else line) dash
+    ∙ ap (λ (b : ℕ). if is_digit b 10 then drop 17 line else line) number
+    ∙ ap (λ (t : Bool). if t then drop 17 line else line) digit
+    ∙ ap (drop 17) (sym (append_assoc name (45 ∷ []) (d ∷ rest)))
+    ∙ drop_at (name ++ 45 ∷ []) (d ∷ rest) 17 (omega (arith, long, length-append name (45 ∷ [])))
+
 -- ---- the head
 
 module _ (tracer : Tracer) (front : List ℕ) (seconds micros spaces : ℕ) (is : IsFront front seconds micros) where
@@ -233,28 +344,47 @@ module _ (tracer : Tracer) (front : List ℕ) (seconds micros spaces : ℕ) (is 
   abbrev head : List ℕ
   head = head_of tracer front seconds micros spaces
 
-  -- up to the colon
-  abbrev timed : List ℕ
-  timed = front ++ 32 ∷ shows
+  -- the clock and what follows it
+  abbrev tail : List ℕ
+  tail = shows ++ (mark ++ behind)
 
-  head_is : head ≡ timed ++ (mark ++ behind)
-  head_is = sym (append_assoc front (32 ∷ shows) (mark ++ behind))
+  -- the front behind a name in columns, up to the colon, and with what follows it
+  abbrev unnamed : List ℕ
+  unnamed = behind_name front
+
+  abbrev timed : List ℕ
+  timed = unnamed ++ 32 ∷ shows
+
+  abbrev named_head : List ℕ
+  named_head = unnamed ++ 32 ∷ tail
+
+  tail_plain : NoDash tail
+  tail_plain i small = lacks_dash tail
+      (lack_both 45 shows (mark ++ behind) (clock_lacks seconds micros is.most is.six 45 (omega arith) (λ (e : ◌≡◌ {A = ℕ} 48 45). omega (arith, e)) (λ (e : ◌≡◌ {A = ℕ} 46 45). omega (arith, e)))
+      ((λ (e : ◌≡◌ {A = ℕ} 58 45). omega (arith, e)), ((λ (e : ◌≡◌ {A = ℕ} 32 45). omega (arith, e)), spaces_lack spaces (system_of tracer) (system_lacks tracer))))
+      i
+
+  unnamed_is : behind_name head ≡ named_head
+  unnamed_is = named_front front tail tail_plain
+
+  head_is : named_head ≡ timed ++ (mark ++ behind)
+  head_is = sym (append_assoc unnamed (32 ∷ shows) (mark ++ behind))
 
   -- the words before the clock, and the clock
-  timed_words : cut_at 32 timed ≡ cut_at 32 front ++ shows ∷ []
+  timed_words : cut_at 32 timed ≡ cut_at 32 unnamed ++ shows ∷ []
   timed_words =
-      split_between 32 front shows
-      ∙ ap (λ (words : List (List ℕ)). cut_at 32 front ++ words) (split_lacking 32 shows (clock_lacks seconds micros is.most is.six 32 (omega arith) (λ (e : ◌≡◌ {A = ℕ} 48 32). omega (arith, e)) (λ (e : ◌≡◌ {A = ℕ} 46 32). omega (arith, e))))
+      split_between 32 unnamed shows
+      ∙ ap (λ (words : List (List ℕ)). cut_at 32 unnamed ++ words) (split_lacking 32 shows (clock_lacks seconds micros is.most is.six 32 (omega arith) (λ (e : ◌≡◌ {A = ℕ} 48 32). omega (arith, e)) (λ (e : ◌≡◌ {A = ℕ} 46 32). omega (arith, e))))
 
   pub last_is : last_word [] (cut_at 32 timed) ≡ shows
-  last_is = ap (last_word []) timed_words ∙ last_behind [] (cut_at 32 front) shows
+  last_is = ap (last_word []) timed_words ∙ last_behind [] (cut_at 32 unnamed) shows
 
   -- no colon with a space behind it stands before
   clock_no_colon : Lacks 58 shows
   clock_no_colon = clock_lacks seconds micros is.most is.six 58 (omega arith) (λ (e : ◌≡◌ {A = ℕ} 48 58). omega (arith, e)) (λ (e : ◌≡◌ {A = ℕ} 46 58). omega (arith, e))
 
   pub none_in_timed : HasNo mark timed
-  none_in_timed = by front is.text
+  none_in_timed = by unnamed is.text
     where
       none_here : (text : List ℕ) → Lacks 58 text → (place : ℕ) → begins (drop place text) mark ≡ false
       none_here [] lacks zero = refl
@@ -270,30 +400,59 @@ module _ (tracer : Tracer) (front : List ℕ) (seconds micros spaces : ℕ) (is 
       by (b ∷ c ∷ front) none zero = none zero
       by (b ∷ front) none (suc place) = by front (λ at. none (suc at)) place
 
-  placed : mark_place mark head ≡ Some (length timed)
+  placed : mark_place mark named_head ≡ Some (length timed)
   placed = ap (mark_place mark) head_is ∙ first_behind mark timed behind none_in_timed (omega arith) ((λ (e : ◌≡◌ {A = ℕ} 32 58). omega (arith, e)), tt)
 
   pub traced : is_traced head ≡ true
   traced =
-      let rest : drop (length timed + 1) head ≡ 32 ∷ behind =
+      let rest : drop (length timed + 1) named_head ≡ 32 ∷ behind =
       ap (drop (length timed + 1)) (head_is ∙ sym (append_assoc timed (58 ∷ []) (32 ∷ behind))) ∙ drop_at (timed ++ 58 ∷ []) (32 ∷ behind) (length timed + 1) (omega (arith, length-append timed (58 ∷ []))) in
-      ap (is_traced_by head) placed
-      ∙ ap (λ (text : List ℕ). is_count (last_word [] (cut_at 32 text)) && is_system (drop (length timed + 1) head)) (ap (take (length timed)) head_is ∙ take-append_seam timed (mark ++ behind))
-      ∙ ap (λ (text : List ℕ). is_count text && is_system (drop (length timed + 1) head)) last_is
-      ∙ ap (λ (counts : Bool). counts && is_system (drop (length timed + 1) head)) (counts seconds micros is.most is.six)
+      ap (λ (text : List ℕ). is_traced_by text (mark_place mark text)) unnamed_is
+      ∙ ap (is_traced_by named_head) placed
+      ∙ ap (λ (text : List ℕ). is_count (last_word [] (cut_at 32 text)) && is_system (drop (length timed + 1) named_head)) (ap (take (length timed)) head_is ∙ take-append_seam timed (mark ++ behind))
+      ∙ ap (λ (text : List ℕ). is_count text && is_system (drop (length timed + 1) named_head)) last_is
+      ∙ ap (λ (counts : Bool). counts && is_system (drop (length timed + 1) named_head)) (counts seconds micros is.most is.six)
       ∙ ap is_system rest
       ∙ system_is tracer spaces
 
-  pub stamped : last_stamp None (cut_at 32 head) ≡ Some (1000000 * seconds + micros)
-  stamped =
-      let stamp : List ℕ = shows ++ 58 ∷ [] in
-      let lacks : Lacks 32 stamp = lack_both 32 shows (58 ∷ []) (clock_lacks seconds micros is.most is.six 32 (omega arith) (λ (e : ◌≡◌ {A = ℕ} 48 32). omega (arith, e)) (λ (e : ◌≡◌ {A = ℕ} 46 32). omega (arith, e))) ((λ (e : ◌≡◌ {A = ℕ} 58 32). omega (arith, e)), tt) in
-      let words : cut_at 32 head ≡ cut_at 32 front ++ stamp ∷ cut_at 32 behind =
-      split_between 32 front (shows ++ 58 ∷ 32 ∷ behind)
-      ∙ ap (λ (text : List ℕ). cut_at 32 front ++ cut_at 32 text) (sym (append_assoc shows (58 ∷ []) (32 ∷ behind)))
-      ∙ ap (λ (parts : List (List ℕ)). cut_at 32 front ++ parts) (split_between 32 stamp behind)
-      ∙ ap (λ (parts : List (List ℕ)). cut_at 32 front ++ (parts ++ cut_at 32 behind)) (split_lacking 32 stamp lacks) in
-      ap (last_stamp None) words
-      ∙ stamp_over None (cut_at 32 front) (stamp ∷ cut_at 32 behind)
-      ∙ ap (λ (o : Option ℕ). last_stamp (option_map_or (λ here. Some here) o (last_stamp None (cut_at 32 front))) (cut_at 32 behind)) (stamp_read seconds micros is.most is.six)
-      ∙ no_stamp tracer spaces (Some (1000000 * seconds + micros))
+-- ---- a name in columns
+
+module _ (name rest : List ℕ) (process seconds micros : ℕ) (short : length name ≤ 15) (fits : process < 2 ^ 64)
+    (none : HasNo (codes ": ") (rest ++ 32 ∷ [])) (most : seconds ≤ 18446744073708) (low : micros < 1000000) where
+  abbrev column : List ℕ
+  column = replicate (16 - length name) 32 ++ name
+
+  abbrev number : List ℕ
+  number = decimal process
+
+  column_long : length column ≡ 16
+  column_long = omega (arith, short, length-append (replicate (16 - length name) 32) name, length-replicate {A = ℕ} (16 - length name) 32)
+
+  digit_first : is_digit (slice_index (number ++ 32 ∷ rest) 0) 10 ≡ true
+  digit_first = by number (decimal_nonempty process fits) (all_digits process fits)
+    where
+      by : (word : List ℕ) → 0 < length word → list_all (λ c. is_digit c 10) word ≡ true → is_digit (slice_index (word ++ 32 ∷ rest) 0) 10 ≡ true
+      by [] some all = absurd (omega (arith, some))
+      by (c ∷ word) some all = both_true (is_digit c 10) (list_all (λ c. is_digit c 10) word) all
+
+  -- no colon with a space behind it is in a text that has no colon, or in a text behind it
+  none_joined : (text : List ℕ) → Lacks 58 text → HasNo (codes ": ") ((text ++ 32 ∷ rest) ++ 32 ∷ [])
+  none_joined [] lacks zero = refl
+  none_joined [] lacks (suc place) = none place
+  none_joined (b ∷ []) lacks zero = and_false (nat_eq 58 b) (true && true) (other b lacks.0)
+  none_joined (b ∷ c ∷ text) lacks zero = and_false (nat_eq 58 b) (nat_eq 32 c && true) (other b lacks.0)
+  none_joined (b ∷ text) lacks (suc place) = none_joined text lacks.1 place
+
+  pub pipe_is_front : IsFront (pipe_front name process rest) seconds micros
+  pipe_is_front = record {
+    text = λ (place : ℕ). ap (λ (text : List ℕ). begins (drop place (text ++ 32 ∷ [])) (codes ": ")) (behind_columns column (number ++ 32 ∷ rest) column_long digit_first)
+        ∙ none_joined number (decimal_lacks 58 process (omega arith) fits) place;
+    most = most;
+    six = low;
+  }
+
+pub same_by_name : (name other rest : List ℕ) → length name ≡ 16 → length other ≡ 16 → is_digit (slice_index rest 0) 10 ≡ true
+    → is_traced (name ++ 45 ∷ rest) ≡ is_traced (other ++ 45 ∷ rest)
+same_by_name name other rest long other_long digit =
+    ap (λ (text : List ℕ). is_traced_by text (mark_place (codes ": ") text))
+    (behind_columns name rest long digit ∙ sym (behind_columns other rest other_long digit))

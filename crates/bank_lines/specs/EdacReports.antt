@@ -1,5 +1,5 @@
 -- The reports that EDAC prints, told as the kernel's own text of the same registers.
-use Rattle.std.specs.Prelude.{ℕ, true, List, [], ◌∷◌, Option}
+use Rattle.std.specs.Prelude.{ℕ, true, List, [], ◌∷◌}
 use Rattle.ras_klog.specs.declared.line.KlogLine.TheVariants as Klog
 use Rattle.bank_lines.specs.LogLines.{log_line_of}
 use Rattle.bank_lines.specs.declared.edac_line.EdacLine.{EdacLine}
@@ -16,19 +16,19 @@ use Rattle.bank_lines.specs.declared.log_line.Print.{Print}
 abbrev pub no_edac : EdacReport
 no_edac = Idle
 
-abbrev pub printed_by_edac : Option ℕ → Print
-printed_by_edac stamp = record { stamp = stamp; by_edac = true }
+abbrev pub printed_by_edac : Print
+printed_by_edac = record { by_edac = true }
 
 -- What a line of EDAC's tells, by the report in work: a report begins; its counter, its address and its
 -- other register come in this order, and are told as one line by the last; and then its time. A line that
 -- comes otherwise can't be read.
-abbrev pub edac_told : EdacReport → EdacLine → Option ℕ → LogLine
-edac_told report (Start cpu mcg bank status) stamp = Part (Klog.Start cpu mcg bank status) (printed_by_edac stamp) 0
-edac_told Begun (Tsc tsc) stamp = Nothing
-edac_told (Counted tsc) (Addr addr) stamp = Nothing
-edac_told (Placed tsc addr) (Misc misc) stamp = Part (Klog.Tsc tsc addr misc) (printed_by_edac stamp) 0
-edac_told Told (Processor vendor seconds) stamp = Part (Klog.Processor seconds) (printed_by_edac stamp) vendor
-edac_told report line stamp = Unread
+abbrev pub edac_told : EdacReport → EdacLine → LogLine
+edac_told report (Start cpu mcg bank status) = Part (Klog.Start cpu mcg bank status) printed_by_edac 0
+edac_told Begun (Tsc tsc) = Nothing
+edac_told (Counted tsc) (Addr addr) = Nothing
+edac_told (Placed tsc addr) (Misc misc) = Part (Klog.Tsc tsc addr misc) printed_by_edac 0
+edac_told Told (Processor vendor seconds) = Part (Klog.Processor seconds) printed_by_edac vendor
+edac_told report line = Unread
 
 abbrev pub edac_next : EdacReport → EdacLine → EdacReport
 edac_next report (Start cpu mcg bank status) = Begun
@@ -52,11 +52,11 @@ plain_next report line = report
 -- what a line tells, and what is in work after it
 abbrev pub marked_told : EdacReport → MarkedLine → LogLine
 marked_told report (Plain line) = plain_told report line
-marked_told report (Edac line stamp) = edac_told report line stamp
+marked_told report (Edac line) = edac_told report line
 
 abbrev pub edac_after : EdacReport → MarkedLine → EdacReport
 edac_after report (Plain line) = plain_next report line
-edac_after report (Edac line stamp) = edac_next report line
+edac_after report (Edac line) = edac_next report line
 
 -- what the lines of a log tell, in order, and what is in work after them
 abbrev pub told_lines : EdacReport → List (List ℕ) → List LogLine

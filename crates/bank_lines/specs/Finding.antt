@@ -6,7 +6,7 @@ use Rattle.ras_facts.specs.Facts.{status_in}
 use Rattle.ras_facts.specs.declared.bank.BankReport.{BankReport}
 use Rattle.ras_script.specs.LineLaws.{IsBankInRange}
 use Rattle.bank_lines.specs.declared.found.Finding.{Finding}
-use Rattle.bank_lines.specs.declared.found.Finding.TheVariants.{Nothing, Whole, Torn, Partial, Foreign, Firmware, Unread}
+use Rattle.bank_lines.specs.declared.found.Finding.TheVariants.{Nothing, Whole, Torn, Full, Partial, Foreign, Firmware, Unread}
 use Rattle.bank_lines.specs.declared.found.TheConstants.{FIRMWARE_BANK}
 
 -- What is found of a whole report of an Intel processor, if this is what is found of an error: nothing if
@@ -53,6 +53,7 @@ pub record Numbered : Type 0 where
 abbrev pub report_in : Finding → List BankReport
 report_in (Whole report) = report ∷ []
 report_in (Torn report) = report ∷ []
+report_in (Full report) = report ∷ []
 report_in found = []
 
 -- the whole reports, in order
@@ -64,6 +65,7 @@ abbrev pub IsInTypes : Finding → Type 0
 IsInTypes Nothing = Unit {0}
 IsInTypes (Whole report) = IsBankInRange report
 IsInTypes (Torn report) = IsBankInRange report
+IsInTypes (Full report) = IsBankInRange report
 IsInTypes (Partial cpu bank) = (cpu < 2 ^ 16) × (bank < 2 ^ 8)
 IsInTypes (Foreign vendor cpu bank) = (vendor < 2 ^ 64) × (cpu < 2 ^ 16) × (bank < 2 ^ 8)
 IsInTypes (Firmware cpu) = cpu < 2 ^ 16

@@ -1,4 +1,6 @@
 pub mod Finding
+pub mod Naming
+pub mod Counts
 pub mod Texts
 pub mod LogHeads
 pub mod EdacLines

@@ -1,12 +1,12 @@
 -- What the filter of a kernel log makes of the lines to come, by the report in work.
-use Rattle.std.specs.Prelude.{ℕ, ◌+◌, List, [], ◌∷◌, None, Result, Ok, if◌then◌else◌}
+use Rattle.std.specs.Prelude.{ℕ, ◌+◌, List, [], ◌∷◌, Result, Ok, if◌then◌else◌}
 use Rattle.line_filters.specs.Filter.{Filter}
 use Rattle.ras_klog.specs.Stages.{at_start, has_place, out_at, out_at_end, stage_after}
 use Rattle.ras_klog.specs.declared.line.KlogLine.{KlogLine}
 use Rattle.ras_klog.specs.declared.line.KlogLine.TheVariants.{Start}
 use Rattle.ras_script.specs.declared.line.LineRefused.{LineRefused}
 use Rattle.bank_lines.specs.EdacReports.{told_lines}
-use Rattle.bank_lines.specs.LogGroups.{found_told, none_polled, polled_after}
+use Rattle.bank_lines.specs.LogGroups.{found_told, judged, no_names, printers_after}
 use Rattle.bank_lines.specs.LogLines.{printed_plain}
 use Rattle.bank_lines.specs.Texts.{found_text}
 use Rattle.bank_lines.specs.declared.found.Finding.{Finding}
@@ -18,7 +18,7 @@ use Rattle.bank_lines.specs.declared.log_state.LogState.{LogState}
 
 -- before a log's first line
 abbrev pub log_at_start : LogState
-log_at_start = record { work = at_start; print = printed_plain None; polled = none_polled }
+log_at_start = record { work = at_start; print = printed_plain; printers = no_names }
 
 -- how the report in work was printed, after a line that was printed so
 abbrev pub print_after : Print → KlogLine → Print → Print
@@ -31,20 +31,20 @@ log_found_at boot cap state Nothing = Finding.Nothing
 log_found_at boot cap state Unread = Finding.Unread
 log_found_at boot cap state (Part line print vendor) =
     if has_place state.work line
-    then found_told state.polled state.print vendor (out_at boot cap state.work line) else Finding.Unread
+    then found_told state.printers state.print vendor (out_at boot cap state.work line) else Finding.Unread
 
 -- A line that has no place changes nothing.
 abbrev pub state_after : ℕ → ℕ → LogState → LogLine → LogState
 state_after boot cap state (Part line print vendor) = record {
   work = stage_after state.work line;
   print = print_after state.print line print;
-  polled = polled_after state.polled state.print (out_at boot cap state.work line);
+  printers = printers_after state.printers state.print vendor (out_at boot cap state.work line);
 }
 state_after boot cap state line = state
 
--- what is found at the end
+-- what is found at the end, where no report is whole
 abbrev pub found_at_end : LogState → Finding
-found_at_end state = found_told state.polled state.print 0 (out_at_end state.work)
+found_at_end state = judged 0 (out_at_end state.work)
 
 -- the state after lines
 abbrev pub state_over : ℕ → ℕ → LogState → List LogLine → LogState

@@ -1,21 +1,20 @@
 -- The reports of a kernel log: the groups of `klog`, over the lines that are the kernel's own.
-use Rattle.std.specs.Prelude.{ℕ, ◌+◌, ◌*◌, ◌%◌, ◌==◌, ◌&&◌, Bool, not, List, [], ◌∷◌, Option, None, Some, is_some, unwrap_or, map, if◌then◌else◌}
+use Rattle.std.specs.Prelude.{ℕ, ◌==◌, Bool, true, false, not, List, [], ◌∷◌, ◌++◌, map, if◌then◌else◌}
 use Rattle.ras_facts.specs.declared.bank.BankReport.{BankReport}
 use Rattle.ras_klog.specs.Groups.{told_of}
-use Rattle.ras_klog.specs.Reading.{provided, read_then}
 use Rattle.ras_klog.specs.declared.line.KlogLine.{KlogLine}
 use Rattle.ras_klog.specs.declared.line.KlogLine.TheVariants.{Start, Tsc, Processor, Other}
 use Rattle.ras_klog.specs.declared.state.Head.{Head}
 use Rattle.ras_klog.specs.declared.state.KlogOut.{KlogOut}
 use Rattle.ras_klog.specs.declared.state.KlogOut.TheVariants as Told
-use Rattle.bank_lines.specs.Finding.{log_found_of}
+use Rattle.bank_lines.specs.Counts.{KeyCounts, counted_with, named_found}
+use Rattle.bank_lines.specs.Finding.{log_found_of, report_in}
 use Rattle.bank_lines.specs.declared.found.Finding.{Finding}
-use Rattle.bank_lines.specs.declared.found.Finding.TheVariants.{Nothing, Partial, Foreign}
+use Rattle.bank_lines.specs.declared.found.Finding.TheVariants.{Nothing, Whole, Torn, Partial, Foreign}
 use Rattle.bank_lines.specs.declared.log_line.LogLine.{LogLine}
 use Rattle.bank_lines.specs.declared.log_line.LogLine.TheVariants.{Part}
 use Rattle.bank_lines.specs.declared.log_line.Print.{Print}
-use Rattle.bank_lines.specs.declared.log_state.Polled.{Polled}
-use Rattle.bank_lines.specs.declared.log_line.TheConstants.{LAST_SECOND, MICROSECONDS}
+use Rattle.bank_lines.specs.declared.log_state.Printers.{Printers}
 
 -- ---- groups
 
@@ -63,85 +62,80 @@ group_vendor [] = 0
 group_vendor (Part (Tsc tsc addr misc) print vendor ∷ lines) = timed_vendor lines
 group_vendor (line ∷ lines) = group_vendor lines
 
--- ---- errors that were found by polling
-
--- The counter of one: the microseconds of its group's stamp. Without a stamp it is made of the time, of
--- which 12 digits count, and of the number of such errors before it in the log, of which 6 do. So it is
--- below 10^18.
-abbrev pub polled_counter : ℕ → Option ℕ → ℕ → ℕ
-polled_counter count (Some stamp) seconds = stamp
-polled_counter count None seconds = seconds % (LAST_SECOND + 1) * MICROSECONDS + count
-
--- A report whose counter is 0 was found by polling, and gets another one.
-abbrev pub with_counter : ℕ → Option ℕ → BankReport → BankReport
-with_counter count stamp report =
-    if report.tsc == 0
-    then record report { tsc = polled_counter count stamp report.seconds } else report
-
--- how many reports without a counter and without a stamp there were, of which 6 digits count
-abbrev pub polled_with : ℕ → BankReport → Option ℕ → ℕ
-polled_with count report (Some stamp) = count
-polled_with count report None = if report.tsc == 0 then (count + 1) % MICROSECONDS else count
-
--- ---- errors that are printed twice
-
--- A kernel that prints each machine check prints one that EDAC printed too, right after it. If it was
--- found by polling, the two texts have different stamps: the second report gets the first one's counter.
-
--- whether two reports are of the same registers and second; of one log boot and IA32_MCG_CAP are the same
-abbrev pub is_same_error : BankReport → BankReport → Bool
-is_same_error one other =
-    (one.seconds == other.seconds) && ((one.cpu == other.cpu) && ((one.bank == other.bank)
-    && ((one.mcg == other.mcg) && ((one.status == other.status)
-    && ((one.addr == other.addr) && (one.misc == other.misc))))))
-
--- the counter of the report right before, if EDAC printed that and this is its second text
-abbrev pub twin_counter : Polled → Print → BankReport → Option ℕ
-twin_counter before print report =
-    provided (not print.by_edac) (read_then before.twin (λ twin.
-    provided (is_same_error twin report) (Some twin.tsc)))
-
--- a report with its counter, after those before
-abbrev pub named_report : Polled → Print → BankReport → BankReport
-named_report before print report =
-    if report.tsc == 0
-    then record report {
-      tsc = unwrap_or (twin_counter before print report) (polled_counter before.count print.stamp report.seconds);
-    } else report
-
--- the reports before, with one more
-abbrev pub polled_after : Polled → Print → KlogOut → Polled
-polled_after before print (Told.Whole report) = record {
-  count = if is_some (twin_counter before print report) then before.count
-      else polled_with before.count report print.stamp;
-  twin = provided (print.by_edac && (report.tsc == 0)) (Some (named_report before print report));
-}
-polled_after before print out = before
-
--- none were before
-abbrev pub none_polled : Polled
-none_polled = record { count = 0; twin = None }
-
 -- ---- what is found
 
--- what is found of what `klog` tells, after these reports, by how the group was printed and its vendor
-abbrev pub found_told : Polled → Print → ℕ → KlogOut → Finding
-found_told before print vendor Told.Nothing = Nothing
-found_told before print vendor (Told.Partial cpu bank) = Partial cpu bank
-found_told before print vendor (Told.Whole report) =
-    if vendor == 0 then log_found_of (named_report before print report)
-    else Foreign vendor report.cpu report.bank
+-- what is found of what `klog` tells, by its vendor and without a name
+abbrev pub judged : ℕ → KlogOut → Finding
+judged vendor Told.Nothing = Nothing
+judged vendor (Told.Partial cpu bank) = Partial cpu bank
+judged vendor (Told.Whole report) =
+    if vendor == 0 then log_found_of report else Foreign vendor report.cpu report.bank
 
-abbrev pub group_founds_from : ℕ → ℕ → Polled → List LogGroup → List Finding
+-- ---- names
+
+-- Each printer, EDAC and the kernel, counts its errors without a counter by itself: so what both print of one
+-- error has one name.
+abbrev pub no_names : Printers
+no_names = record { kernel = []; edac = [] }
+
+-- the errors of one of them
+abbrev pub counts_by : Printers → Print → KeyCounts
+counts_by before print = if print.by_edac then before.edac else before.kernel
+
+-- and with one more report that it printed
+abbrev pub counting : Printers → Print → BankReport → Printers
+counting before print report =
+    if print.by_edac then record before { edac = counted_with before.edac report }
+    else record before { kernel = counted_with before.kernel report }
+
+-- what is found of a report that was printed so, after these, by its name
+abbrev pub named_by : Printers → Print → Finding → Finding
+named_by before print found = named_found (counts_by before print) found
+
+-- and the reports with it
+abbrev pub printers_with : Printers → Print → Finding → Printers
+printers_with before print (Whole report) = counting before print report
+printers_with before print (Torn report) = counting before print report
+printers_with before print found = before
+
+-- what is found of what `klog` tells, after these reports, by how the group was printed and its vendor
+abbrev pub found_told : Printers → Print → ℕ → KlogOut → Finding
+found_told before print vendor told = named_by before print (judged vendor told)
+
+abbrev pub printers_after : Printers → Print → ℕ → KlogOut → Printers
+printers_after before print vendor told = printers_with before print (judged vendor told)
+
+abbrev pub group_founds_from : ℕ → ℕ → Printers → List LogGroup → List Finding
 group_founds_from boot cap before [] = []
 group_founds_from boot cap before (group ∷ groups) =
     let told = told_in boot cap group in
     found_told before group.print (group_vendor group.rest) told
-    ∷ group_founds_from boot cap (polled_after before group.print told) groups
+    ∷ group_founds_from boot cap (printers_after before group.print (group_vendor group.rest) told) groups
 
 -- what is found in the groups of a log, in order
 abbrev pub log_founds : ℕ → ℕ → List LogLine → List Finding
-log_founds boot cap lines = group_founds_from boot cap none_polled (log_groups lines)
+log_founds boot cap lines = group_founds_from boot cap no_names (log_groups lines)
+
+-- ---- the reports of one printer
+
+-- what is found of each group, without a name
+abbrev pub groups_judged : ℕ → ℕ → List LogGroup → List Finding
+groups_judged boot cap groups =
+    map (λ (group : LogGroup). judged (group_vendor group.rest) (told_in boot cap group)) groups
+
+-- whether EDAC printed a group, or it didn't
+abbrev pub is_by : Bool → Bool → Bool
+is_by true by_edac = by_edac
+is_by false by_edac = not by_edac
+
+-- the reports among what is found of groups that EDAC printed, or that it didn't
+abbrev pub printed_by : Bool → List LogGroup → List Finding → List BankReport
+printed_by by_edac [] founds = []
+printed_by by_edac (group ∷ groups) [] = []
+printed_by by_edac (group ∷ groups) (found ∷ founds) =
+    (if is_by by_edac group.print.by_edac then report_in found else []) ++ printed_by by_edac groups founds
+
+-- ---- before the end
 
 -- what of it is told before the log is known to have ended: all but the last, and the last if it is whole
 abbrev pub before_end : List Finding → List Finding

@@ -58,9 +58,9 @@ is_cut text = is_joined (after 32 (after 32 (after 32 text)))
 abbrev pub vendor_of : List ℕ → Option ℕ
 vendor_of text = if is_cut text then None else decimal_of (2 ^ 64 - 1) (up_to 58 (after 32 text))
 
--- when a line of the kernel's own text was printed
-abbrev pub printed_plain : Option ℕ → Print
-printed_plain stamp = record { stamp = stamp; by_edac = false }
+-- how a line of the kernel's own text was printed
+abbrev pub printed_plain : Print
+printed_plain = record { by_edac = false }
 
 -- when the bank was read, if the vendor reads
 abbrev pub with_vendor : Print → ℕ → Option ℕ → LogLine
@@ -82,21 +82,21 @@ line_told_by print text line = Part line print 0
 abbrev pub log_line_after : List ℕ → List ℕ → LogLine
 log_line_after head marked =
     let text = drop (length log_mark) marked in
-    if is_own head then line_told_by (printed_plain (log_stamp_of head)) text (klog_line_of marked)
+    if is_own head then line_told_by printed_plain text (klog_line_of marked)
     else left_unread text
 
 -- ---- EDAC's lines
 
 -- What a text of a driver of EDAC tells, by what is read of it. If it doesn't read, or the head before it
 -- doesn't show it as the kernel's own, it tells nothing.
-abbrev pub edac_told_by : Option ℕ → Option EdacLine → MarkedLine
-edac_told_by stamp None = Plain Unread
-edac_told_by stamp (Some line) = Edac line stamp
+abbrev pub edac_told_by : Option EdacLine → MarkedLine
+edac_told_by None = Plain Unread
+edac_told_by (Some line) = Edac line
 
 abbrev pub driver_told : List ℕ → List ℕ → MarkedLine
 driver_told head text =
     if is_of_edac text
-    then edac_told_by (log_stamp_of head) (provided (is_own head) (edac_line_of text)) else Plain Nothing
+    then edac_told_by (provided (is_own head) (edac_line_of text)) else Plain Nothing
 
 -- what a line with this head tells from EDAC's mark on: nothing, if it isn't of a driver's report
 abbrev pub edac_line_after : List ℕ → List ℕ → MarkedLine

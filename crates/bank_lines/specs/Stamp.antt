@@ -1,6 +1,5 @@
 -- The time that a line of the kernel is stamped with.
-use Rattle.std.specs.Prelude.{ℕ, ◌+◌, ◌-◌, ◌*◌, ◌==◌, ◌&&◌, List, [], ◌∷◌, drop, take, length, nat_lt, slice_index, Option, Some}
-use Rattle.std.specs.Option.{option_map_or}
+use Rattle.std.specs.Prelude.{ℕ, ◌+◌, ◌-◌, ◌*◌, ◌==◌, ◌&&◌, List, drop, take, length, nat_lt, slice_index, Option, Some}
 use Rattle.ras_klog.specs.Reading.{provided, read_then}
 use Rattle.ras_script.specs.Number.{decimal_of}
 use Rattle.bank_lines.specs.declared.stamp.TheConstants.{MOST_SECONDS}
@@ -14,8 +13,3 @@ stamp_of word =
     read_then (decimal_of MOST_SECONDS (take point word)) (λ seconds.
     read_then (decimal_of 999999 (take 6 (drop (point + 1) word))) (λ micros.
     Some (1000000 * seconds + micros))))
-
--- the last stamp among words, one before them if there is none
-abbrev pub last_stamp : Option ℕ → List (List ℕ) → Option ℕ
-last_stamp stamp [] = stamp
-last_stamp stamp (word ∷ words) = last_stamp (option_map_or (λ here. Some here) (stamp_of word) stamp) words

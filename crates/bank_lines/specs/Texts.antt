@@ -10,7 +10,7 @@ use Rattle.ras_script.specs.declared.line.Line.{Line}
 use Rattle.ras_script.specs.declared.line.Line.TheVariants as asks
 use Rattle.ras_script.specs.declared.line.LineRefused.{LineRefused}
 use Rattle.bank_lines.specs.declared.found.Finding.{Finding}
-use Rattle.bank_lines.specs.declared.found.Finding.TheVariants.{Nothing, Whole, Torn, Partial, Foreign, Firmware, Unread}
+use Rattle.bank_lines.specs.declared.found.Finding.TheVariants.{Nothing, Whole, Torn, Full, Partial, Foreign, Firmware, Unread}
 use Rattle.bank_lines.specs.Finding.{Numbered, report_in}
 
 -- ---- lines, without their line feeds
@@ -20,7 +20,8 @@ abbrev pub asking_line : BankReport → List ℕ
 asking_line report = line_text (asks.Report (Bank report))
 
 -- the comments: of a report that isn't whole, of another vendor's, of one that Linux makes up of the
--- firmware's, of one whose address was torn off, and of a line that can't be read
+-- firmware's, of one whose address was torn off, of one whose like aren't counted, and of a line that can't
+-- be read
 abbrev pub partial_comment : ℕ → ℕ → List ℕ
 partial_comment cpu bank = codes "# partial cpu=" ++ decimal cpu ++ codes " bank=" ++ decimal bank
 
@@ -34,6 +35,9 @@ firmware_line cpu = codes "# firmware cpu=" ++ decimal cpu ++ codes " bank=255"
 abbrev pub torn_line : ℕ → List ℕ
 torn_line number = codes "# torn " ++ decimal number
 
+abbrev pub full_line : List ℕ
+full_line = codes "# full"
+
 abbrev pub unread_line : ℕ → List ℕ
 unread_line number = codes "# unread " ++ decimal number
 
@@ -42,6 +46,7 @@ abbrev pub lines_at : ℕ → Finding → List (List ℕ)
 lines_at number Nothing = []
 lines_at number (Whole report) = asking_line report ∷ []
 lines_at number (Torn report) = torn_line number ∷ asking_line report ∷ []
+lines_at number (Full report) = full_line ∷ asking_line report ∷ []
 lines_at number (Partial cpu bank) = partial_comment cpu bank ∷ []
 lines_at number (Foreign vendor cpu bank) = vendor_line vendor cpu bank ∷ []
 lines_at number (Firmware cpu) = firmware_line cpu ∷ []

@@ -41,8 +41,8 @@ impl EdacReport {
                 *self = plain_next(*self, line);
                 told
             }
-            MarkedLine::Edac { line, stamp } => {
-                let told = edac_told(*self, line, stamp);
+            MarkedLine::Edac(line) => {
+                let told = edac_told(*self, line);
                 *self = edac_next(*self, line);
                 told
             }
@@ -83,8 +83,8 @@ fn plain_next(report: EdacReport, line: LogLine) -> EdacReport
 }
 
 // What a line of EDAC's tells: of the registers' lines the last tells all three.
-fn edac_told(report: EdacReport, line: EdacLine, stamp: Option<u64>) -> LogLine
-    ensures { result ≡ edac_told report line stamp }
+fn edac_told(report: EdacReport, line: EdacLine) -> LogLine
+    ensures { result ≡ edac_told report line }
 {
     match (report, line) {
         (
@@ -102,32 +102,28 @@ fn edac_told(report: EdacReport, line: EdacLine, stamp: Option<u64>) -> LogLine
                 bank,
                 status,
             },
-            stamp,
             0,
         ),
         (EdacReport::Begun, EdacLine::Tsc(_)) | (EdacReport::Counted(_), EdacLine::Addr(_)) => {
             LogLine::Nothing
         }
         (EdacReport::Placed { tsc, addr }, EdacLine::Misc(misc)) => {
-            part(KlogLine::Tsc { tsc, addr, misc }, stamp, 0)
+            part(KlogLine::Tsc { tsc, addr, misc }, 0)
         }
         (EdacReport::Told, EdacLine::Processor { vendor, seconds }) => {
-            part(KlogLine::Processor { seconds }, stamp, vendor)
+            part(KlogLine::Processor { seconds }, vendor)
         }
         _ => LogLine::Unread,
     }
 }
 
 // A line of a report that EDAC printed.
-fn part(line: KlogLine, stamp: Option<u64>, vendor: u64) -> LogLine
-    ensures { result ≡ LogLine.Part line (printed_by_edac stamp) vendor }
+fn part(line: KlogLine, vendor: u64) -> LogLine
+    ensures { result ≡ LogLine.Part line printed_by_edac vendor }
 {
     LogLine::Part {
         line,
-        print: Print {
-            stamp,
-            by_edac: true,
-        },
+        print: Print { by_edac: true },
         vendor,
     }
 }

@@ -4,6 +4,7 @@ ghost use Rattle.std.specs.Prelude.{◌≡◌};
 ghost use Rattle.bank_lines.specs.Trace.{trace_found};
 ghost use Rattle.bank_lines.specs.Filter.{filter_after, trace_filter};
 
+use crate::naming::KeyCounts;
 use crate::text::push_found;
 use crate::trace::trace_found;
 use line_filters::LineFilter;
@@ -14,11 +15,12 @@ use std::marker::Model;
 
 /// Makes lines of script of the text of the kernel's trace.
 ///
-/// Each line is told by itself: by the line of its report, by a comment, or by nothing. No line is
-/// refused.
+/// Each line is told by the line of its report, by a comment, or by nothing. A report without a
+/// counter gets one that tells it from those alike before it. No line is refused.
 #[derive(Drop)]
 pub struct TraceFilter {
     boot: u64,
+    counts: KeyCounts,
     taken: u64,
 }
 
@@ -27,16 +29,20 @@ impl Model for TraceFilter {
 
     ghost Value = { Progress };
 
-    ghost view = { λ f. record { boot = f.boot; taken = f.taken } };
+    ghost view = { λ f. record { boot = f.boot; counts = f.counts; taken = f.taken } };
 }
 
 impl TraceFilter {
     /// Before the first line of a trace of this boot.
-    pub fn new(boot: u64) -> TraceFilter
+    pub fn new(alloc: Global, boot: u64) -> TraceFilter
         ensures makes { filter_after result ≡ trace_filter boot }
         ensures taken { result.taken ≡ 0 }
     {
-        TraceFilter { boot, taken: 0 }
+        TraceFilter {
+            boot,
+            counts: KeyCounts::new(alloc),
+            taken: 0,
+        }
     }
 }
 
@@ -50,7 +56,10 @@ impl LineFilter for TraceFilter {
     ghost none = { λ _. refl };
 
     fn take(&mut self, _: Global, line: &[u8], text: &mut Vec<u8>) -> Result<(), LineRefused> {
-        let found = trace_found(self.boot, line);
+        let mut found = trace_found(self.boot, line);
+        if let Err(NoMemory) = self.counts.name(&mut found) {
+            return Err(LineRefused::NoMemory);
+        }
         match push_found(text, &found, self.taken + 1) {
             Ok(()) => {
                 self.taken += 1;

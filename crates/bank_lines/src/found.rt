@@ -23,6 +23,9 @@ pub enum Finding {
     Whole(BankReport),
     /// The same of a log that lost the address of which its status tells: here ADDRV is 0.
     Torn(BankReport),
+    /// A whole report of an error without a counter that is like none before it, when no more keys
+    /// are counted: those alike that follow have the same name.
+    Full(BankReport),
     /// A report of a bank that began, and isn't whole.
     Partial { cpu: u16, bank: u8 },
     /// A report of another vendor's processor, by the kernel's number of the vendor: 0 is Intel.

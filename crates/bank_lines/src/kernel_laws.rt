@@ -1,12 +1,14 @@
 //! What kernels print is read.
 
-ghost use Rattle.std.specs.Prelude.{◌≡◌, ℕ, ◌+◌, ◌*◌, ◌++◌, List, replicate, true, None, Some};
+ghost use Rattle.std.specs.Prelude.{◌≡◌, ℕ, ◌<◌, ◌≤◌, ◌^◌, ◌∷◌, ◌++◌, [], List, codes, length};
+ghost use Rattle.std.specs.Prelude.{replicate, slice_index, true, Some};
+ghost use Rattle.std.specs.Char.{is_digit};
 ghost use Rattle.bank_lines.specs.TraceEvent.{event_in};
 ghost use Rattle.bank_lines.specs.Kernel.{Form, IsPrinted, Printed, event_text};
-ghost use Rattle.bank_lines.specs.Parts.{cut_at};
-ghost use Rattle.bank_lines.specs.Stamp.{last_stamp};
+ghost use Rattle.bank_lines.specs.LogKernel.{HasNo};
 ghost use Rattle.bank_lines.specs.Trace.{event_found, event_mark, is_traced, trace_found};
-ghost use Rattle.bank_lines.specs.TraceHeads.{IsFront, Tracer, head_of};
+ghost use Rattle.bank_lines.specs.TraceHeads.{IsFront, Tracer, head_of, pipe_front};
+ghost use Rattle.bank_lines.specs.declared.stamp.TheConstants.{MOST_SECONDS};
 
 /// The text of an event, in each form in which kernels print it and behind any number of spaces, is
 /// read as that event; and so is a line that has this text behind the mark, and before it what
@@ -18,18 +20,26 @@ pub fn printed_events_are_read()
     ensures line { (boot : ℕ) (before : List ℕ) (form : Form) (p : Printed) (spaces : ℕ)
         → IsPrinted p → is_traced before ≡ true
         → trace_found boot (before ++ (event_mark ++ (replicate spaces 32 ++ event_text form p)))
-        ≡ event_found boot before p.event }
+        ≡ event_found boot p.event }
 {}
 
-/// What tracers print before the text of an event shows it as theirs and gives its stamp, in
-/// microseconds. So an error that was found by polling gets a counter from each of them.
+/// What tracers print before the text of an event shows it as theirs.
 /// The function does nothing: its clauses are what it is for.
-pub fn heads_give_their_stamp()
+pub fn heads_are_traced()
     ensures traced { (tracer : Tracer) (front : List ℕ) (seconds micros spaces : ℕ)
         → IsFront front seconds micros
         → is_traced (head_of tracer front seconds micros spaces) ≡ true }
-    ensures stamp { (tracer : Tracer) (front : List ℕ) (seconds micros spaces : ℕ)
-        → IsFront front seconds micros
-        → last_stamp None (cut_at 32 (head_of tracer front seconds micros spaces))
-        ≡ Some (1000000 * seconds + micros) }
+    // What trace_pipe prints there, whatever the at most 15 bytes of a process's name are.
+    ensures names { (name rest : List ℕ) (process seconds micros : ℕ) → length name ≤ 15
+        → process < 2 ^ 64 → HasNo (codes ": ") (rest ++ 32 ∷ []) → seconds ≤ MOST_SECONDS
+        → micros < 1000000 → IsFront (pipe_front name process rest) seconds micros }
+{}
+
+/// Whether tracers print an event behind a text doesn't depend on a name in its 16 columns. So no
+/// process makes an event by its name.
+/// The function does nothing: its clause is what it is for.
+pub fn names_make_no_event()
+    ensures { (name other rest : List ℕ) → length name ≡ 16 → length other ≡ 16
+        → is_digit (slice_index rest 0) 10 ≡ true
+        → is_traced (name ++ 45 ∷ rest) ≡ is_traced (other ++ 45 ∷ rest) }
 {}

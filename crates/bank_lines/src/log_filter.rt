@@ -20,7 +20,8 @@ use std::marker::Model;
 /// A report that isn't whole, one of another vendor's processor, and each line that begins as one of
 /// a report and is in none, is told by a comment. A report is told at the line that makes it whole,
 /// and one that isn't whole at the line that begins the next one, or after all lines. Only lines
-/// that are the kernel's own count. No line is refused.
+/// that are the kernel's own count. A report without a counter gets one that tells it from those
+/// alike that the same printer, EDAC or the kernel, told before. No line is refused.
 #[derive(Drop)]
 pub struct LogFilter {
     edac: EdacReport,
@@ -31,26 +32,22 @@ pub struct LogFilter {
 }
 
 impl Model for LogFilter {
-    ghost use Rattle.std.specs.Prelude.{◌<◌};
     ghost use Rattle.bank_lines.specs.LogAlong.{LogProgress};
-    ghost use Rattle.bank_lines.specs.declared.log_line.TheConstants.{MICROSECONDS};
 
     ghost Value = { LogProgress };
 
     ghost view = { λ f. record { boot = f.boot; cap = f.cap; edac = f.edac; state = f.state; taken = f.taken } };
-
-    ghost invariant = { λ f. f.state.polled.count < MICROSECONDS };
 }
 
 impl LogFilter {
     /// Before the first line of a log of this boot and of processors with this IA32_MCG_CAP.
-    pub fn new(boot: u64, cap: u64) -> LogFilter
+    pub fn new(alloc: Global, boot: u64, cap: u64) -> LogFilter
         ensures makes { log_makes result ≡ log_filter boot cap }
         ensures taken { result.taken ≡ 0 }
     {
         LogFilter {
             edac: EdacReport::new(),
-            state: LogState::new(),
+            state: LogState::new(alloc),
             boot,
             cap,
             taken: 0,
@@ -69,7 +66,10 @@ impl LineFilter for LogFilter {
 
     fn take(&mut self, _: Global, line: &[u8], text: &mut Vec<u8>) -> Result<(), LineRefused> {
         let told = self.edac.step(log_line(line));
-        let found = self.state.step(told, self.boot, self.cap);
+        let found = match self.state.step(told, self.boot, self.cap) {
+            Ok(found) => found,
+            Err(NoMemory) => return Err(LineRefused::NoMemory),
+        };
         match push_found(text, &found, self.taken + 1) {
             Ok(()) => {
                 self.taken += 1;

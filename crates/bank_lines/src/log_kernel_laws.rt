@@ -6,45 +6,52 @@ ghost use Rattle.ras_klog.specs.declared.state.KlogOut.TheVariants.{Whole};
 ghost use Rattle.bank_lines.specs.Kernel.{IsPrinted, Printed};
 ghost use Rattle.bank_lines.specs.LogFilter.{founds_of};
 ghost use Rattle.bank_lines.specs.LogGroups.{LogGroup, found_told, group_founds_from, group_vendor};
-ghost use Rattle.bank_lines.specs.LogGroups.{none_polled, polled_after, told_in};
+ghost use Rattle.bank_lines.specs.LogGroups.{no_names, printers_after, told_in};
 ghost use Rattle.bank_lines.specs.LogKernel.{AreHeads, Driver, Heads, edac_log, log_report, plain_log};
 ghost use Rattle.bank_lines.specs.EdacReports.{printed_by_edac};
-ghost use Rattle.bank_lines.specs.LogLines.{log_stamp_of, printed_plain};
-ghost use Rattle.bank_lines.specs.declared.log_state.Polled.{Polled};
+ghost use Rattle.bank_lines.specs.LogLines.{printed_plain};
+ghost use Rattle.bank_lines.specs.declared.log_line.Print.{Print};
+ghost use Rattle.bank_lines.specs.declared.log_state.Printers.{Printers};
 
-/// A kernel that prints each machine check prints one twice that EDAC prints: in EDAC's lines, and right
-/// after them in its own. What is found of the second text is then what is found of the first, and so
-/// the two reports have one name, also if the error was found by polling and its texts have different
-/// stamps. The function does nothing: its clause is what it is for.
+/// A kernel that prints each machine check prints one twice that EDAC prints: in EDAC's lines, and
+/// in its own. If EDAC and the kernel printed alike so far, what is found of the second text is what
+/// is found of the first, so the two reports have one name, also without a counter; and then both
+/// printed alike again. The function does nothing: its clauses are what it is for.
 pub fn twice_printed_errors_have_one_name()
-    ensures { (boot cap : ℕ) (before : Polled) (edac plain : LogGroup) (groups : List LogGroup)
-        (report : BankReport) → edac.print.by_edac ≡ true → plain.print.by_edac ≡ false
+    ensures found { (boot cap : ℕ) (before : Printers) (edac plain : LogGroup)
+        (groups : List LogGroup) (report : BankReport) → before.edac ≡ before.kernel
+        → edac.print.by_edac ≡ true → plain.print.by_edac ≡ false
         → told_in boot cap edac ≡ Whole report → told_in boot cap plain ≡ Whole report
         → group_vendor edac.rest ≡ group_vendor plain.rest
-        → let found = found_told before edac.print (group_vendor edac.rest) (Whole report) in
-        let after = polled_after (polled_after before edac.print (Whole report)) plain.print
-        (Whole report) in
+        → let vendor = group_vendor edac.rest in
+        let found = found_told before edac.print vendor (Whole report) in
+        let after = printers_after (printers_after before edac.print vendor (Whole report))
+        plain.print vendor (Whole report) in
         group_founds_from boot cap before (edac ∷ plain ∷ groups)
         ≡ found ∷ found ∷ group_founds_from boot cap after groups }
+    ensures after { (before : Printers) (edac plain : Print) (vendor : ℕ) (report : BankReport)
+        → before.edac ≡ before.kernel → edac.by_edac ≡ true → plain.by_edac ≡ false
+        → let after = printers_after (printers_after before edac vendor (Whole report))
+        plain vendor (Whole report) in after.edac ≡ after.kernel }
 {}
 
 /// The text of a machine check, as kernels print it and as each driver of EDAC does, is read as its
-/// report, with the stamp of its first line; and both texts of one error are read as one report, twice.
+/// report; and both texts of one error are read as one report, twice.
 /// The function does nothing: its clauses are what it is for.
 pub fn printed_logs_are_read()
     ensures plain { (boot cap : ℕ) (heads : Heads) (exception : Bool) (p : Printed) → IsPrinted p
         → AreHeads heads → founds_of boot cap (plain_log heads exception p)
-        ≡ found_told none_polled (printed_plain (log_stamp_of (heads 0))) p.event.vendor
+        ≡ found_told no_names printed_plain p.event.vendor
         (Whole (log_report boot cap p.event)) ∷ [] }
     ensures edac { (boot cap : ℕ) (heads : Heads) (driver : Driver) (controller : ℕ)
         (exception : Bool) (p : Printed) → IsPrinted p → controller < 2 ^ 64 → AreHeads heads
         → founds_of boot cap (edac_log heads driver controller exception p)
-        ≡ found_told none_polled (printed_by_edac (log_stamp_of (heads 0))) p.event.vendor
+        ≡ found_told no_names printed_by_edac p.event.vendor
         (Whole (log_report boot cap p.event)) ∷ [] }
     ensures both { (boot cap : ℕ) (heads others : Heads) (driver : Driver) (controller : ℕ)
         (exception : Bool) (p : Printed) → IsPrinted p → controller < 2 ^ 64 → AreHeads heads
         → AreHeads others
-        → let found = found_told none_polled (printed_by_edac (log_stamp_of (heads 0)))
+        → let found = found_told no_names printed_by_edac
         p.event.vendor (Whole (log_report boot cap p.event)) in
         founds_of boot cap
         (edac_log heads driver controller exception p ++ plain_log others exception p)

@@ -1,20 +1,19 @@
 //! What is printed of a kernel log, by its reports.
 
-ghost use Rattle.std.specs.Prelude.{◌≡◌, ◌<◌, ◌+◌, ◌%◌, ◌^◌, ◌⊎◌, ℕ, List, ◌∷◌, ◌++◌, false, length, map, Ok, None, Some};
-ghost use Rattle.ras_facts.specs.Facts.{bank_name};
+ghost use Rattle.std.specs.Prelude.{◌≡◌, ◌<◌, ◌^◌, ◌⊎◌, ℕ, Bool, List, ◌∷◌, ◌++◌, false, length, map, Ok};
 ghost use Rattle.ras_facts.specs.declared.bank.BankReport.{BankReport};
 ghost use Rattle.ras_klog.specs.Groups.{told_of_groups};
 ghost use Rattle.ras_script.specs.Splitting.{lines_of};
 ghost use Rattle.ras_script.specs.declared.line.ErrorReport.TheVariants.{Bank};
 ghost use Rattle.ras_script.specs.declared.line.Line.TheVariants.{Report};
+ghost use Rattle.bank_lines.specs.Counts.{all_named};
 ghost use Rattle.bank_lines.specs.LogFilter.{log_reports, log_script};
-ghost use Rattle.bank_lines.specs.LogGroups.{klog_part, log_groups, told_in, with_counter};
+ghost use Rattle.bank_lines.specs.LogGroups.{groups_judged, klog_part, log_founds, log_groups, printed_by, told_in};
 ghost use Rattle.bank_lines.specs.LogLines.{is_own_line, log_line_of};
 ghost use Rattle.bank_lines.specs.Texts.{asks_in};
 ghost use Rattle.bank_lines.specs.declared.log_line.LogLine.{LogLine};
 ghost use Rattle.bank_lines.specs.declared.log_line.LogLine.TheVariants.{Nothing, Unread};
 ghost use Rattle.bank_lines.specs.declared.log_line.MarkedLine.TheVariants.{Plain};
-ghost use Rattle.bank_lines.specs.declared.log_line.TheConstants.{LAST_SECOND, MICROSECONDS};
 
 use crate::laws::printed_lines_are_read_back;
 
@@ -37,19 +36,12 @@ pub fn logs_are_made_lines()
     ensures alone { (boot cap : ℕ) (before after : List (List ℕ)) (line : List ℕ)
         → is_own_line line ≡ false
         → log_reports boot cap (before ++ line ∷ after) ≡ log_reports boot cap (before ++ after) }
-    // Errors that were found by polling, and printed at other times, have other names.
-    ensures names { (count next stamp other : ℕ) (first second : BankReport)
-        → first.tsc ≡ 0 → second.tsc ≡ 0 → ¬ (stamp ≡ other)
-        → ¬ (bank_name (with_counter count (Some stamp) first)
-        ≡ bank_name (with_counter next (Some other) second)) }
-    // Two without a time stamp have other names if the last 12 digits of their seconds differ, or the
-    // last 6 digits of the number of such errors before them.
-    ensures unstamped { (count next : ℕ) (first second : BankReport)
-        → first.tsc ≡ 0 → second.tsc ≡ 0 → count < MICROSECONDS → next < MICROSECONDS
-        → (¬ (first.seconds % (LAST_SECOND + 1) ≡ second.seconds % (LAST_SECOND + 1)))
-        ⊎ (¬ (count ≡ next))
-        → ¬ (bank_name (with_counter count None first)
-        ≡ bank_name (with_counter next None second)) }
+    // An error without a counter is named by how many alike its printer, EDAC or the kernel, printed
+    // before.
+    ensures named { (boot cap : ℕ) (by_edac : Bool) (lines : List LogLine)
+        → printed_by by_edac (log_groups lines) (log_founds boot cap lines)
+        ≡ all_named (printed_by by_edac (log_groups lines)
+        (groups_judged boot cap (log_groups lines))) }
 {
     printed_lines_are_read_back();
 }

@@ -1,7 +1,6 @@
 //! What the lines of a kernel log tell of machine checks.
 
 ghost use Rattle.std.specs.Prelude.{◌≡◌, ◌≤◌, ◌∷◌, ◌++◌, [], length, true, IfSome, Some};
-ghost use Rattle.ras_klog.specs.Reading.{provided};
 ghost use Rattle.bank_lines.specs.LogHeads.{is_own};
 ghost use Rattle.bank_lines.specs.Steps.Times.{IsTime};
 ghost use Rattle.bank_lines.specs.LogLines.{bracket_stamp, is_cut, is_of_report, log_line_after};
@@ -15,8 +14,7 @@ use crate::mark::{EDAC_MARK, LogMark, PLAIN_MARK, mark_of};
 use ras_klog::{KlogLine, klog_line_after};
 use ras_script::decimal;
 
-/// The last second that a stamp may have, and the greatest time that an error without a stamp has
-/// in its counter: 12 digits.
+/// The last second that a stamp may have: 12 digits.
 pub const LAST_SECOND: u64 = 999_999_999_999;
 
 /// The greatest stamp, in microseconds.
@@ -40,10 +38,9 @@ pub(crate) enum LogLine {
     },
 }
 
-// How a line was printed: the stamp before it in microseconds, and whether EDAC printed it.
+// How a line was printed: by EDAC, or in the kernel's own text.
 #[derive(Clone, Copy, Debug, PartialEq, Eq)]
 pub(crate) struct Print {
-    pub stamp: Option<u64>,
     pub by_edac: bool,
 }
 
@@ -52,8 +49,8 @@ pub(crate) struct Print {
 pub(crate) enum MarkedLine {
     // By the mark of the kernel's own text, or by none.
     Plain(LogLine),
-    // By EDAC's mark, and the stamp before it.
-    Edac { line: EdacLine, stamp: Option<u64> },
+    // By EDAC's mark.
+    Edac(EdacLine),
 }
 
 // What a line of a kernel log tells. It takes no memory.
@@ -72,36 +69,30 @@ pub(crate) fn log_line(line: &[u8]) -> MarkedLine
 }
 
 // What a line with this head tells that has this text after its mark.
-#[tactic(auto, using(crate::proofs::LogLineLemmas::other_is))]
+#[tactic(auto, using(crate::proofs::LogLineLemmas::after_is, crate::proofs::LogLineLemmas::other_is))]
 fn log_line_after(head: &[u8], text: &[u8]) -> LogLine
     ensures { result ≡ log_line_after head.now (log_mark ++ text.now) }
 {
-    let Some(stamp) = own_stamp(head) else {
+    if !is_kernels(head) {
         return left_unread(text);
-    };
-    let print = Print {
-        stamp,
-        by_edac: false,
-    };
+    }
+    let print = Print { by_edac: false };
     line_told_by(print, text, klog_line_after(text))
 }
 
-// When a line was printed, if its head tells that, provided that the head shows it as the kernel's own.
-fn own_stamp(head: &[u8]) -> Option<Option<u64>>
-    ensures { result ≡ provided (is_own head.now) (Some (log_stamp_of head.now)) }
+// Whether a head shows its line as the kernel's own. Most have a time in brackets, where nothing is
+// looked for.
+fn is_kernels(head: &[u8]) -> bool
+    ensures { result ≡ is_own head.now }
 {
-    if let Some(stamp) = console_stamp(head) {
-        return Some(Some(stamp));
-    }
-    if is_own(head) {
-        Some(log_stamp_of(head))
-    } else {
-        None
+    match console_stamp(head) {
+        Some(_) => true,
+        None => is_own(head),
     }
 }
 
-// The microseconds in a head as the console and dmesg print it, brackets and a space. Nothing in it is
-// looked for, and such a head shows its line as the kernel's own.
+// The microseconds in a head as the console and dmesg print it, brackets and a space. Such a head
+// shows its line as the kernel's own.
 fn console_stamp(head: &[u8]) -> Option<u64>
     ensures { IfSome result
         (λ stamp. (is_own head.now ≡ true) × (log_stamp_of head.now ≡ Some stamp)) }
@@ -187,10 +178,7 @@ fn driver_told(head: &[u8], text: &[u8]) -> MarkedLine
         return MarkedLine::Plain(LogLine::Unread);
     }
     match edac_line(text) {
-        Some(line) => MarkedLine::Edac {
-            line,
-            stamp: log_stamp_of(head),
-        },
+        Some(line) => MarkedLine::Edac(line),
         None => MarkedLine::Plain(LogLine::Unread),
     }
 }

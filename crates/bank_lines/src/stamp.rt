@@ -1,29 +1,12 @@
 //! The time that a line of the kernel is stamped with.
 
-ghost use Rattle.std.specs.Prelude.{◌≡◌, None};
-ghost use Rattle.bank_lines.specs.Parts.{cut_at};
-ghost use Rattle.bank_lines.specs.Stamp.{last_stamp, stamp_of};
+ghost use Rattle.std.specs.Prelude.{◌≡◌};
+ghost use Rattle.bank_lines.specs.Stamp.{stamp_of};
 
-use crate::parts::Parts;
 use ras_script::decimal;
 
 /// The most seconds of a stamp. So many, and any microseconds, are a number of 64 bits.
 pub const MOST_SECONDS: u64 = 18_446_744_073_708;
-
-// The microseconds of the last word of a text that is a stamp.
-pub(crate) fn last_stamp(text: &[u8]) -> Option<u64>
-    ensures { result ≡ last_stamp None (cut_at 32 text.now) }
-{
-    let mut stamp = None;
-    let mut words = Parts::new(b' ', text);
-    while let Some(word) = words.next() {
-        let here = stamp_of(word);
-        if here.is_some() {
-            stamp = here;
-        }
-    }
-    stamp
-}
 
 /// Returns the microseconds of a stamp, `<seconds>.<microseconds>:`, whose microseconds have six
 /// digits.

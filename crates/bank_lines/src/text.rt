@@ -4,7 +4,7 @@ ghost use Rattle.std.specs.Prelude.{◌≡◌, ◌<◌, ◌≤◌, ◌∷◌, �
 ghost use Rattle.std.specs.Fmt.{decimal, digit_glyph};
 ghost use Rattle.ras_script.specs.LineLaws.{hexadecimal};
 ghost use Rattle.bank_lines.specs.declared.text.TheConstants.{WORD_BYTES};
-ghost use Rattle.bank_lines.specs.Texts.{asking_line, found_text, partial_comment, unread_line, vendor_line, firmware_line, torn_line};
+ghost use Rattle.bank_lines.specs.Texts.{asking_line, found_text, partial_comment, unread_line, vendor_line, firmware_line, full_line, torn_line};
 
 use crate::Finding;
 use ras_base::{NoMemory, push_number};
@@ -30,6 +30,7 @@ pub fn push_found(text: &mut Vec<u8>, found: &Finding, number: u64) -> Result<()
         Finding::Nothing => return Ok(()),
         Finding::Whole(report) => push_bank(text, report)?,
         Finding::Torn(report) => push_torn(text, report, number)?,
+        Finding::Full(report) => push_full(text, report)?,
         Finding::Partial { cpu, bank } => push_partial(text, *cpu, *bank)?,
         Finding::Foreign { vendor, cpu, bank } => push_foreign(text, *vendor, *cpu, *bank)?,
         Finding::Firmware { cpu } => push_firmware(text, *cpu)?,
@@ -62,6 +63,15 @@ fn push_torn(text: &mut Vec<u8>, report: &BankReport, number: u64) -> Result<(),
 {
     push_named(text, b"# torn ", number)?;
     text.push(b'\n')?;
+    push_bank(text, report)
+}
+
+// Adds the comment of a report whose like aren't counted, and the report's line.
+fn push_full(text: &mut Vec<u8>, report: &BankReport) -> Result<(), NoMemory>
+    ensures { OnOk result
+        (text.new.items ≡ text.old.items ++ full_line ++ 10 ∷ asking_line report.now) }
+{
+    text.extend_from_slice(b"# full\n")?;
     push_bank(text, report)
 }
 

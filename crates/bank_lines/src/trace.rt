@@ -2,14 +2,13 @@
 
 ghost use Rattle.std.specs.Prelude.{◌≡◌, ◌+◌, ◌≤◌, [], length, IfSome};
 ghost use Rattle.bank_lines.specs.Parts.{cut_at};
-ghost use Rattle.bank_lines.specs.Trace.{are_count_signs, counter_of, event_found, event_report, is_count, is_system};
-ghost use Rattle.bank_lines.specs.Trace.{is_traced, last_mark, last_word, trace_found};
+ghost use Rattle.bank_lines.specs.Trace.{are_count_signs, behind_name, event_found, event_report};
+ghost use Rattle.bank_lines.specs.Trace.{is_count, is_system, is_traced, last_mark, last_word, trace_found};
 
 use crate::Finding;
 use crate::event::{TraceEvent, event_in};
 use crate::log_heads::{has_digit, mark_place, without_spaces};
 use crate::parts::Parts;
-use crate::stamp::last_stamp;
 use memchr::memmem;
 use ras_facts::BankReport;
 
@@ -18,8 +17,7 @@ const MARK: &[u8] = b"mce_record: ";
 
 /// What is found in a line of the text of the kernel's trace, in this boot. It takes no memory.
 ///
-/// What follows the last `mce_record: ` of the line counts, if it is where tracers print it, and
-/// the stamp before it for an error that was found by polling.
+/// What follows the last `mce_record: ` of the line counts, if it is where tracers print it.
 pub fn trace_found(boot: u64, line: &[u8]) -> Finding
     ensures { result ≡ trace_found boot line.now }
 {
@@ -30,7 +28,7 @@ pub fn trace_found(boot: u64, line: &[u8]) -> Finding
         return Finding::Unread;
     }
     match event_in(&line[place + MARK.len()..]) {
-        Some(event) => event_found(boot, &line[..place], event),
+        Some(event) => event_found(boot, event),
         None => Finding::Unread,
     }
 }
@@ -47,9 +45,22 @@ fn last_mark(line: &[u8]) -> Option<usize>
 fn is_traced(before: &[u8]) -> bool
     ensures { result ≡ is_traced before.now }
 {
-    match mark_place(b": ", before) {
-        Some(place) => is_count(last_word(&before[..place])) && is_system(&before[place + 1..]),
+    let head = behind_name(before);
+    match mark_place(b": ", head) {
+        Some(place) => is_count(last_word(&head[..place])) && is_system(&head[place + 1..]),
         None => false,
+    }
+}
+
+/// Returns what follows the name of the process, if a line has the name in the columns of the
+/// kernel's own trace file, and otherwise the whole line.
+pub fn behind_name(line: &[u8]) -> &[u8]
+    ensures { result.now ≡ behind_name line.now }
+{
+    if line.len() > 17 && line[16] == b'-' && line[17].is_ascii_digit() {
+        &line[17..]
+    } else {
+        line
     }
 }
 
@@ -87,9 +98,9 @@ fn is_system(text: &[u8]) -> bool
     name.is_empty() || name == b"mce:".as_slice()
 }
 
-// What is found of an event with this text before its mark.
-fn event_found(boot: u64, before: &[u8], event: TraceEvent) -> Finding
-    ensures { result ≡ event_found boot before.now event }
+// What is found of an event.
+fn event_found(boot: u64, event: TraceEvent) -> Finding
+    ensures { result ≡ event_found boot event }
 {
     if event.vendor != 0 {
         return Finding::Foreign {
@@ -98,34 +109,19 @@ fn event_found(boot: u64, before: &[u8], event: TraceEvent) -> Finding
             bank: event.bank,
         };
     }
-    match counter_of(event.tsc, before) {
-        Some(tsc) => Finding::of_report(event_report(boot, event, tsc)),
-        None => Finding::Unread,
-    }
+    Finding::of_report(event_report(boot, event))
 }
 
-// The counter by which the report is named: an error that was found by polling has none, and gets
-// the microseconds of its line's stamp.
-fn counter_of(tsc: u64, before: &[u8]) -> Option<u64>
-    ensures { result ≡ counter_of tsc before.now }
-{
-    if tsc == 0 {
-        last_stamp(before)
-    } else {
-        Some(tsc)
-    }
-}
-
-/// Returns the report of an event of this boot, by this counter.
-pub fn event_report(boot: u64, event: TraceEvent, tsc: u64) -> BankReport
-    ensures { result ≡ event_report boot event tsc }
+/// Returns the report of an event of this boot.
+pub fn event_report(boot: u64, event: TraceEvent) -> BankReport
+    ensures { result ≡ event_report boot event }
 {
     BankReport {
         boot,
         seconds: event.seconds,
         cpu: event.cpu,
         bank: event.bank,
-        tsc,
+        tsc: event.tsc,
         cap: event.cap,
         mcg: event.mcg,
         status: event.status,

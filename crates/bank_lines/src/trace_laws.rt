@@ -2,16 +2,16 @@
 
 ghost use Rattle.std.specs.Prelude.{◌≡◌, ℕ, ◌^◌, ◌<◌, ◌⊎◌, List, ◌∷◌, ◌++◌, false, length, map, Ok};
 ghost use Rattle.std.specs.List.{AllByRecursion};
-ghost use Rattle.ras_facts.specs.Facts.{bank_name};
 ghost use Rattle.ras_facts.specs.declared.bank.BankReport.{BankReport};
 ghost use Rattle.ras_script.specs.Splitting.{lines_of};
 ghost use Rattle.ras_script.specs.declared.line.ErrorReport.TheVariants.{Bank};
 ghost use Rattle.ras_script.specs.declared.line.Line.TheVariants.{Report};
-ghost use Rattle.bank_lines.specs.declared.found.Finding.TheVariants.{Nothing, Unread, Whole};
-ghost use Rattle.bank_lines.specs.Filter.{trace_filter, trace_founds};
+ghost use Rattle.bank_lines.specs.declared.found.Finding.TheVariants.{Nothing, Unread};
+ghost use Rattle.bank_lines.specs.Filter.{trace_filter, trace_founds, traced_reports};
+ghost use Rattle.bank_lines.specs.Counts.{all_named};
 ghost use Rattle.bank_lines.specs.Finding.{IsFoundInRange, Numbered, reports_in};
 ghost use Rattle.bank_lines.specs.Texts.{asks_in, found_text, printed};
-ghost use Rattle.bank_lines.specs.Trace.{IsPolled, is_event_line, stamp_before, trace_found};
+ghost use Rattle.bank_lines.specs.Trace.{is_event_line, trace_found};
 
 /// All that is found in the lines of a trace fits its types, so it is read back: what the printed
 /// lines ask for is the whole reports of the trace, in order. The function does nothing: its
@@ -31,15 +31,10 @@ pub fn traces_are_read_back()
         → is_event_line line ≡ false
         → reports_in (trace_founds boot (before ++ line ∷ after))
         ≡ reports_in (trace_founds boot (before ++ after)) }
+    // An error without a counter is named by how many alike the trace had before.
+    ensures named { (boot : ℕ) (lines : List (List ℕ)) → reports_in (trace_founds boot lines)
+        ≡ all_named (traced_reports boot lines) }
     ensures asks { (boot : ℕ) (lines : List (List ℕ)) → boot < 2 ^ 64 → length lines < 2 ^ 64
         → asks_in (lines_of (printed (trace_founds boot lines)))
         ≡ map (λ (r : BankReport). Ok (Report (Bank r))) (reports_in (trace_founds boot lines)) }
-{}
-
-/// Two errors that were found by polling have different names if the stamps of their lines differ.
-/// The function does nothing: its clause is what it is for.
-pub fn stamps_tell_polled_errors_apart()
-    ensures { (boot : ℕ) (one other : List ℕ) (r s : BankReport) → IsPolled one → IsPolled other
-        → trace_found boot one ≡ Whole r → trace_found boot other ≡ Whole s
-        → ¬ (stamp_before one ≡ stamp_before other) → ¬ (bank_name r ≡ bank_name s) }
 {}

@@ -182,17 +182,17 @@ abbrev at : List MemoryError → OpenSection → ErrorsRead
 at es section = record { ended = es; section = section }
 
 -- one more text
-told : (es : List MemoryError) (section : OpenSection) (text : List ℕ) (line : ReportLine) (more : List (List ℕ)) → report_line_of text ≡ line
-    → texts_read (at es section) (text ∷ more) ≡ texts_read (line_read (at es section) line) more
-told es section words line more is = ap (λ (l : ReportLine). texts_read (line_read (at es section) l) more) is
+told : (given : ℕ) (es : List MemoryError) (section : OpenSection) (text : List ℕ) (line : ReportLine) (more : List (List ℕ)) → report_line_of text ≡ line
+    → texts_read given (at es section) (text ∷ more) ≡ texts_read given (line_read given (at es section) line) more
+told given es section words line more is = ap (λ (l : ReportLine). texts_read given (line_read given (at es section) l) more) is
 
 -- a text that says nothing, if it is printed
-passed : (es : List MemoryError) (section : OpenSection) (name : List ℕ) → ((t : List ℕ) → report_line_of (name ++ t) ≡ lines.Other)
-    → (o : Option (List ℕ)) (more : List (List ℕ)) → texts_read (at es section) (optional name o more) ≡ texts_read (at es section) more
-passed es section name other None more = refl
-passed es section name other (Some t) more = told es section (name ++ t) lines.Other more (other t)
+passed : (given : ℕ) (es : List MemoryError) (section : OpenSection) (name : List ℕ) → ((t : List ℕ) → report_line_of (name ++ t) ≡ lines.Other)
+    → (o : Option (List ℕ)) (more : List (List ℕ)) → texts_read given (at es section) (optional name o more) ≡ texts_read given (at es section) more
+passed given es section name other None more = refl
+passed given es section name other (Some t) more = told given es section (name ++ t) lines.Other more (other t)
 
-module _ (es : List MemoryError) (s : ℕ) where
+module _ (given : ℕ) (es : List MemoryError) (s : ℕ) where
   -- a memory error of which so much is known
   abbrev known : Option ℕ → Option ℕ → ErrorLocation → Option ℕ → ErrorsRead
   known physical mask location kind = at es (Memory (record { severity = s; physical = physical; mask = mask; location = location; kind = kind }))
@@ -201,58 +201,58 @@ module _ (es : List MemoryError) (s : ℕ) where
   nowhere = record { node = None; card = None; «module» = None }
 
   physical_told : (o : Option ℕ) (more : List (List ℕ)) → IfSome o (λ n. n < 2 ^ 64)
-      → texts_read (known None None nowhere None) (optional (codes "  physical_address: 0x") (option_map register o) more) ≡ texts_read (known o None nowhere None) more
+      → texts_read given (known None None nowhere None) (optional (codes "  physical_address: 0x") (option_map register o) more) ≡ texts_read given (known o None nowhere None) more
   physical_told None more small = refl
   physical_told (Some n) more small =
-      told es (Memory (blank_error s)) (codes "  physical_address: 0x" ++ register n) (lines.Field (Some (Physical n))) more (physical_read n small)
+      told given es (Memory (blank_error s)) (codes "  physical_address: 0x" ++ register n) (lines.Field (Some (Physical n))) more (physical_read n small)
 
   mask_told : (physical o : Option ℕ) (more : List (List ℕ)) → IfSome o (λ n. n < 2 ^ 64)
-      → texts_read (known physical None nowhere None) (optional (codes "  physical_address_mask: 0x") (option_map register o) more) ≡ texts_read (known physical o nowhere None) more
+      → texts_read given (known physical None nowhere None) (optional (codes "  physical_address_mask: 0x") (option_map register o) more) ≡ texts_read given (known physical o nowhere None) more
   mask_told physical None more small = refl
   mask_told physical (Some n) more small =
-      told es (Memory (record { severity = s; physical = physical; mask = None; location = nowhere; kind = None })) (codes "  physical_address_mask: 0x" ++ register n) (lines.Field (Some (Mask n))) more (mask_read n small)
+      told given es (Memory (record { severity = s; physical = physical; mask = None; location = nowhere; kind = None })) (codes "  physical_address_mask: 0x" ++ register n) (lines.Field (Some (Mask n))) more (mask_read n small)
 
   kind_told : (physical mask : Option ℕ) (location : ErrorLocation) (name : List ℕ) (o : Option ℕ) (more : List (List ℕ)) → IfSome o (λ n. n < 2 ^ 8)
-      → texts_read (known physical mask location None) (optional (codes "  error_type: ") (option_map (kind_text name) o) more) ≡ texts_read (known physical mask location o) more
+      → texts_read given (known physical mask location None) (optional (codes "  error_type: ") (option_map (kind_text name) o) more) ≡ texts_read given (known physical mask location o) more
   kind_told physical mask location name None more small = refl
   kind_told physical mask location name (Some n) more small =
-      told es (Memory (record { severity = s; physical = physical; mask = mask; location = location; kind = None })) (codes "  error_type: " ++ kind_text name n) (lines.Field (Some (Kind n))) more (kind_read name n small)
+      told given es (Memory (record { severity = s; physical = physical; mask = mask; location = location; kind = None })) (codes "  error_type: " ++ kind_text name n) (lines.Field (Some (Kind n))) more (kind_read name n small)
 
   -- the place, if a number of it is known, or something else
   place_told : (physical mask node card number : Option ℕ) (others : List ℕ) (more : List (List ℕ))
       → location_of (location_text node card number others) ≡ record { node = node; card = card; «module» = number }
       → section_said others ≡ lines.Other
-      → texts_read (known physical mask nowhere None) (unless_empty (location_text node card number others) more)
-      ≡ texts_read (known physical mask (record { node = node; card = card; «module» = number }) None) more
+      → texts_read given (known physical mask nowhere None) (unless_empty (location_text node card number others) more)
+      ≡ texts_read given (known physical mask (record { node = node; card = card; «module» = number }) None) more
   place_told physical mask (Some n) card number others more is silent =
-      told es (Memory (record { severity = s; physical = physical; mask = mask; location = nowhere; kind = None })) (codes "  " ++ location_text (Some n) card number others) (lines.Field (Some (At (record { node = Some n; card = card; «module» = number })))) more
+      told given es (Memory (record { severity = s; physical = physical; mask = mask; location = nowhere; kind = None })) (codes "  " ++ location_text (Some n) card number others) (lines.Field (Some (At (record { node = Some n; card = card; «module» = number })))) more
       (ap (λ (l : ErrorLocation). lines.Field (Some (At l))) is)
   place_told physical mask None (Some c) number others more is silent =
-      told es (Memory (record { severity = s; physical = physical; mask = mask; location = nowhere; kind = None })) (codes "  " ++ location_text None (Some c) number others) (lines.Field (Some (At (record { node = None; card = Some c; «module» = number })))) more
+      told given es (Memory (record { severity = s; physical = physical; mask = mask; location = nowhere; kind = None })) (codes "  " ++ location_text None (Some c) number others) (lines.Field (Some (At (record { node = None; card = Some c; «module» = number })))) more
       (ap (λ (l : ErrorLocation). lines.Field (Some (At l))) is)
   place_told physical mask None None (Some m) others more is silent =
-      told es (Memory (record { severity = s; physical = physical; mask = mask; location = nowhere; kind = None })) (codes "  " ++ location_text None None (Some m) others) (lines.Field (Some (At (record { node = None; card = None; «module» = Some m })))) more
+      told given es (Memory (record { severity = s; physical = physical; mask = mask; location = nowhere; kind = None })) (codes "  " ++ location_text None None (Some m) others) (lines.Field (Some (At (record { node = None; card = None; «module» = Some m })))) more
       (ap (λ (l : ErrorLocation). lines.Field (Some (At l))) is)
   place_told physical mask None None None [] more is silent = refl
   place_told physical mask None None None (b ∷ others) more is silent =
-      told es (Memory (record { severity = s; physical = physical; mask = mask; location = nowhere; kind = None })) (codes "  " ++ b ∷ others) lines.Other more silent
+      told given es (Memory (record { severity = s; physical = physical; mask = mask; location = nowhere; kind = None })) (codes "  " ++ b ∷ others) lines.Other more silent
 
 -- the fields of a memory section
-fields_told : (es : List MemoryError) (p : PrintedError) (more : List (List ℕ)) → IsPrinted p
-    → texts_read (at es (Memory (blank_error p.severity))) (field_texts p more) ≡ texts_read (at es (Memory (error_of p))) more
-fields_told es p more h =
+fields_told : (given : ℕ) (es : List MemoryError) (p : PrintedError) (more : List (List ℕ)) → IsPrinted p
+    → texts_read given (at es (Memory (blank_error p.severity))) (field_texts p more) ≡ texts_read given (at es (Memory (error_of p))) more
+fields_told given es p more h =
     let last : List (List ℕ) = optional (codes "  DIMM location: ") p.slot more in
     let kinds : List (List ℕ) = optional (codes "  error_type: ") (option_map (kind_text p.kind_name) p.kind) last in
     let places : List (List ℕ) = unless_empty (location_text p.node p.card p.«module» p.others) kinds in
     let masks : List (List ℕ) = optional (codes "  physical_address_mask: 0x") (option_map register p.mask) places in
     let physicals : List (List ℕ) = optional (codes "  physical_address: 0x") (option_map register p.physical) masks in
     let at_place : ErrorLocation = record { node = p.node; card = p.card; «module» = p.«module» } in
-    passed es (Memory (blank_error p.severity)) (codes "   error_status: ") (λ t. refl) p.status physicals
-    ∙ physical_told es p.severity p.physical masks h.physical
-    ∙ mask_told es p.severity p.physical p.mask places h.mask
-    ∙ place_told es p.severity p.physical p.mask p.node p.card p.«module» p.others kinds (location_read p h) h.others.silent
-    ∙ kind_told es p.severity p.physical p.mask at_place p.kind_name p.kind last h.kind
-    ∙ passed es (Memory (error_of p)) (codes "  DIMM location: ") (λ t. refl) p.slot more
+    passed given es (Memory (blank_error p.severity)) (codes "   error_status: ") (λ t. refl) p.status physicals
+    ∙ physical_told given es p.severity p.physical masks h.physical
+    ∙ mask_told given es p.severity p.physical p.mask places h.mask
+    ∙ place_told given es p.severity p.physical p.mask p.node p.card p.«module» p.others kinds (location_read p h) h.others.silent
+    ∙ kind_told given es p.severity p.physical p.mask at_place p.kind_name p.kind last h.kind
+    ∙ passed given es (Memory (error_of p)) (codes "  DIMM location: ") (λ t. refl) p.slot more
 
 -- the time of an error
 pub time_passed : (is_precise : Bool) (t : List ℕ) → report_line_of (time_name is_precise ++ t) ≡ lines.Other
@@ -260,35 +260,36 @@ time_passed true t = refl
 time_passed false t = refl
 
 -- the texts of an error, after fewer errors than a report keeps
-error_told : (es : List MemoryError) (section : OpenSection) (number : ℕ) (p : PrintedError) (more : List (List ℕ)) → IsPrinted p → number < 2 ^ 64
+error_told : (given : ℕ) (es : List MemoryError) (section : OpenSection) (number : ℕ) (p : PrintedError) (more : List (List ℕ)) → IsPrinted p → number < 2 ^ 64
     → length (es ++ section_errors section) < 12
-    → texts_read (at es section) (error_texts number p more) ≡ texts_read (at (es ++ section_errors section) (Memory (error_of p))) more
-error_told es section number p more h fits few =
+    → texts_read given (at es section) (error_texts number p more) ≡ texts_read given (at (es ++ section_errors section) (Memory (error_of p))) more
+error_told given es section number p more h fits few =
     let ended : List MemoryError = es ++ section_errors section in
     let fields : List (List ℕ) = field_texts p more in
     let typed : List (List ℕ) = codes "  section_type: memory error" ∷ fields in
     let named : List (List ℕ) = optional (codes " fru_text: ") p.unit_text typed in
     let units : List (List ℕ) = optional (codes " fru_id: ") p.unit_id named in
-    let room : nat_lt (length ended) 12 ≡ true = grind (arith, nat_tests, few) in
-    passed es section (time_name p.is_precise) (time_passed p.is_precise) p.time (error_text number p.severity ∷ units)
-    ∙ told es section (error_text number p.severity) (lines.Error p.severity) units (error_read number p.severity fits h.severity)
-    ∙ passed ended (Begun p.severity) (codes " fru_id: ") (λ t. refl) p.unit_id named
-    ∙ passed ended (Begun p.severity) (codes " fru_text: ") (λ t. refl) p.unit_text typed
-    ∙ ap (λ (b : Bool). texts_read (at ended (if b then Memory (blank_error p.severity) else LeftOut)) fields) room
-    ∙ fields_told ended p more h
+    let room : nat_lt (length ended + 0) 12 ≡ true = grind (arith, nat_tests, few) in
+    passed given es section (time_name p.is_precise) (time_passed p.is_precise) p.time (error_text number p.severity ∷ units)
+    ∙ told given es section (error_text number p.severity) (lines.Error p.severity) units (error_read number p.severity fits h.severity)
+    ∙ passed given ended (Begun p.severity) (codes " fru_id: ") (λ t. refl) p.unit_id named
+    ∙ passed given ended (Begun p.severity) (codes " fru_text: ") (λ t. refl) p.unit_text typed
+    ∙ ap (λ (es : List MemoryError). texts_read given (at es (if nat_lt (length ended + 0) 12 then Memory (blank_error p.severity) else LeftOut)) fields) (append-nil ended)
+    ∙ ap (λ (b : Bool). texts_read given (at ended (if b then Memory (blank_error p.severity) else LeftOut)) fields) room
+    ∙ fields_told given ended p more h
 
 -- those of all errors
-errors_told : (es : List MemoryError) (section : OpenSection) (number : ℕ) (ps : List PrintedError) → AllByRecursion IsPrinted ps
+errors_told : (given : ℕ) (es : List MemoryError) (section : OpenSection) (number : ℕ) (ps : List PrintedError) → AllByRecursion IsPrinted ps
     → number + length ps < 2 ^ 64 → length (es ++ section_errors section) + length ps ≤ 12
-    → errors_read (texts_read (at es section) (errors_texts number ps)) ≡ (es ++ section_errors section) ++ map error_of ps
-errors_told es section number [] all fits few = sym (append-nil (es ++ section_errors section))
-errors_told es section number (p ∷ ps) all fits few =
+    → errors_read (texts_read given (at es section) (errors_texts number ps)) ≡ (es ++ section_errors section) ++ map error_of ps
+errors_told given es section number [] all fits few = sym (append-nil (es ++ section_errors section))
+errors_told given es section number (p ∷ ps) all fits few =
     let ended : List MemoryError = es ++ section_errors section in
     let longer : length (ended ++ error_of p ∷ []) ≡ length ended + 1 = length-append ended (error_of p ∷ []) in
-    ap errors_read (error_told es section number p (errors_texts (number + 1) ps) all.0 (omega (arith, fits)) (omega (arith, few)))
-    ∙ errors_told ended (Memory (error_of p)) (number + 1) ps all.1 (omega (arith, fits)) (omega (arith, few, longer))
+    ap errors_read (error_told given es section number p (errors_texts (number + 1) ps) all.0 (omega (arith, fits)) (omega (arith, few)))
+    ∙ errors_told given ended (Memory (error_of p)) (number + 1) ps all.1 (omega (arith, fits)) (omega (arith, few, longer))
     ∙ append_assoc ended (error_of p ∷ []) (map error_of ps)
 
-pub errors_all_read : (ps : List PrintedError) → AllByRecursion IsPrinted ps → length ps ≤ 12
-    → errors_read (texts_read (record { ended = []; section = Absent }) (errors_texts 0 ps)) ≡ map error_of ps
-errors_all_read ps all few = errors_told [] Absent 0 ps all (omega (arith, few)) (omega (arith, few))
+pub errors_all_read : (given : ℕ) (ps : List PrintedError) → AllByRecursion IsPrinted ps → length ps ≤ 12
+    → errors_read (texts_read given (record { ended = []; section = Absent }) (errors_texts 0 ps)) ≡ map error_of ps
+errors_all_read given ps all few = errors_told given [] Absent 0 ps all (omega (arith, few)) (omega (arith, few))

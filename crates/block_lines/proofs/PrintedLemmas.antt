@@ -60,7 +60,7 @@ abbrev stamped : Option ℕ → ℕ → ReportLine → ReportLogLine
 stamped stamp number line = record { stamp = stamp; marking = Own (record { report = number; line = line }) }
 
 goes_on : (p : Report) (last severity : ℕ) (read : ErrorsRead) (stamp : Option ℕ) (line : ReportLine) → is_start line ≡ false
-    → own_taken (going p last severity read) p.number stamp line ≡ going p (unwrap_or stamp last) (severity_after severity line) (line_read read line)
+    → own_taken (going p last severity read) p.number stamp line ≡ going p (unwrap_or stamp last) (severity_after severity line) (line_read severity read line)
 goes_on p last severity read stamp (lines.Start source) other = absurd cc
 goes_on p last severity read stamp (lines.Event told) other = refl
 goes_on p last severity read stamp (lines.Error told) other = refl
@@ -77,7 +77,7 @@ not_ended p last severity read stamp line other =
     (λ i. not (same i) || other i)
 
 line_goes_on : (p : Report) (last severity : ℕ) (read : ErrorsRead) (stamp : Option ℕ) (line : ReportLine) → is_start line ≡ false
-    → reporting_after (going p last severity read) (stamped stamp p.number line) ≡ going p (unwrap_or stamp last) (severity_after severity line) (line_read read line)
+    → reporting_after (going p last severity read) (stamped stamp p.number line) ≡ going p (unwrap_or stamp last) (severity_after severity line) (line_read severity read line)
 line_goes_on p last severity read stamp line other =
     let r : Reporting = going p last severity read in
     let stays : ended_at r (stamped stamp p.number line) ≡ r = rw (not_ended p last severity read stamp line other) refl in
@@ -163,25 +163,25 @@ quiet_errors number (p ∷ ps) all fits =
 
 -- after lines that are quiet the report has its severity still
 texts_go_on : (p : Report) (last severity : ℕ) (read : ErrorsRead) (heads texts : List (List ℕ)) → p.number < 2 ^ 64 → AreHeaded p.number heads texts → AllQuiet texts
-    → (later : ℕ) × (reporting_over (going p last severity read) (printed_lines p.number heads texts) ≡ going p later severity (texts_read read texts))
+    → (later : ℕ) × (reporting_over (going p last severity read) (printed_lines p.number heads texts) ≡ going p later severity (texts_read severity read texts))
 texts_go_on p last severity read [] [] small headed all = (last, refl)
 texts_go_on p last severity read [] (text ∷ texts) small headed all = absurd headed
 texts_go_on p last severity read (head ∷ heads) [] small headed all = absurd headed
 texts_go_on p last severity read (head ∷ heads) (text ∷ texts) small headed all =
     let line : ReportLine = report_line_of text in
     let next : ℕ = unwrap_or (log_stamp_of head) last in
-    let one : reporting_after (going p last severity read) (report_log_line (printed_line head p.number text)) ≡ going p next severity (line_read read line) =
+    let one : reporting_after (going p last severity read) (report_log_line (printed_line head p.number text)) ≡ going p next severity (line_read severity read line) =
     ap (λ (l : ReportLogLine). reporting_after (going p last severity read) l) (log_line_is head p.number text headed.0 small)
     ∙ line_goes_on p last severity read (log_stamp_of head) line all.0.other
-    ∙ ap (λ (s : ℕ). going p next s (line_read read line)) (all.0.still severity) in
-    let (later, rest) = texts_go_on p next severity (line_read read line) heads texts small headed.1 all.1 in
+    ∙ ap (λ (s : ℕ). going p next s (line_read severity read line)) (all.0.still severity) in
+    let (later, rest) = texts_go_on p next severity (line_read severity read line) heads texts small headed.1 all.1 in
     (later, ap (λ (r : Reporting). reporting_over r (printed_lines p.number heads texts)) one ∙ rest)
 
 -- one line that tells the severity, and those after it
 event_goes_on : (p : Report) (last severity : ℕ) (heads : List (List ℕ)) (ps : List PrintedError) → p.number < 2 ^ 64 → severity < 4 → AllByRecursion IsPrinted ps → length ps ≤ 12
     → AreHeaded p.number heads (event_text severity ∷ errors_texts 0 ps)
     → (later : ℕ) × (reporting_over (going p last 3 (record { ended = []; section = Absent })) (printed_lines p.number heads (event_text severity ∷ errors_texts 0 ps))
-    ≡ going p later severity (texts_read (record { ended = []; section = Absent }) (errors_texts 0 ps)))
+    ≡ going p later severity (texts_read severity (record { ended = []; section = Absent }) (errors_texts 0 ps)))
 event_goes_on p last severity [] ps small fits all few headed = absurd headed
 event_goes_on p last severity (head ∷ heads) ps small fits all few headed =
     let none : ErrorsRead = record { ended = []; section = Absent } in
@@ -200,7 +200,7 @@ corrected_quiet = quiet (codes "It has been corrected by h/w and requires no fur
 severity_goes_on : (p : Report) (last severity : ℕ) (heads : List (List ℕ)) (ps : List PrintedError) → p.number < 2 ^ 64 → severity < 4 → AllByRecursion IsPrinted ps → length ps ≤ 12
     → AreHeaded p.number heads (severity_texts severity ps)
     → (later : ℕ) × (reporting_over (going p last 3 (record { ended = []; section = Absent })) (printed_lines p.number heads (severity_texts severity ps))
-    ≡ going p later severity (texts_read (record { ended = []; section = Absent }) (errors_texts 0 ps)))
+    ≡ going p later severity (texts_read severity (record { ended = []; section = Absent }) (errors_texts 0 ps)))
 severity_goes_on p last severity heads ps small fits all few = by (severity == 2) heads
   where
     none : ErrorsRead
@@ -212,7 +212,7 @@ severity_goes_on p last severity heads ps small fits all few = by (severity == 2
     by : (is_corrected : Bool) (heads : List (List ℕ))
         → AreHeaded p.number heads (if is_corrected then codes "It has been corrected by h/w and requires no further action" ∷ told else told)
         → (later : ℕ) × (reporting_over (going p last 3 none) (printed_lines p.number heads (if is_corrected then codes "It has been corrected by h/w and requires no further action" ∷ told else told))
-        ≡ going p later severity (texts_read none (errors_texts 0 ps)))
+        ≡ going p later severity (texts_read severity none (errors_texts 0 ps)))
     by false heads headed = event_goes_on p last severity heads ps small fits all few headed
     by true [] headed = absurd headed
     by true (head ∷ heads) headed =
@@ -239,13 +239,13 @@ report_is_read r number source severity stamp head heads ps small fits less all 
     ap (λ (l : ReportLogLine). reporting_after r l)
     (log_line_is head number (start_text source) headed.0 small ∙ (λ i. stamped (is i) number (start_read source fits i))) in
     let (later, rest) = severity_goes_on p stamp severity heads ps small less all few headed.1 in
-    let done : reporting_over r (printed_lines number (head ∷ heads) (start_text source ∷ severity_texts severity ps)) ≡ going p later severity (texts_read none (errors_texts 0 ps)) =
+    let done : reporting_over r (printed_lines number (head ∷ heads) (start_text source ∷ severity_texts severity ps)) ≡ going p later severity (texts_read severity none (errors_texts 0 ps)) =
     ap (λ (s : Reporting). reporting_over s (printed_lines number heads (severity_texts severity ps))) first ∙ rest in
     subst (λ (s : Reporting). HasReport s source stamp severity (map error_of ps)) (sym done) (record {
-      report = record { number = number; source = source; begun = stamp; last = later; severity = severity; section = (texts_read none (errors_texts 0 ps)).section };
+      report = record { number = number; source = source; begun = stamp; last = later; severity = severity; section = (texts_read severity none (errors_texts 0 ps)).section };
       work = refl;
       source_is = refl;
       begun_is = refl;
       severity_is = refl;
-      errors_are = errors_all_read ps all few;
+      errors_are = errors_all_read severity ps all few;
     })

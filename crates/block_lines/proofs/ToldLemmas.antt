@@ -3,13 +3,15 @@ use Rattle.std.proofs.Common.{◌≡◌, ℕ, ◌==◌, ◌||◌, Bool, true, fa
 use Rattle.std.specs.Prelude.{length, not, if◌then◌else◌}
 use Rattle.std.specs.Option.{option_map_or}
 use Rattle.std.proofs.lemmas.Bool.Decides.{nat_tests}
-use Rattle.block_lines.specs.Reports.{Reporting, after_report, begun_remark, ended_at, ends_early, going_remark, is_end, is_ended_by, line_remark, reporting_after}
+use Rattle.block_lines.specs.Reports.{Reporting, after_report, begun_remark, ended_at, ends_early, errors_after, going_remark, gone_on, is_end, is_ended_by, is_start, line_remark, reporting_after}
 use Rattle.block_lines.specs.Texts.{block_text, blocks_text_at, cut_report_line, end_text, remark_text, report_text, rest_text, unread_report_line}
 use Rattle.block_lines.specs.declared.log_line.Marking.TheVariants.{Foreign, Own, Unmarked}
 use Rattle.block_lines.specs.declared.log_line.ReportLogLine.{ReportLogLine}
+use Rattle.block_lines.specs.declared.memory.MemoryError.{MemoryError}
 use Rattle.block_lines.specs.declared.report.OpenReport.{OpenReport}
 use Rattle.block_lines.specs.declared.report.OpenSection.{OpenSection}
-use Rattle.block_lines.specs.declared.report.OpenSection.TheVariants.{Begun}
+use Rattle.block_lines.specs.declared.report.OpenSection.TheVariants.{Begun, Memory}
+use Rattle.block_lines.specs.declared.report_line.ReportLine.{ReportLine}
 use Rattle.block_lines.specs.declared.report_line.ReportLine.TheVariants as lines
 
 -- ---- a foreign line
@@ -69,3 +71,38 @@ section_told r report number severity next stamp work begun =
 pub open_told : (r : Reporting) (report : OpenReport) → r.work ≡ Some report → rest_text r ≡ cut_report_line report.source report.begun ++ 10 ∷ []
 open_told r report work =
     ap (λ (o : Option OpenReport). option_map_or (λ (p : OpenReport). cut_report_line p.source p.begun ++ 10 ∷ []) o []) work
+
+-- ---- a type whose line ` Error` got lost
+
+abbrev own : OpenReport → Option ℕ → ReportLine → ReportLogLine
+own report stamp line = record { stamp = stamp; marking = Own (record { report = report.number; line = line }) }
+
+module _ (r : Reporting) (report : OpenReport) (error : MemoryError) (stamp : Option ℕ) (line : ReportLine)
+    (work : r.work ≡ Some report) (section : report.section ≡ Memory error) (goes_on : is_start line ≡ false)
+    (ends : (es : List MemoryError) → errors_after es (Memory error) line ≡ es ++ error ∷ []) where
+  stays : is_end r (own report stamp line) ≡ false
+  stays =
+      let same : (report.number == report.number) ≡ true = grind (arith, nat_tests) in
+      ap (λ (o : Option OpenReport). option_map_or (λ (p : OpenReport). is_ended_by p stamp (own report stamp line).marking) o false) work
+      ∙ (λ i. not (same i) || goes_on i)
+
+  pub type_ends : (gone_on r r.work stamp line).errors ≡ r.errors ++ error ∷ []
+  type_ends =
+      ap (λ (o : Option OpenReport). (gone_on r o stamp line).errors) work
+      ∙ ap (λ (s : OpenSection). errors_after r.errors s line) section
+      ∙ ends r.errors
+
+  pub kept_is : ended_at r (own report stamp line) ≡ r
+  kept_is = ap (λ (b : Bool). if b then after_report r r.work else r) stays
+
+pub memory_type_ends : (r : Reporting) (report : OpenReport) (error : MemoryError) (stamp : Option ℕ) → r.work ≡ Some report → report.section ≡ Memory error
+    → (reporting_after r (own report stamp lines.MemoryType)).errors ≡ r.errors ++ error ∷ []
+memory_type_ends r report error stamp work section =
+    ap (λ (s : Reporting). (gone_on s s.work stamp lines.MemoryType).errors) (kept_is r report error stamp lines.MemoryType work section refl (λ es. refl))
+    ∙ type_ends r report error stamp lines.MemoryType work section refl (λ es. refl)
+
+pub other_type_ends : (r : Reporting) (report : OpenReport) (error : MemoryError) (stamp : Option ℕ) → r.work ≡ Some report → report.section ≡ Memory error
+    → (reporting_after r (own report stamp lines.OtherType)).errors ≡ r.errors ++ error ∷ []
+other_type_ends r report error stamp work section =
+    ap (λ (s : Reporting). (gone_on s s.work stamp lines.OtherType).errors) (kept_is r report error stamp lines.OtherType work section refl (λ es. refl))
+    ∙ type_ends r report error stamp lines.OtherType work section refl (λ es. refl)

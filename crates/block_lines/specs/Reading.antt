@@ -11,17 +11,17 @@ pub record ErrorsRead : Type 0 where
   pub ended : List MemoryError
   pub section : OpenSection
 
--- after a line of the report
-abbrev pub line_read : ErrorsRead → ReportLine → ErrorsRead
-line_read read line = record {
+-- after a line of the report, which has this severity
+abbrev pub line_read : ℕ → ErrorsRead → ReportLine → ErrorsRead
+line_read severity read line = record {
   ended = errors_after read.ended read.section line;
-  section = section_after (length read.ended) read.section line;
+  section = section_after (length read.ended) severity read.section line;
 }
 
 -- after texts
-abbrev pub texts_read : ErrorsRead → List (List ℕ) → ErrorsRead
-texts_read read [] = read
-texts_read read (text ∷ texts) = texts_read (line_read read (report_line_of text)) texts
+abbrev pub texts_read : ℕ → ErrorsRead → List (List ℕ) → ErrorsRead
+texts_read severity read [] = read
+texts_read severity read (text ∷ texts) = texts_read severity (line_read severity read (report_line_of text)) texts
 
 -- all errors that the report has by then
 abbrev pub errors_read : ErrorsRead → List MemoryError

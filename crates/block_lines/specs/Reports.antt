@@ -1,5 +1,5 @@
 -- A report while its lines are read, and what a line changes.
-use Rattle.std.specs.Prelude.{ℕ, ◌-◌, ◌≤◌, ◌==◌, ◌||◌, Bool, true, false, not, List, [], ◌∷◌, ◌++◌, length, nat_lt, Option, None, Some, unwrap_or, if◌then◌else◌}
+use Rattle.std.specs.Prelude.{ℕ, ◌+◌, ◌-◌, ◌≤◌, ◌==◌, ◌||◌, Bool, true, false, not, List, [], ◌∷◌, ◌++◌, length, nat_lt, Option, None, Some, unwrap_or, if◌then◌else◌}
 use Rattle.std.specs.Option.{option_map_or}
 use Rattle.bank_lines.specs.declared.log_line.TheConstants.{LAST_SECOND}
 use Rattle.block_lines.specs.Sources.{sources_with}
@@ -41,24 +41,30 @@ abbrev pub section_with : OpenSection → MemoryField → OpenSection
 section_with (Memory error) field = Memory (error_with error field)
 section_with section field = section
 
--- a section whose type is known, after this many errors: a report stores at most 12
-abbrev pub typed_section : ℕ → OpenSection → OpenSection
-typed_section count (Begun severity) =
-    if nat_lt count MOST_ERRORS then Memory (blank_error severity) else LeftOut
-typed_section count section = section
-
--- the section after a line of its report, of which this many errors ended before
-abbrev pub section_after : ℕ → OpenSection → ReportLine → OpenSection
-section_after count section (lines.Error severity) = Begun severity
-section_after count section lines.MemoryType = typed_section count section
-section_after count section lines.OtherType = LeftOut
-section_after count section (lines.Field (Some field)) = section_with section field
-section_after count section line = section
-
 -- the error of a section that ends
 abbrev pub section_errors : OpenSection → List MemoryError
 section_errors (Memory error) = error ∷ []
 section_errors section = []
+
+-- the severity of the section whose type comes now, in a report of this severity: without a line ` Error` of its own, which
+-- got lost, a section has the report's
+abbrev pub typed_severity : ℕ → OpenSection → ℕ
+typed_severity severity (Begun own) = own
+typed_severity severity section = severity
+
+-- the section about memory that begins after this one, if this many errors ended before: a report stores at most 12
+abbrev pub typed_section : ℕ → ℕ → OpenSection → OpenSection
+typed_section count severity section =
+    if nat_lt (count + length (section_errors section)) MOST_ERRORS
+    then Memory (blank_error (typed_severity severity section)) else LeftOut
+
+-- the section after a line of its report, which has this severity, and of which this many errors ended before
+abbrev pub section_after : ℕ → ℕ → OpenSection → ReportLine → OpenSection
+section_after count severity section (lines.Error own) = Begun own
+section_after count severity section lines.MemoryType = typed_section count severity section
+section_after count severity section lines.OtherType = LeftOut
+section_after count severity section (lines.Field (Some field)) = section_with section field
+section_after count severity section line = section
 
 -- whether a section ends before its type is known, or no section began
 abbrev pub ends_early : OpenSection → Bool
@@ -77,12 +83,14 @@ abbrev pub report_after : ℕ → OpenReport → Option ℕ → ReportLine → O
 report_after count report stamp line = record report {
   last = unwrap_or stamp report.last;
   severity = severity_after report.severity line;
-  section = section_after count report.section line;
+  section = section_after count report.severity report.section line;
 }
 
--- the errors that ended with a line
+-- the errors that ended with a line: a type ends the section before it too, if the line ` Error` between them got lost
 abbrev pub errors_after : List MemoryError → OpenSection → ReportLine → List MemoryError
 errors_after errors section (lines.Error severity) = errors ++ section_errors section
+errors_after errors section lines.MemoryType = errors ++ section_errors section
+errors_after errors section lines.OtherType = errors ++ section_errors section
 errors_after errors section line = errors
 
 -- A report after its first line. As long as no line says its severity, it has the severity that has no word.
@@ -119,6 +127,7 @@ abbrev pub begun_remark : ℕ → ℕ → OpenSection → Remark
 begun_remark source begun (Begun severity) = remarks.Partial source begun
 begun_remark source begun section = remarks.Nothing
 
+-- about a line that says that a section is about memory: without a line ` Error` before it the severity isn't known
 abbrev pub type_remark : ℕ → OpenSection → Remark
 type_remark count (Begun severity) =
     if nat_lt count MOST_ERRORS then remarks.Nothing else remarks.LeftOut

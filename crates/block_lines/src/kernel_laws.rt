@@ -31,9 +31,9 @@ pub fn printed_texts_are_read()
         → report_line_of (start_text source) ≡ Start source }
     ensures event { (severity : ℕ) → severity < 4
         → report_line_of (event_text severity) ≡ Event severity }
-    ensures errors { (errors : List PrintedError) → AllByRecursion IsPrinted errors
-        → length errors ≤ MOST_ERRORS
-        → errors_read (texts_read (record { ended = []; section = Absent }) (errors_texts 0 errors))
+    ensures errors { (severity : ℕ) (errors : List PrintedError) → AllByRecursion IsPrinted errors
+        → length errors ≤ MOST_ERRORS → errors_read
+        (texts_read severity (record { ended = []; section = Absent }) (errors_texts 0 errors))
         ≡ map error_of errors }
 {}
 

@@ -24,4 +24,4 @@ pub use kernel_laws::{printed_reports_are_read, printed_texts_are_read};
 pub use laws::{made_blocks_are_read_back, made_lines_are_read_back};
 pub use memory::{ErrorLocation, MemoryError};
 pub use report_line::{location_of, severity_of};
-pub use told_laws::{cut_reports_are_told, foreign_lines_are_told};
+pub use told_laws::{cut_reports_are_told, foreign_lines_are_told, lost_lines_take_no_error};

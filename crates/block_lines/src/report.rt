@@ -1,10 +1,10 @@
 //! A report while its lines are read.
 
-ghost use Rattle.std.specs.Prelude.{◌≡◌};
+ghost use Rattle.std.specs.Prelude.{◌≡◌, ◌+◌, length, nat_lt};
 ghost use Rattle.block_lines.specs.Reports.{begun_remark, field_remark, ends_early, is_ended_by};
 ghost use Rattle.block_lines.specs.Reports.{is_late, is_start, remark_in, report_after, report_from};
-ghost use Rattle.block_lines.specs.Reports.{section_after, section_with, severity_after};
-ghost use Rattle.block_lines.specs.Reports.{type_remark, typed_section};
+ghost use Rattle.block_lines.specs.Reports.{section_after, section_errors, section_with, severity_after};
+ghost use Rattle.block_lines.specs.Reports.{type_remark, typed_section, typed_severity};
 
 use crate::log_line::Marking;
 use crate::memory::{MemoryError, MemoryField};
@@ -78,7 +78,7 @@ impl OpenReport {
         OpenReport {
             last: stamp.unwrap_or(self.last),
             severity: severity_after(self.severity, line),
-            section: self.section.after(count, line),
+            section: self.section.after(count, self.severity, line),
             ..self
         }
     }
@@ -146,30 +146,49 @@ fn is_start(line: ReportLine) -> bool
 }
 
 impl OpenSection {
-    // Returns the section after a line of its report, if `count` of the report's errors ended
-    // before.
-    fn after(self, count: usize, line: ReportLine) -> OpenSection
-        ensures { result ≡ section_after count self line }
+    // Returns the section after a line of its report, which has this severity, if `count` of the
+    // report's errors ended before.
+    fn after(self, count: usize, severity: u32, line: ReportLine) -> OpenSection
+        ensures { result ≡ section_after count severity self line }
     {
         match line {
             ReportLine::Error { severity } => OpenSection::Begun { severity },
-            ReportLine::MemoryType => self.typed(count),
+            ReportLine::MemoryType => self.typed(count, severity),
             ReportLine::OtherType => OpenSection::LeftOut,
             ReportLine::Field(Some(field)) => self.with(field),
             _ => self,
         }
     }
 
-    // Returns the section once it is known to be about memory.
-    fn typed(self, count: usize) -> OpenSection
-        ensures { result ≡ typed_section count self }
+    // Returns the section about memory that begins after this one, or here if this one has no type
+    // yet, in a report of this severity.
+    fn typed(self, count: usize, severity: u32) -> OpenSection
+        ensures { result ≡ typed_section count severity self }
     {
-        match self {
-            OpenSection::Begun { severity } if count < MOST_ERRORS => {
-                OpenSection::Memory(MemoryError::blank(severity))
-            }
-            OpenSection::Begun { .. } => OpenSection::LeftOut,
-            _ => self,
+        if self.has_room(count) {
+            OpenSection::Memory(MemoryError::blank(self.typed_severity(severity)))
+        } else {
+            OpenSection::LeftOut
+        }
+    }
+
+    // Returns whether the report stores one more error after this section and `count` errors.
+    fn has_room(&self, count: usize) -> bool
+        ensures { result ≡ nat_lt (count + length (section_errors self.now)) MOST_ERRORS }
+    {
+        match *self {
+            OpenSection::Memory(_) => count < MOST_ERRORS - 1,
+            _ => count < MOST_ERRORS,
+        }
+    }
+
+    // Returns the severity of the section whose type comes now, in a report of this severity.
+    fn typed_severity(&self, severity: u32) -> u32
+        ensures { result ≡ typed_severity severity self.now }
+    {
+        match *self {
+            OpenSection::Begun { severity } => severity,
+            _ => severity,
         }
     }
 

@@ -357,7 +357,10 @@ fn push_ended(
     ensures err { OnErr result (errors.new.items ≡ errors.old.items) }
 {
     match (line, section) {
-        (ReportLine::Error { .. }, OpenSection::Memory(error)) => {
+        (
+            ReportLine::Error { .. } | ReportLine::MemoryType | ReportLine::OtherType,
+            OpenSection::Memory(error),
+        ) => {
             errors.push(error)?;
             Ok(())
         }

@@ -11,8 +11,9 @@ ghost use Rattle.block_lines.specs.Texts.{rest_text, unread_report_line};
 ghost use Rattle.block_lines.specs.declared.log_line.Marking.TheVariants.{Foreign, Own, Unmarked};
 ghost use Rattle.block_lines.specs.declared.log_line.ReportLogLine.{ReportLogLine};
 ghost use Rattle.block_lines.specs.declared.report.OpenReport.{OpenReport};
-ghost use Rattle.block_lines.specs.declared.report.OpenSection.TheVariants.{Begun};
-ghost use Rattle.block_lines.specs.declared.report_line.ReportLine.TheVariants.{Error};
+ghost use Rattle.block_lines.specs.declared.memory.MemoryError.{MemoryError};
+ghost use Rattle.block_lines.specs.declared.report.OpenSection.TheVariants.{Begun, Memory};
+ghost use Rattle.block_lines.specs.declared.report_line.ReportLine.TheVariants.{Error, MemoryType, OtherType};
 
 /// A line with a report's number and prefix, wherever they stand in it, whose head isn't the kernel's
 /// gets a comment with the line's number. The reports change as they would by a line without a mark
@@ -51,4 +52,21 @@ pub fn cut_reports_are_told()
     // No line ends it: after all lines.
     ensures open { (r : Reporting) (report : OpenReport) → r.work ≡ Some report
         → rest_text r ≡ cut_report_line report.source report.begun ++ 10 ∷ [] }
+{}
+
+/// The first line of a section, ` Error`, may get lost. The line that says the section's type ends
+/// the section before it all the same, so the error of that section stays.
+pub fn lost_lines_take_no_error()
+    ensures memory { (r : Reporting) (report : OpenReport) (error : MemoryError)
+        (stamp : Option ℕ) → r.work ≡ Some report → report.section ≡ Memory error
+        → (reporting_after r (record {
+          stamp = stamp;
+          marking = Own (record { report = report.number; line = MemoryType });
+        })).errors ≡ r.errors ++ error ∷ [] }
+    ensures other { (r : Reporting) (report : OpenReport) (error : MemoryError) (stamp : Option ℕ)
+        → r.work ≡ Some report → report.section ≡ Memory error
+        → (reporting_after r (record {
+          stamp = stamp;
+          marking = Own (record { report = report.number; line = OtherType });
+        })).errors ≡ r.errors ++ error ∷ [] }
 {}

@@ -1,7 +1,6 @@
 -- The extended log's event is read as the kernel prints it.
-use Rattle.std.proofs.Common.{◌≡◌, ℕ, zero, suc, ◌+◌, ◌-◌, ◌^◌, ◌<◌, ◌≤◌, ◌==◌, ◌||◌, Bool, true, false, nat_eq, nat_le, List, [], ◌∷◌, ◌++◌, codes, decimal, drop, take, length, refl, ap, ◌∙◌, arith, Option, Some, None, if◌then◌else◌}
+use Rattle.std.proofs.Common.{◌≡◌, ℕ, zero, suc, ◌+◌, ◌-◌, ◌^◌, ◌<◌, ◌≤◌, ◌==◌, ◌||◌, Bool, true, false, nat_le, List, [], ◌∷◌, ◌++◌, codes, decimal, drop, take, length, refl, ap, ◌∙◌, arith, Option, Some, None}
 use Rattle.std.specs.Prelude.{unwrap_or, IfSome}
-use Rattle.std.specs.List.{starts_with}
 use Rattle.std.specs.Option.{option_map}
 use Rattle.std.proofs.lemmas.Bool.Decides.{nat_tests}
 use Rattle.ras_klog.specs.Reading.{provided, read_then}
@@ -21,6 +20,7 @@ use Rattle.block_lines.specs.declared.memory.ErrorLocation.{ErrorLocation}
 use Rattle.block_lines.specs.declared.memory.MemoryError.{MemoryError}
 use Rattle.event_lines.specs.Memory.{addressed_error_of, kind_named, extlog_error_of, low_bit_mask, low_bit_of, mask_and_location, whole_address_told}
 use Rattle.event_lines.specs.MemoryKernel.{IsExtlog, PrintedExtlog, address_text, before_more, error_of_extlog, kind_told, extlog_others, number_before, places_text, printed_extlog, type_name}
+use Rattle.event_lines.proofs.PlacedLemmas.{Stands, stands_behind}
 use Rattle.event_lines.proofs.FlagLemmas.{value_to}
 use Rattle.event_lines.proofs.KindLemmas.{KindRead, kind_read}
 use Rattle.event_lines.proofs.PlaceLemmas.{places_read}
@@ -85,35 +85,19 @@ mask_read (Some bit) is =
 
 -- ---- the unit's name stands somewhere
 
-pub record Stands (text : List ℕ) : Type 0 where
-  pub place : ℕ
-  pub is : mark_place (codes "FRU: ") text ≡ Some place
+abbrev unit_mark : List ℕ
+unit_mark = codes "FRU: "
 
-stands_behind : (front text : List ℕ) → Stands text → Stands (front ++ text)
-stands_behind [] text stands = stands
-stands_behind (b ∷ front) text stands = by (starts_with nat_eq (b ∷ (front ++ text)) (codes "FRU: ")) refl (stands_behind front text stands)
-  where
-    by : (here : Bool) → starts_with nat_eq (b ∷ (front ++ text)) (codes "FRU: ") ≡ here → Stands (front ++ text) → Stands (b ∷ (front ++ text))
-    by true is rest = record {
-      place = 0;
-      is = ap (λ (here : Bool). if here then Some 0 else option_map (λ place. place + 1) (mark_place (codes "FRU: ") (front ++ text))) is;
-    }
-    by false is rest = record {
-      place = rest.place + 1;
-      is = ap (λ (here : Bool). if here then Some 0 else option_map (λ place. place + 1) (mark_place (codes "FRU: ") (front ++ text))) is
-          ∙ ap (option_map (λ place. place + 1)) rest.is;
-    }
-
-stands_after : (name : List ℕ) (o : Option ℕ) (more : List ℕ) → Stands more → Stands (number_before name o more)
+stands_after : (name : List ℕ) (o : Option ℕ) (more : List ℕ) → Stands unit_mark more → Stands unit_mark (number_before name o more)
 stands_after name None more stands = stands
-stands_after name (Some n) more stands = stands_behind name (decimal n ++ before_more more) (stands_behind (decimal n) (before_more more) (by more stands))
+stands_after name (Some n) more stands = stands_behind unit_mark name (decimal n ++ before_more more) (stands_behind unit_mark (decimal n) (before_more more) (by more stands))
   where
-    by : (more : List ℕ) → Stands more → Stands (before_more more)
+    by : (more : List ℕ) → Stands unit_mark more → Stands unit_mark (before_more more)
     by [] stands = absurd (nowhere stands.is)
       where
         nowhere : None ≡ Some stands.place → ⊥
         nowhere is = cc
-    by (b ∷ more) stands = stands_behind (32 ∷ []) (b ∷ more) stands
+    by (b ∷ more) stands = stands_behind unit_mark (32 ∷ []) (b ∷ more) stands
 
 -- ---- what is read, part by part
 
@@ -160,12 +144,12 @@ module _ (p : PrintedExtlog) (is : IsExtlog p) where
   abbrev told : List ℕ
   told = severity_word p.severity ++ 32 ∷ (codes "error: " ++ message)
 
-  unit_stands : Stands places
+  unit_stands : Stands unit_mark places
   unit_stands =
       stands_after (codes "node:") p.location.node (number_before (codes "card:") p.location.card (number_before (codes "module:") p.location.«module» (extlog_others p)))
       (stands_after (codes "card:") p.location.card (number_before (codes "module:") p.location.«module» (extlog_others p))
       (stands_after (codes "module:") p.location.«module» (extlog_others p)
-      (stands_behind p.others (codes "FRU: " ++ p.unit) (record { place = 0; is = refl }))))
+      (stands_behind unit_mark p.others (codes "FRU: " ++ p.unit) (record { place = 0; is = refl }))))
 
   bit_lacks : Lacks 41 (hexadecimal bit)
   bit_lacks = hexadecimal_lacks 41 bit (omega arith) (omega (arith, bit_small p.low_bit is.low_bit))

@@ -1,15 +1,16 @@
 -- Without events the filter is the log's.
-use Rattle.std.proofs.Common.{◌≡◌, ℕ, ◌+◌, List, [], ◌∷◌, ◌++◌, refl, sym, ap, ◌∙◌, Ok, Err, Result, OnOk}
+use Rattle.std.proofs.Common.{◌≡◌, ℕ, ◌+◌, List, [], ◌∷◌, ◌++◌, refl, sym, ap, ◌∙◌, Ok, Err, Result, OnOk, Option, None, Some}
 use Rattle.std.specs.List.{AllByRecursion}
+use Rattle.std.specs.Option.{option_map_or}
 use Rattle.ras_script.specs.declared.line.LineRefused.{LineRefused}
 use Rattle.block_lines.specs.Filter.{BlockProgress, block_answers, rest_after}
 use Rattle.block_lines.specs.LogLines.{report_log_line}
 use Rattle.block_lines.specs.Reports.{Reporting, reporting_after}
 use Rattle.block_lines.specs.Texts.{blocks_text_at}
-use Rattle.event_lines.specs.Filter.{after_by, after_line, report_answers, report_rest, report_text_at, event_text_by}
+use Rattle.event_lines.specs.Filter.{after_by, after_event, after_line, report_answers, report_rest, report_text_at, section_block_of, event_text_by}
 use Rattle.event_lines.specs.Traced.{line_event_of}
 use Rattle.event_lines.specs.declared.traced.LineEvent.{LineEvent}
-use Rattle.event_lines.specs.declared.traced.LineEvent.TheVariants.{Absent}
+use Rattle.event_lines.specs.declared.traced.LineEvent.TheVariants.{Absent, Found, Memory, Section, Unread}
 
 pub absent_text : {A E : Type 0} (result : Result A E) (p : BlockProgress) (line old new : List ℕ) → line_event_of line ≡ Absent
     → OnOk result (new ≡ old ++ blocks_text_at p.reports (p.taken + 1) (report_log_line line)) → OnOk result (new ≡ old ++ report_text_at p line)
@@ -38,3 +39,18 @@ same_rest taken r [] all = refl
 same_rest taken r (line ∷ lines) all =
     ap (λ (event : LineEvent). report_rest (after_by (progress taken r) line event) lines) all.0
     ∙ same_rest (taken + 1) (reporting_after r (report_log_line line)) lines all.1
+
+-- every line is counted
+taken_by : (p : BlockProgress) (line : List ℕ) (event : LineEvent) → (after_by p line event).taken ≡ p.taken + 1
+taken_by p line Absent = refl
+taken_by p line Unread = refl
+taken_by p line (Found found) = refl
+taken_by p line (Memory found) = refl
+taken_by p line (Section found) = by (section_block_of found line)
+  where
+    by : (o : Option (List ℕ)) → (option_map_or (λ block. after_event p) o (record p { taken = p.taken + 1 })).taken ≡ p.taken + 1
+    by None = refl
+    by (Some block) = refl
+
+pub taken_after : (p : BlockProgress) (line : List ℕ) → (after_line p line).taken ≡ p.taken + 1
+taken_after p line = taken_by p line (line_event_of line)

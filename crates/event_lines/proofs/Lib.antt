@@ -4,11 +4,14 @@ mod GuidLemmas
 mod TracedLemmas
 mod FlagLemmas
 mod AerLemmas
+mod RawLemmas
 mod SectionEventLemmas
 mod PlaceLemmas
+mod PlacedLemmas
 mod KindLemmas
 mod MemoryLemmas
 mod ExtlogLemmas
 mod LineLemmas
+mod NameLemmas
 pub mod SectionLemmas
 mod MemoryBlockLemmas

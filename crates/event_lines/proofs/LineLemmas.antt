@@ -1,5 +1,5 @@
 -- A line that has an event, as tracers print it, is found.
-use Rattle.std.proofs.Common.{◌≡◌, ℕ, zero, suc, ◌+◌, ◌*◌, ◌==◌, Bool, true, not, List, [], ◌∷◌, ◌++◌, codes, decimal, take, drop, length, refl, sym, ap, ◌∙◌, arith, append_assoc, length-append, Option, Some}
+use Rattle.std.proofs.Common.{◌≡◌, ℕ, zero, suc, ◌+◌, ◌*◌, ◌==◌, Bool, true, not, List, [], ◌∷◌, ◌++◌, codes, decimal, take, drop, length, ◌<◌, ◌≤◌, refl, sym, subst, ap, ◌∙◌, arith, append_assoc, length-append, Option, Some}
 use Rattle.std.specs.Prelude.{replicate, unwrap_or}
 use Rattle.std.proofs.Math.Seq.{take-append_seam}
 use Rattle.std.proofs.lemmas.List.{drop_at}
@@ -12,18 +12,20 @@ use Rattle.bank_lines.specs.Kernel.{padded}
 use Rattle.bank_lines.specs.LogHeads.{mark_place, without_spaces}
 use Rattle.bank_lines.specs.Parts.{cut_at, value_after}
 use Rattle.bank_lines.specs.Stamp.{stamp_of}
-use Rattle.bank_lines.specs.Trace.{is_count, last_word}
+use Rattle.bank_lines.specs.Trace.{behind_name, is_count, last_word}
 use Rattle.bank_lines.specs.TraceHeads.{IsFront, Tracer, clock, perf, trace_cmd, trace_pipe}
 use Rattle.bank_lines.proofs.LogMarkLemmas.{first_behind}
-use Rattle.bank_lines.proofs.NumeralLemmas.{lack_both}
-use Rattle.bank_lines.proofs.TraceHeadLemmas.{clock_lacks, counts, last_behind, last_is, none_in_timed, stamp_read}
+use Rattle.bank_lines.specs.declared.stamp.TheConstants.{MOST_SECONDS}
+use Rattle.bank_lines.proofs.NumeralLemmas.{lack_both, literal_lacks}
+use Rattle.bank_lines.proofs.TraceHeadLemmas.{NoDash, clock_lacks, clock_reaches, counts, front_plain, last_behind, last_is, named_front, none_in_timed, stamp_read}
 use Rattle.event_lines.specs.Aer.{aer_event_of}
 use Rattle.event_lines.specs.Kernel.{IsEvent, PrintedAer, aer_line, aer_text, device_text, event_head, event_of, flags_text, header_text, ras_before, severity_text}
 use Rattle.event_lines.specs.Memory.{extlog_error_of}
 use Rattle.event_lines.specs.MemoryKernel.{IsExtlog, IsMemory, PrintedExtlog, PrintedMemory, error_of_extlog, error_of_memory, extlog_line, memory_line, printed_extlog, printed_memory}
 use Rattle.event_lines.specs.SectionEvent.{section_bytes_of, section_head_of}
 use Rattle.event_lines.specs.SectionKernel.{IsSection, PrintedSection, head_of_section, printed_section, raw_text, section_line}
-use Rattle.event_lines.specs.Traced.{clock_place, controller_event, event_behind, found_event, found_memory, found_section, line_event_of, named_text, stamp_at}
+use Rattle.event_lines.specs.Traced.{clock_event, clock_place, controller_event, event_behind, event_or_unread, found_event, found_memory, found_section, line_event_of, named_text, stamp_at}
+use Rattle.event_lines.specs.declared.traced.LineEvent.{LineEvent}
 use Rattle.event_lines.specs.declared.traced.LineEvent.TheVariants.{Absent, Found, Memory, Section}
 use Rattle.event_lines.proofs.AerLemmas.{device_lacks_space, text_read}
 use Rattle.event_lines.proofs.ExtlogLemmas.{extlog_text_read}
@@ -42,20 +44,59 @@ all_passed : (spaces : ℕ) (text : List ℕ) → without_spaces (replicate spac
 all_passed zero text = refl
 all_passed (suc n) text = passes (replicate n 32 ++ text) ∙ all_passed n text
 
+-- ---- bytes that aren't `-`
+
+spaces_plain : (n : ℕ) (text : List ℕ) → Lacks 45 text → Lacks 45 (replicate n 32 ++ text)
+spaces_plain zero text lacks = lacks
+spaces_plain (suc n) text lacks = ((λ (e : ◌≡◌ {A = ℕ} 32 45). omega (arith, e)), spaces_plain n text lacks)
+
+ras_plain : (tracer : Tracer) (text : List ℕ) → Lacks 45 text → Lacks 45 (ras_before tracer ++ text)
+ras_plain trace_pipe text lacks = lacks
+ras_plain trace_cmd text lacks = lacks
+ras_plain perf text lacks = lack_both 45 (codes "ras:") text (literal_lacks 45 (codes "ras:") refl) lacks
+
+-- the clock and the name reach past the column in which a number of a process would begin
+pub no_dash : (tracer : Tracer) (seconds micros spaces : ℕ) → seconds ≤ MOST_SECONDS → micros < 1000000
+    → (name rest : List ℕ) → Lacks 45 name → 6 ≤ length name
+    → NoDash (clock seconds micros ++ 58 ∷ 32 ∷ (replicate spaces 32 ++ (ras_before tracer ++ (name ++ rest))))
+no_dash tracer seconds micros spaces most six name rest plain long =
+    let shows : List ℕ = clock seconds micros in
+    let blanks : List ℕ = replicate spaces 32 in
+    let system : List ℕ = ras_before tracer in
+    let region : List ℕ = shows ++ 58 ∷ 32 ∷ (blanks ++ (system ++ name)) in
+    let is : region ++ rest ≡ shows ++ 58 ∷ 32 ∷ (blanks ++ (system ++ (name ++ rest))) =
+    append_assoc shows (58 ∷ 32 ∷ (blanks ++ (system ++ name))) rest
+    ∙ ap (λ (t : List ℕ). shows ++ 58 ∷ 32 ∷ t) (append_assoc blanks (system ++ name) rest)
+    ∙ ap (λ (t : List ℕ). shows ++ 58 ∷ 32 ∷ (blanks ++ t)) (append_assoc system name rest) in
+    let lacks : Lacks 45 region =
+    lack_both 45 shows (58 ∷ 32 ∷ (blanks ++ (system ++ name)))
+    (clock_lacks seconds micros most six 45 (omega arith) (λ (e : ◌≡◌ {A = ℕ} 48 45). omega (arith, e)) (λ (e : ◌≡◌ {A = ℕ} 46 45). omega (arith, e)))
+    ((λ (e : ◌≡◌ {A = ℕ} 58 45). omega (arith, e)), ((λ (e : ◌≡◌ {A = ℕ} 32 45). omega (arith, e)), spaces_plain spaces (system ++ name) (ras_plain tracer name plain))) in
+    let reaches : 16 ≤ length region =
+    omega (arith, long, clock_reaches seconds micros most six, length-append shows (58 ∷ 32 ∷ (blanks ++ (system ++ name))), length-append blanks (system ++ name), length-append system name) in
+    subst NoDash is (front_plain region rest lacks reaches)
+
 -- ---- a line
 
 abbrev without_system : List ℕ → List ℕ
 without_system text = unwrap_or (value_after (codes "ras:") text) text
 
--- any text that begins neither with a space nor with the system
+-- any text that begins neither with a space nor with the system; a name without `-` is its front
 module _ (tracer : Tracer) (front : List ℕ) (seconds micros spaces : ℕ) (is : IsFront front seconds micros)
-    (text : List ℕ) (begins : (t : Tracer) → without_system (without_spaces (ras_before t ++ text)) ≡ text) where
+    (name rest : List ℕ) (plain : Lacks 45 name) (long : 6 ≤ length name)
+    (begins : (t : Tracer) → without_system (without_spaces (ras_before t ++ (name ++ rest))) ≡ name ++ rest) where
+  abbrev text : List ℕ
+  text = name ++ rest
+
   abbrev shows : List ℕ
   shows = clock seconds micros
 
-  -- up to the colon, and what follows the space behind it
+  -- the front behind a name in columns, and up to the colon
+  abbrev unnamed : List ℕ
+  unnamed = behind_name front
+
   abbrev timed : List ℕ
-  timed = front ++ 32 ∷ shows
+  timed = unnamed ++ 32 ∷ shows
 
   abbrev named : List ℕ
   named = ras_before tracer ++ text
@@ -63,16 +104,27 @@ module _ (tracer : Tracer) (front : List ℕ) (seconds micros spaces : ℕ) (is 
   abbrev behind : List ℕ
   behind = replicate spaces 32 ++ named
 
-  abbrev line : List ℕ
-  line = event_head tracer front seconds micros spaces ++ text
+  abbrev whole : List ℕ
+  whole = event_head tracer front seconds micros spaces ++ text
 
-  line_is : line ≡ timed ++ (codes ": " ++ behind)
-  line_is =
+  -- the line behind a name in columns
+  abbrev line : List ℕ
+  line = unnamed ++ 32 ∷ (shows ++ 58 ∷ 32 ∷ behind)
+
+  whole_is : whole ≡ front ++ 32 ∷ (shows ++ 58 ∷ 32 ∷ behind)
+  whole_is =
       let tail : List ℕ = replicate spaces 32 ++ ras_before tracer in
       append_assoc front (32 ∷ (shows ++ 58 ∷ 32 ∷ tail)) text
       ∙ ap (λ (rest : List ℕ). front ++ 32 ∷ rest) (append_assoc shows (58 ∷ 32 ∷ tail) text)
       ∙ ap (λ (rest : List ℕ). front ++ 32 ∷ (shows ++ 58 ∷ 32 ∷ rest)) (append_assoc (replicate spaces 32) (ras_before tracer) text)
-      ∙ sym (append_assoc front (32 ∷ shows) (codes ": " ++ behind))
+
+  unnamed_is : behind_name whole ≡ line
+  unnamed_is =
+      ap behind_name whole_is
+      ∙ named_front front (shows ++ 58 ∷ 32 ∷ behind) (no_dash tracer seconds micros spaces is.most is.six name rest plain long)
+
+  line_is : line ≡ timed ++ (codes ": " ++ behind)
+  line_is = sym (append_assoc unnamed (32 ∷ shows) (codes ": " ++ behind))
 
   placed : mark_place (codes ": ") line ≡ Some (length timed)
   placed =
@@ -108,19 +160,19 @@ module _ (tracer : Tracer) (front : List ℕ) (seconds micros spaces : ℕ) (is 
   one_more : length timed + 1 ≡ length (timed ++ 58 ∷ [])
   one_more = omega (arith, length-append timed (58 ∷ []))
 
-  stamped_front : take (length timed + 1) line ≡ front ++ 32 ∷ stamp
+  stamped_front : take (length timed + 1) line ≡ unnamed ++ 32 ∷ stamp
   stamped_front =
       ap (λ (n : ℕ). take n line) one_more
       ∙ ap (take (length (timed ++ 58 ∷ []))) split
       ∙ take-append_seam (timed ++ 58 ∷ []) (32 ∷ behind)
-      ∙ append_assoc front (32 ∷ shows) (58 ∷ [])
+      ∙ append_assoc unnamed (32 ∷ shows) (58 ∷ [])
 
   stamp_is : stamp_at (length timed) line ≡ Some (1000000 * seconds + micros)
   stamp_is =
       ap (λ (front : List ℕ). stamp_of (last_word [] (cut_at 32 front))) stamped_front
-      ∙ ap (λ (words : List (List ℕ)). stamp_of (last_word [] words)) (split_between 32 front stamp)
-      ∙ ap (λ (words : List (List ℕ)). stamp_of (last_word [] (cut_at 32 front ++ words))) (split_lacking 32 stamp stamp_lacks)
-      ∙ ap stamp_of (last_behind [] (cut_at 32 front) stamp)
+      ∙ ap (λ (words : List (List ℕ)). stamp_of (last_word [] words)) (split_between 32 unnamed stamp)
+      ∙ ap (λ (words : List (List ℕ)). stamp_of (last_word [] (cut_at 32 unnamed ++ words))) (split_lacking 32 stamp stamp_lacks)
+      ∙ ap stamp_of (last_behind [] (cut_at 32 unnamed) stamp)
       ∙ stamp_read seconds micros is.most is.six
 
   rest_is : drop (length timed + 1) line ≡ 32 ∷ behind
@@ -132,11 +184,18 @@ module _ (tracer : Tracer) (front : List ℕ) (seconds micros spaces : ℕ) (is 
       ∙ ap without_system (passes behind ∙ all_passed spaces named)
       ∙ begins tracer
 
-  pub event_at : line_event_of line ≡ event_behind (Some (1000000 * seconds + micros)) text
-  event_at =
+  clocked : clock_event line ≡ event_behind (Some (1000000 * seconds + micros)) text
+  clocked =
       ap (λ (o : Option ℕ). option_map_or (λ place. event_behind (stamp_at place line) (named_text place line)) o Absent) place_is
       ∙ ap (λ (o : Option ℕ). event_behind o (named_text (length timed) line)) stamp_is
       ∙ ap (event_behind (Some (1000000 * seconds + micros))) named_is
+
+  pub event_at : (event : LineEvent) → event_behind (Some (1000000 * seconds + micros)) text ≡ event
+      → event_or_unread line event ≡ event → line_event_of whole ≡ event
+  event_at event read kept =
+      ap (λ (text : List ℕ). event_or_unread text (clock_event text)) unnamed_is
+      ∙ ap (event_or_unread line) (clocked ∙ read)
+      ∙ kept
 
 -- ---- PCI Express errors
 
@@ -161,9 +220,11 @@ module _ (tracer : Tracer) (front : List ℕ) (seconds micros spaces more : ℕ)
 
   pub line_read : line_event_of (aer_line (event_head tracer front seconds micros spaces) more p) ≡ Found (record { stamp = 1000000 * seconds + micros; event = event_of p })
   line_read =
-      event_at tracer front seconds micros spaces is aer_named aer_begins
-      ∙ ap (λ (text : List ℕ). found_event (Some (1000000 * seconds + micros)) (aer_event_of text)) (all_passed more (aer_text p) ∙ unspaced)
-      ∙ ap (found_event (Some (1000000 * seconds + micros))) (text_read p within)
+      event_at tracer front seconds micros spaces is (codes "aer_event: ") (replicate more 32 ++ aer_text p)
+      (literal_lacks 45 (codes "aer_event: ") refl) (omega arith) aer_begins (Found (record { stamp = 1000000 * seconds + micros; event = event_of p }))
+      (ap (λ (text : List ℕ). found_event (Some (1000000 * seconds + micros)) (aer_event_of text)) (all_passed more (aer_text p) ∙ unspaced)
+      ∙ ap (found_event (Some (1000000 * seconds + micros))) (text_read p within))
+      refl
 
 -- ---- sections
 
@@ -180,14 +241,16 @@ module _ (tracer : Tracer) (front : List ℕ) (seconds micros spaces more : ℕ)
   pub section_read : line_event_of (section_line (event_head tracer front seconds micros spaces) more p)
       ≡ Section (record { stamp = 1000000 * seconds + micros; head = head_of_section p })
   section_read =
-      event_at tracer front seconds micros spaces is section_named section_begins
-      ∙ ap (λ (text : List ℕ). found_section (Some (1000000 * seconds + micros)) (section_head_of text)) (all_passed more (printed_section p))
-      ∙ ap (found_section (Some (1000000 * seconds + micros))) (head_read p within)
+      event_at tracer front seconds micros spaces is (codes "non_standard_event: ") (replicate more 32 ++ printed_section p)
+      (literal_lacks 45 (codes "non_standard_event: ") refl) (omega arith) section_begins (Section (record { stamp = 1000000 * seconds + micros; head = head_of_section p }))
+      (ap (λ (text : List ℕ). found_section (Some (1000000 * seconds + micros)) (section_head_of text)) (all_passed more (printed_section p))
+      ∙ ap (found_section (Some (1000000 * seconds + micros))) (head_read p within))
+      refl
 
   pub section_bytes_read : section_bytes_of (head_of_section p) (section_line (event_head tracer front seconds micros spaces) more p) ≡ Some p.bytes
   section_bytes_read =
       let head : List ℕ = event_head tracer front seconds micros spaces in
-      let raw : List ℕ = raw_text p.bytes in
+      let raw : List ℕ = raw_text p in
       bytes_are p within (section_line head more p)
       (ends_behind head raw section_named
       (ends_behind (codes "non_standard_event: ") raw (replicate more 32 ++ printed_section p)
@@ -208,9 +271,11 @@ module _ (tracer : Tracer) (front : List ℕ) (seconds micros spaces more : ℕ)
   pub memory_read : line_event_of (memory_line (event_head tracer front seconds micros spaces) more p)
       ≡ Memory (record { stamp = 1000000 * seconds + micros; error = error_of_memory p })
   memory_read =
-      event_at tracer front seconds micros spaces is memory_named memory_begins
-      ∙ ap (controller_event (Some (1000000 * seconds + micros))) (all_passed more (printed_memory p))
-      ∙ controller_read p within (Some (1000000 * seconds + micros))
+      event_at tracer front seconds micros spaces is (codes "mc_event: ") (replicate more 32 ++ printed_memory p)
+      (literal_lacks 45 (codes "mc_event: ") refl) (omega arith) memory_begins (Memory (record { stamp = 1000000 * seconds + micros; error = error_of_memory p }))
+      (ap (controller_event (Some (1000000 * seconds + micros))) (all_passed more (printed_memory p))
+      ∙ controller_read p within (Some (1000000 * seconds + micros)))
+      refl
 
 module _ (tracer : Tracer) (front : List ℕ) (seconds micros spaces more : ℕ) (p : PrintedExtlog)
     (is : IsFront front seconds micros) (within : IsExtlog p) where
@@ -225,6 +290,8 @@ module _ (tracer : Tracer) (front : List ℕ) (seconds micros spaces more : ℕ)
   pub extlog_read : line_event_of (extlog_line (event_head tracer front seconds micros spaces) more p)
       ≡ Memory (record { stamp = 1000000 * seconds + micros; error = error_of_extlog p })
   extlog_read =
-      event_at tracer front seconds micros spaces is extlog_named extlog_begins
-      ∙ ap (λ (text : List ℕ). found_memory (Some (1000000 * seconds + micros)) (extlog_error_of text)) (all_passed more (printed_extlog p))
-      ∙ ap (found_memory (Some (1000000 * seconds + micros))) (extlog_text_read p within)
+      event_at tracer front seconds micros spaces is (codes "extlog_mem_event: ") (replicate more 32 ++ printed_extlog p)
+      (literal_lacks 45 (codes "extlog_mem_event: ") refl) (omega arith) extlog_begins (Memory (record { stamp = 1000000 * seconds + micros; error = error_of_extlog p }))
+      (ap (λ (text : List ℕ). found_memory (Some (1000000 * seconds + micros)) (extlog_error_of text)) (all_passed more (printed_extlog p))
+      ∙ ap (found_memory (Some (1000000 * seconds + micros))) (extlog_text_read p within))
+      refl

@@ -1,10 +1,12 @@
 -- The event of a memory controller is read as the kernel prints it.
-use Rattle.std.proofs.Common.{◌≡◌, ℕ, zero, suc, ◌+◌, ◌*◌, ◌-◌, ◌^◌, ◌<◌, ◌==◌, ◌&&◌, ◌||◌, Bool, true, false, not, nat_eq, List, [], ◌∷◌, ◌++◌, codes, decimal, refl, ap, ◌∙◌, arith, append_assoc, Option, Some, None, if◌then◌else◌}
-use Rattle.std.specs.Prelude.{unwrap_or, IfSome}
+use Rattle.std.proofs.Common.{◌≡◌, ℕ, zero, suc, ◌+◌, ◌*◌, ◌-◌, ◌^◌, ◌<◌, ◌==◌, ◌&&◌, ◌||◌, Bool, true, false, not, nat_eq, List, [], ◌∷◌, ◌++◌, codes, decimal, drop, take, refl, sym, subst, ap, ◌∙◌, arith, append_assoc, Option, Some, None, if◌then◌else◌}
+use Rattle.std.specs.Prelude.{is_some, unwrap_or, IfSome}
 use Rattle.std.specs.Fmt.{digits}
 use Rattle.std.specs.Int.{is_power_of_two}
 use Rattle.std.specs.Int.RustNames.{count_ones}
-use Rattle.std.specs.List.{ends_with, list_all}
+use Rattle.std.specs.List.{ends_with, list_all, position_or_len}
+use Rattle.std.proofs.lemmas.List.{take-append-drop}
+use Rattle.std.proofs.lemmas.Slice.Eq.{bytes_eq-Decides}
 use Rattle.std.specs.Option.{option_map_or}
 use Rattle.std.specs.Str.{bytes_eq}
 use Rattle.std.proofs.lemmas.Bool.Decides.{nat_tests}
@@ -13,7 +15,7 @@ use Rattle.ras_klog.specs.Reading.{provided, read_then}
 use Rattle.ras_script.specs.Number.{decimal_of, hexadecimal_of}
 use Rattle.ras_script.specs.SplittingLaws.{Lacks}
 use Rattle.bank_lines.specs.Kernel.{padded}
-use Rattle.bank_lines.specs.LogHeads.{after, up_to}
+use Rattle.bank_lines.specs.LogHeads.{after, mark_place, up_to}
 use Rattle.bank_lines.specs.Parts.{value_after}
 use Rattle.bank_lines.proofs.KernelLemmas.{padded_lacks, padded_read}
 use Rattle.bank_lines.proofs.LogTextLemmas.{after_is, up_to_is}
@@ -21,14 +23,15 @@ use Rattle.bank_lines.proofs.NumeralLemmas.{decimal_lacks, lack_both, literal_la
 use Rattle.block_lines.specs.Lines.{location_of}
 use Rattle.block_lines.specs.declared.memory.ErrorLocation.{ErrorLocation}
 use Rattle.block_lines.specs.declared.memory.MemoryError.{MemoryError}
-use Rattle.event_lines.specs.Memory.{address_told, addresses_in, behind_controller, controller_error_of, controller_of, detail_in, grain_mask, grain_of, kind_before, type_severity}
+use Rattle.event_lines.specs.Memory.{address_told, addresses_in, behind_controller, controller_error_of, controller_of, detail_in, firmware_mark, grain_mask, grain_of, kind_before, type_severity}
 use Rattle.event_lines.specs.MemoryKernel.{IsMemory, PrintedMemory, before_more, controller_text, error_of_memory, grain_text, memory_front, message_text, number_before, places_text, printed_memory, severity_name}
-use Rattle.event_lines.specs.Traced.{controller_event, found_memory}
+use Rattle.event_lines.specs.Traced.{controller_event, found_memory, other_event}
 use Rattle.event_lines.specs.declared.traced.LineEvent.TheVariants.{Absent, Unread}
 use Rattle.event_lines.proofs.AerLemmas.{last_cut}
 use Rattle.event_lines.proofs.ControllerLemmas.{HasNone, last_behind_mark, none_before, none_behind_space}
 use Rattle.event_lines.proofs.KindLemmas.{kind_is_before}
 use Rattle.event_lines.proofs.PlaceLemmas.{places_read}
+use Rattle.event_lines.proofs.PlacedLemmas.{Stands, stands_behind}
 use Rattle.event_lines.proofs.SectionEventLemmas.{all_below, and_left, and_right, below, is_read, read_is}
 
 -- ---- the grain: a test of all 32
@@ -168,13 +171,47 @@ controller_at front controller none =
     ap (λ (o : Option (List ℕ)). read_then o behind_controller) (last_cut 41 (front ++ (codes " (mc:" ++ controller)))
     ∙ last_behind_mark front controller none
 
+-- what is behind a byte stands in the whole text too
+stands_whole : (byte : ℕ) (text : List ℕ) → Stands firmware_mark (after byte text) → Stands firmware_mark text
+stands_whole byte text stands =
+    let k : ℕ = position_or_len (λ b. b == byte) text + 1 in
+    subst (Stands firmware_mark) (take-append-drop k text) (stands_behind firmware_mark (take k text) (drop k text) stands)
+
+-- what the detail begins with stands in the parentheses
+detail_stands : (controller places : List ℕ) → value_after firmware_mark (detail_in controller) ≡ Some places → Stands firmware_mark controller
+detail_stands controller places is =
+    stands_whole 32 controller (stands_whole 32 (after 32 controller)
+    (stands_whole 32 (addresses_in controller) (stands_whole 32 (after 32 (addresses_in controller))
+    (stands_whole 32 (after 32 (after 32 (addresses_in controller))) (begins (detail_in controller) is)))))
+  where
+    begins : (text : List ℕ) → value_after firmware_mark text ≡ Some places → Stands firmware_mark text
+    begins text is = by (bytes_eq (take 15 text) firmware_mark) refl is
+      where
+        by : (same : Bool) → bytes_eq (take 15 text) firmware_mark ≡ same → (if same then Some (drop 15 text) else None) ≡ Some places → Stands firmware_mark text
+        by true same is =
+            let front : take 15 text ≡ firmware_mark = (bytes_eq-Decides (take 15 text) firmware_mark).0 same in
+            let whole : firmware_mark ++ drop 15 text ≡ text = ap (λ (t : List ℕ). t ++ drop 15 text) (sym front) ∙ take-append-drop 15 text in
+            subst (Stands firmware_mark) whole (record { place = 0; is = refl })
+        by false same is = absurd cc
+
 pub other_driver : (stamp : Option ℕ) (front controller : List ℕ) → behind_controller controller ≡ None
-    → value_after (codes "APEI location: ") (detail_in controller) ≡ None
+    → mark_place firmware_mark controller ≡ None
     → controller_event stamp ((front ++ (codes " (mc:" ++ controller)) ++ codes ")") ≡ Absent
 other_driver stamp front controller none other =
-    ap (λ (o : Option (List ℕ)). option_map_or (λ inside. option_map_or (λ places. found_memory stamp (controller_error_of ((front ++ (codes " (mc:" ++ controller)) ++ codes ")") inside places))
-    (value_after (codes "APEI location: ") (detail_in inside)) Absent) o Unread) (controller_at front controller none)
-    ∙ ap (λ (o : Option (List ℕ)). option_map_or (λ places. found_memory stamp (controller_error_of ((front ++ (codes " (mc:" ++ controller)) ++ codes ")") controller places)) o Absent) other
+    ap (λ (o : Option (List ℕ)). option_map_or (λ inside. option_map_or (λ places. found_memory stamp (controller_error_of text inside places)) (value_after firmware_mark (detail_in inside)) (other_event inside)) o Unread)
+    (controller_at front controller none)
+    ∙ by (value_after firmware_mark (detail_in controller)) refl
+  where
+    text : List ℕ
+    text = (front ++ (codes " (mc:" ++ controller)) ++ codes ")"
+
+    by : (o : Option (List ℕ)) → value_after firmware_mark (detail_in controller) ≡ o
+        → option_map_or (λ places. found_memory stamp (controller_error_of text controller places)) o (other_event controller) ≡ Absent
+    by None is = ap (λ (o : Option ℕ). if is_some o then Unread else Absent) other
+    by (Some places) is = absurd (nowhere (sym other ∙ (detail_stands controller places is).is))
+      where
+        nowhere : None ≡ Some (detail_stands controller places is).place → ⊥
+        nowhere is = cc
 
 pub cut_event : (stamp : Option ℕ) (text : List ℕ) → ends_with nat_eq text (41 ∷ []) ≡ false → controller_event stamp text ≡ Unread
 cut_event stamp text is = rw is refl

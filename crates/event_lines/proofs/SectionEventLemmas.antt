@@ -1,8 +1,9 @@
 -- A section's event is read as the kernel prints it.
-use Rattle.std.proofs.Common.{◌≡◌, ℕ, zero, suc, inl, ◌+◌, ◌-◌, ◌^◌, ◌<◌, ◌==◌, ◌&&◌, Bool, true, false, not, nat_le, nat_lt, List, [], ◌∷◌, ◌++◌, codes, decimal, length, map, refl, sym, ap, ◌∙◌, arith, append_assoc, Option, Some, None, if◌then◌else◌}
+use Rattle.std.proofs.Common.{◌≡◌, ℕ, zero, suc, inl, inr, ◌⊎◌, ◌+◌, ◌-◌, ◌/◌, ◌%◌, ◌^◌, ◌<◌, ◌==◌, ◌&&◌, Bool, true, false, not, nat_le, nat_lt, List, [], ◌∷◌, ◌++◌, codes, decimal, drop, length, refl, sym, ap, ◌∙◌, arith, append_assoc, Option, Some, None, if◌then◌else◌}
 use Rattle.std.specs.Prelude.{unwrap_or}
 use Rattle.std.proofs.lemmas.Bool.Decides.{nat_tests}
-use Rattle.std.specs.List.{AllByRecursion, join_with_byte, list_all}
+use Rattle.std.specs.Fmt.{digit_glyph}
+use Rattle.std.specs.List.{AllByRecursion, list_all}
 use Rattle.std.specs.Option.{option_map}
 use Rattle.uuid.specs.Text.{by_index, digit_place, hex_digit, hyphenated_text, is_hyphen_place, lower, nibble, parsed}
 use Rattle.uuid.proofs.RoundTrips.{parses_hyphenated}
@@ -17,10 +18,10 @@ use Rattle.bank_lines.specs.Trace.{last_word}
 use Rattle.bank_lines.proofs.LogTextLemmas.{after_is, up_to_is}
 use Rattle.bank_lines.proofs.NumeralLemmas.{both, decimal_lacks, lack_both, literal_lacks}
 use Rattle.bank_lines.proofs.TraceHeadLemmas.{last_behind}
-use Rattle.event_lines.specs.SectionEvent.{byte_of, bytes_read, cper_of_ghes, last_two, raw_text_of, section_bytes_of, section_head_of}
-use Rattle.event_lines.specs.SectionKernel.{IsSection, PrintedSection, head_of_section, printed_section, raw_text, size_text, two_digits, unit_text}
+use Rattle.event_lines.specs.SectionEvent.{byte_of, bytes_from, cper_of_ghes, last_two, raw_text_of, section_bytes_of, section_head_of}
+use Rattle.event_lines.specs.SectionKernel.{IsSection, PrintedSection, Rows, before_byte, bytes_text, head_of_section, printed_section, raw_text, rows_joined, rows_spaced, size_text, two_digits, unit_text}
 use Rattle.event_lines.specs.declared.section_event.SectionHead.{SectionHead}
-use Rattle.event_lines.proofs.FlagLemmas.{joined_lack, words_split}
+use Rattle.event_lines.proofs.FlagLemmas.{words_split}
 
 -- ---- bytes: a test of all 256
 
@@ -76,23 +77,66 @@ byte_lacks b small =
       literal_lacks 59 word (and_right (list_all (λ b. not (b == 32)) word) (list_all (λ b. not (b == 59)) word) lacks),
     )
 
-words_read : (bytes : List ℕ) → AllByRecursion (λ b. b < 256) bytes → bytes_read (map two_digits bytes) ≡ Some bytes
-words_read [] all = refl
-words_read (b ∷ bytes) all =
-    ap (λ (o : Option ℕ). read_then o (λ b. option_map (λ bytes. b ∷ bytes) (bytes_read (map two_digits bytes)))) (byte_read b all.0)
-    ∙ ap (λ (o : Option (List ℕ)). option_map (λ bytes. b ∷ bytes) o) (words_read bytes all.1)
+-- before a byte stands a space, or nothing behind a row
+abbrev gap : Bool → List ℕ
+gap full = if full then [] else 32 ∷ []
 
-words_lack_32 : (bytes : List ℕ) → AllByRecursion (λ b. b < 256) bytes → AllByRecursion (Lacks 32) (map two_digits bytes)
-words_lack_32 [] all = tt
-words_lack_32 (b ∷ bytes) all = ((byte_lacks b all.0).0, words_lack_32 bytes all.1)
+blank_is : (rows : Rows) (count : ℕ) → 0 < count → (before_byte rows count ≡ gap false) ⊎ ((before_byte rows count ≡ gap true) × ((count % 16 == 0) ≡ true))
+blank_is rows_joined count some = by (count % 16 == 0) refl
+  where
+    by : (full : Bool) → (count % 16 == 0) ≡ full → (gap full ≡ gap false) ⊎ ((gap full ≡ gap true) × ((count % 16 == 0) ≡ true))
+    by true is = inr (refl, is)
+    by false is = inl refl
+blank_is rows_spaced count some = let other : (count == 0) ≡ false = grind (arith, nat_tests, some) in inl (ap gap other)
 
-words_lack_59 : (bytes : List ℕ) → AllByRecursion (λ b. b < 256) bytes → AllByRecursion (Lacks 59) (map two_digits bytes)
-words_lack_59 [] all = tt
-words_lack_59 (b ∷ bytes) all = ((byte_lacks b all.0).1, words_lack_59 bytes all.1)
+module _ (rows : Rows) (count b c : ℕ) (bytes : List ℕ) (small : b < 256) (fits : c < 256) where
+  abbrev more : List ℕ
+  more = two_digits c ++ bytes_text rows (count + 1 + 1) bytes
 
-some_words : (bytes : List ℕ) → 0 < length bytes → 0 < length (map two_digits bytes)
-some_words [] some = some
-some_words (b ∷ bytes) some = omega arith
+  abbrev rest_read : Option (List ℕ) → Option ℕ → Option (List ℕ)
+  rest_read read o = read_then o (λ b. option_map (λ bytes. b ∷ bytes) read)
+
+  is_digit_there : (digit_glyph false (c / 16) == 32) ≡ false
+  is_digit_there = let other : ¬ (digit_glyph false (c / 16) ≡ 32) = (byte_lacks c fits).0.0 in grind (arith, nat_tests, other)
+
+  both_read : bytes_from (count + 1) more ≡ Some (c ∷ bytes) → rest_read (bytes_from (count + 1) more) (byte_of (two_digits b)) ≡ Some (b ∷ c ∷ bytes)
+  both_read next =
+      ap (λ (read : Option (List ℕ)). rest_read read (byte_of (two_digits b))) next
+      ∙ ap (rest_read (Some (c ∷ bytes))) (byte_read b small)
+
+  next_read : bytes_from (count + 1) more ≡ Some (c ∷ bytes) → (blank : List ℕ) → (blank ≡ gap false) ⊎ ((blank ≡ gap true) × (((count + 1) % 16 == 0) ≡ true))
+      → bytes_from count (two_digits b ++ (blank ++ more)) ≡ Some (b ∷ c ∷ bytes)
+  next_read next blank (inl is) = ap (λ (blank : List ℕ). bytes_from count (two_digits b ++ (blank ++ more))) is ∙ both_read next
+  next_read next blank (inr is) =
+      ap (λ (blank : List ℕ). bytes_from count (two_digits b ++ (blank ++ more))) is.0
+      ∙ ap (λ (space : Bool). rest_read (if space then bytes_from (count + 1) (drop 1 more) else if (count + 1) % 16 == 0 then bytes_from (count + 1) more else None) (byte_of (two_digits b))) is_digit_there
+      ∙ ap (λ (full : Bool). rest_read (if full then bytes_from (count + 1) more else None) (byte_of (two_digits b))) is.1
+      ∙ both_read next
+
+digits_read : (rows : Rows) (count b : ℕ) (bytes : List ℕ) → b < 256 → AllByRecursion (λ b. b < 256) bytes
+    → bytes_from count (two_digits b ++ bytes_text rows (count + 1) bytes) ≡ Some (b ∷ bytes)
+digits_read rows count b [] small all = ap (λ (o : Option ℕ). option_map (λ b. b ∷ []) o) (byte_read b small)
+digits_read rows count b (c ∷ bytes) small all =
+    next_read rows count b c bytes small all.0 (digits_read rows (count + 1) c bytes all.0 all.1) (before_byte rows (count + 1)) (blank_is rows (count + 1) (omega arith))
+
+all_read : (rows : Rows) (bytes : List ℕ) → 0 < length bytes → AllByRecursion (λ b. b < 256) bytes → bytes_from 0 (bytes_text rows 0 bytes) ≡ Some bytes
+all_read rows [] some all = absurd (omega (arith, some))
+all_read rows_joined (b ∷ bytes) some all = digits_read rows_joined 0 b bytes all.0 all.1
+all_read rows_spaced (b ∷ bytes) some all = digits_read rows_spaced 0 b bytes all.0 all.1
+
+gap_lacks : (full : Bool) → Lacks 59 (gap full)
+gap_lacks true = tt
+gap_lacks false = ((λ (e : ◌≡◌ {A = ℕ} 32 59). omega (arith, e)), tt)
+
+blank_lacks : (rows : Rows) (count : ℕ) → Lacks 59 (before_byte rows count)
+blank_lacks rows_joined count = gap_lacks (count % 16 == 0)
+blank_lacks rows_spaced count = gap_lacks (count == 0)
+
+text_lacks : (rows : Rows) (count : ℕ) (bytes : List ℕ) → AllByRecursion (λ b. b < 256) bytes → Lacks 59 (bytes_text rows count bytes)
+text_lacks rows count [] all = tt
+text_lacks rows count (b ∷ bytes) all =
+    lack_both 59 (before_byte rows count) (two_digits b ++ bytes_text rows (count + 1) bytes) (blank_lacks rows count)
+    (lack_both 59 (two_digits b) (bytes_text rows (count + 1) bytes) (byte_lacks b all.0).1 (text_lacks rows (count + 1) bytes all.1))
 
 -- ---- the type
 
@@ -163,10 +207,10 @@ module _ (p : PrintedSection) (within : IsSection p) where
   size_lacks : Lacks 59 (size_text p.bytes)
   size_lacks = lack_both 59 (codes " data len:") count (literal_lacks 59 (codes " data len:") refl) (decimal_lacks 59 (length p.bytes) (omega arith) few)
 
-  raw_lacks : Lacks 59 (raw_text p.bytes)
+  raw_lacks : Lacks 59 (raw_text p)
   raw_lacks =
-      lack_both 59 (codes " raw data:") (join_with_byte 32 (map two_digits p.bytes)) (literal_lacks 59 (codes " raw data:") refl)
-      (joined_lack 32 59 (map two_digits p.bytes) (λ (e : ◌≡◌ {A = ℕ} 32 59). omega (arith, e)) (words_lack_59 p.bytes within.bytes))
+      lack_both 59 (codes " raw data:") (bytes_text p.rows 0 p.bytes) (literal_lacks 59 (codes " raw data:") refl)
+      (text_lacks p.rows 0 p.bytes within.bytes)
 
   guid_lacks : Lacks 59 guid
   guid_lacks =
@@ -178,11 +222,11 @@ module _ (p : PrintedSection) (within : IsSection p) where
 
   size_is : (last_two ([], []) (cut_at 59 (unit_text p))).0 ≡ size_text p.bytes
   size_is =
-      let tail : List ℕ = size_text p.bytes ++ 59 ∷ raw_text p.bytes in
+      let tail : List ℕ = size_text p.bytes ++ 59 ∷ raw_text p in
       ap (λ (parts : List (List ℕ)). (last_two ([], []) parts).0) (split_between 59 p.unit tail)
       ∙ ap (λ (parts : List (List ℕ)). (last_two ([], []) (cut_at 59 p.unit ++ parts)).0)
-      (words_split 59 (size_text p.bytes ∷ raw_text p.bytes ∷ []) (omega arith) (size_lacks, (raw_lacks, tt)))
-      ∙ ap (λ (pair : List ℕ × List ℕ). pair.0) (two_last ([], []) (cut_at 59 p.unit) (size_text p.bytes) (raw_text p.bytes))
+      (words_split 59 (size_text p.bytes ∷ raw_text p ∷ []) (omega arith) (size_lacks, (raw_lacks, tt)))
+      ∙ ap (λ (pair : List ℕ × List ℕ). pair.0) (two_last ([], []) (cut_at 59 p.unit) (size_text p.bytes) (raw_text p))
 
   abbrev with_count : List ℕ → ℕ → Option ℕ → Option SectionHead
   with_count kind number o = read_then o (λ count. Some (record { kind = kind; severity = cper_of_ghes number; size = count }))
@@ -216,7 +260,7 @@ module _ (p : PrintedSection) (within : IsSection p) where
   -- ---- its bytes
 
   abbrev raw : List ℕ
-  raw = raw_text p.bytes
+  raw = raw_text p
 
   ends_size : EndsIn raw (59 ∷ (size_text p.bytes ++ 59 ∷ raw))
   ends_size = ends_behind (59 ∷ size_text p.bytes) raw (59 ∷ raw) (record { front = []; is = refl })
@@ -231,14 +275,13 @@ module _ (p : PrintedSection) (within : IsSection p) where
   pub ends_whole : EndsIn raw (printed_section p)
   ends_whole = ends_behind (codes "severity: ") raw severities (ends_behind (decimal p.severity) raw (59 ∷ types) ends_type)
 
-  pub bytes_are : (line : List ℕ) → EndsIn (raw_text p.bytes) line → section_bytes_of (head_of_section p) line ≡ Some p.bytes
+  pub bytes_are : (line : List ℕ) → EndsIn (raw_text p) line → section_bytes_of (head_of_section p) line ≡ Some p.bytes
   bytes_are line end =
       let same : (length p.bytes == length p.bytes) ≡ true = grind (arith, nat_tests) in
       let small : nat_le (length p.bytes) 19800 ≡ true = grind (arith, nat_tests, within.few) in
-      let told : raw_text_of line ≡ join_with_byte 32 (map two_digits p.bytes) =
-      ap (λ (last : List ℕ). unwrap_or (value_after (codes " raw data:") last) []) (last_part (raw_text p.bytes) line raw_lacks end) in
-      ap (λ (text : List ℕ). read_then (bytes_read (cut_at 32 text)) (λ bytes. provided (length bytes == length p.bytes && nat_le (length bytes) 19800) (Some bytes))) told
-      ∙ ap (λ (words : List (List ℕ)). read_then (bytes_read words) (λ bytes. provided (length bytes == length p.bytes && nat_le (length bytes) 19800) (Some bytes)))
-      (words_split 32 (map two_digits p.bytes) (some_words p.bytes within.some) (words_lack_32 p.bytes within.bytes))
-      ∙ ap (λ (o : Option (List ℕ)). read_then o (λ bytes. provided (length bytes == length p.bytes && nat_le (length bytes) 19800) (Some bytes))) (words_read p.bytes within.bytes)
+      let told : raw_text_of line ≡ bytes_text p.rows 0 p.bytes =
+      ap (λ (last : List ℕ). unwrap_or (value_after (codes " raw data:") last) []) (last_part (raw_text p) line raw_lacks end) in
+      ap (λ (text : List ℕ). read_then (bytes_from 0 text) (λ bytes. provided (length bytes == length p.bytes && nat_le (length bytes) 19800) (Some bytes))) told
+      ∙ ap (λ (o : Option (List ℕ)). read_then o (λ bytes. provided (length bytes == length p.bytes && nat_le (length bytes) 19800) (Some bytes)))
+      (all_read p.rows p.bytes within.some within.bytes)
       ∙ rw (same, small) refl

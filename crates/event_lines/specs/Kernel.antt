@@ -94,6 +94,17 @@ abbrev pub event_head : Tracer → List ℕ → ℕ → ℕ → ℕ → List ℕ
 event_head tracer front seconds micros spaces =
     front ++ 32 ∷ (clock seconds micros ++ 58 ∷ 32 ∷ (replicate spaces 32 ++ ras_before tracer))
 
+-- the events of which each line counts; a memory controller's event may be another driver's
+pub data EventKind : Type 0 where
+  aer_kind : EventKind
+  section_kind : EventKind
+  extlog_kind : EventKind
+
+abbrev pub kind_name : EventKind → List ℕ
+kind_name aer_kind = codes "aer_event:"
+kind_name section_kind = codes "non_standard_event:"
+kind_name extlog_kind = codes "extlog_mem_event:"
+
 -- the line of an event, with spaces between its name and its text
 abbrev pub aer_line : List ℕ → ℕ → PrintedAer → List ℕ
 aer_line head spaces p = head ++ (codes "aer_event: " ++ (replicate spaces 32 ++ aer_text p))

@@ -121,6 +121,10 @@ controller_error_of text controller places =
       kind = kind_before (codes " on ") message;
     })))))))
 
+-- the name of the firmware's detail
+abbrev pub firmware_mark : List ℕ
+firmware_mark = codes "APEI location: "
+
 -- ---- `extlog_mem_event`
 
 -- The mask and where the error is, `(mask lsb: <bit>) <places>FRU: `. The text of a unit, and of the module before it,

@@ -1,6 +1,6 @@
 -- What the text of the event `non_standard_event` says: include/ras/ras_event.h, `TRACE_EVENT(non_standard_event, ..)`.
 -- It has the whole section, so nothing of it is lost.
-use Rattle.std.specs.Prelude.{ℕ, ◌==◌, ◌&&◌, List, [], ◌∷◌, codes, length, nat_le, Option, Some, unwrap_or, if◌then◌else◌}
+use Rattle.std.specs.Prelude.{ℕ, ◌+◌, ◌%◌, ◌==◌, ◌&&◌, List, [], ◌∷◌, codes, drop, length, nat_le, slice_index, Option, None, Some, unwrap_or, if◌then◌else◌}
 use Rattle.std.specs.Option.{option_map}
 use Rattle.uuid.specs.Text.{parsed}
 use Rattle.ras_klog.specs.Reading.{provided, read_then}
@@ -42,9 +42,21 @@ section_head_of text =
 abbrev pub byte_of : List ℕ → Option ℕ
 byte_of word = provided (length word == 2) (hexadecimal_to 255 word)
 
-abbrev pub bytes_read : List (List ℕ) → Option (List ℕ)
-bytes_read [] = Some []
-bytes_read (word ∷ words) = read_then (byte_of word) (λ b. option_map (λ bytes. b ∷ bytes) (bytes_read words))
+-- What follows a byte and the space behind it, of a text that begins with the byte and goes on. A row has 16 bytes, and
+-- the space behind a row may be missing, so behind this many bytes.
+abbrev pub behind_byte : ℕ → List ℕ → Option (List ℕ)
+behind_byte count text =
+    if slice_index text 2 == 32 then Some (drop 3 text) else provided (count % 16 == 0) (Some (drop 2 text))
+
+-- the bytes of a text that has this many bytes before it
+abbrev pub bytes_from : ℕ → List ℕ → Option (List ℕ)
+bytes_from count (high ∷ low ∷ next ∷ text) =
+    read_then (byte_of (high ∷ low ∷ [])) (λ b.
+    option_map (λ bytes. b ∷ bytes) (
+    if next == 32 then bytes_from (count + 1) text
+    else if (count + 1) % 16 == 0 then bytes_from (count + 1) (next ∷ text)
+    else None))
+bytes_from count last = option_map (λ b. b ∷ []) (byte_of last)
 
 -- what a line has after `; raw data:`
 abbrev pub raw_text_of : List ℕ → List ℕ
@@ -53,5 +65,5 @@ raw_text_of line = unwrap_or (value_after (codes " raw data:") (last_word [] (cu
 -- the bytes of a section, if they can be read and are as many as its event says
 abbrev pub section_bytes_of : SectionHead → List ℕ → Option (List ℕ)
 section_bytes_of head line =
-    read_then (bytes_read (cut_at 32 (raw_text_of line))) (λ bytes.
+    read_then (bytes_from 0 (raw_text_of line)) (λ bytes.
     provided (length bytes == head.size && nat_le (length bytes) LONGEST_SECTION) (Some bytes))

@@ -1,14 +1,16 @@
 -- Which event a line has, where tracers print it: behind the clock, a colon and spaces, and after `ras:`, as perf
--- prints it. A process may choose text of other events, and its own name, but neither is there.
-use Rattle.std.specs.Prelude.{ℕ, ◌+◌, List, [], codes, drop, take, Option, Some, unwrap_or}
+-- prints it. A process may choose text of other events, and its own name, but neither is there. An event's name behind
+-- a clock elsewhere is never passed over: that line can't be read.
+use Rattle.std.specs.Prelude.{ℕ, ◌+◌, ◌==◌, ◌&&◌, ◌||◌, Bool, true, false, List, [], ◌∷◌, codes, drop, length, take, Option, Some, is_some, unwrap_or, if◌then◌else◌}
 use Rattle.std.specs.Option.{option_map_or}
+use Rattle.std.specs.Str.{bytes_eq}
 use Rattle.ras_klog.specs.Reading.{provided, read_then}
 use Rattle.bank_lines.specs.LogHeads.{mark_place, without_spaces}
 use Rattle.bank_lines.specs.Parts.{cut_at, value_after}
 use Rattle.bank_lines.specs.Stamp.{stamp_of}
-use Rattle.bank_lines.specs.Trace.{is_count, last_word}
-use Rattle.event_lines.specs.Aer.{aer_event_of}
-use Rattle.event_lines.specs.Memory.{controller_error_of, controller_of, detail_in, extlog_error_of}
+use Rattle.bank_lines.specs.Trace.{behind_name, is_count, last_word}
+use Rattle.event_lines.specs.Aer.{aer_event_of, before_last}
+use Rattle.event_lines.specs.Memory.{behind_controller, controller_error_of, controller_of, detail_in, extlog_error_of, firmware_mark}
 use Rattle.event_lines.specs.SectionEvent.{section_head_of}
 use Rattle.block_lines.specs.declared.memory.MemoryError.{MemoryError}
 use Rattle.event_lines.specs.declared.aer.AerEvent.{AerEvent}
@@ -46,13 +48,17 @@ abbrev pub found_memory : Option ℕ → Option MemoryError → LineEvent
 found_memory (Some stamp) (Some error) = Memory (record { stamp = stamp; error = error })
 found_memory stamp error = Unread
 
--- The event of a memory controller, by what is in its parentheses. An event that another driver made counts by its
--- machine check.
+-- an event with this in its parentheses, if the driver's detail doesn't begin with the firmware's name: another driver's,
+-- which counts by its machine check, unless the name is elsewhere
+abbrev pub other_event : List ℕ → LineEvent
+other_event controller = if is_some (mark_place firmware_mark controller) then Unread else Absent
+
+-- the event of a memory controller, by what is in its parentheses
 abbrev pub controller_event : Option ℕ → List ℕ → LineEvent
 controller_event stamp text =
     option_map_or (λ controller.
     option_map_or (λ places. found_memory stamp (controller_error_of text controller places))
-    (value_after (codes "APEI location: ") (detail_in controller)) Absent) (controller_of text) Unread
+    (value_after firmware_mark (detail_in controller)) (other_event controller)) (controller_of text) Unread
 
 -- which event a text behind a clock has; trace-cmd prints spaces between the name and the event's text
 abbrev pub event_behind : Option ℕ → List ℕ → LineEvent
@@ -64,7 +70,48 @@ event_behind stamp text =
     option_map_or (λ told. found_memory stamp (extlog_error_of (without_spaces told)))
     (value_after (codes "extlog_mem_event: ") text) Absent)))
 
+-- the event behind the first clock of a text
+abbrev pub clock_event : List ℕ → LineEvent
+clock_event text =
+    option_map_or (λ place. event_behind (stamp_at place text) (named_text place text)) (clock_place text) Absent
+
+-- ---- an event's name behind another clock
+
+-- what a tracer's clock shows, and its colon
+abbrev pub shows_clock : List ℕ → Bool
+shows_clock word = option_map_or is_count (before_last 58 word) false
+
+-- whether a word is an event's name and its colon; a memory controller's event only if the firmware's driver made it
+abbrev pub is_event_name : Bool → List ℕ → Bool
+is_event_name by_firmware word =
+    let name = unwrap_or (value_after (codes "ras:") word) word in
+    bytes_eq name (codes "aer_event:") || (bytes_eq name (codes "non_standard_event:")
+    || (bytes_eq name (codes "extlog_mem_event:") || (by_firmware && bytes_eq name (codes "mc_event:"))))
+
+-- whether one of these words is the name of an event with a clock and spaces before it, or the first of them is, behind
+-- a clock and spaces
+abbrev pub has_name : Bool → Bool → List (List ℕ) → Bool
+has_name by_firmware is_behind [] = false
+has_name by_firmware is_behind (word ∷ words) =
+    (is_behind && is_event_name by_firmware word)
+    || has_name by_firmware (shows_clock word || (is_behind && length word == 0)) words
+
+-- whether a text has the name of the firmware's detail behind its last ` (mc:`, or no ` (mc:`
+abbrev pub is_firmware : List ℕ → Bool
+is_firmware text =
+    option_map_or (λ behind. is_some (mark_place firmware_mark behind)) (behind_controller text) true
+
+-- whether a text has an event's name behind a clock, wherever both stand
+abbrev pub has_event : List ℕ → Bool
+has_event text =
+    is_some (mark_place (codes "_event:") text) && has_name (is_firmware text) false (cut_at 32 text)
+
+-- ---- a line
+
+abbrev pub event_or_unread : List ℕ → LineEvent → LineEvent
+event_or_unread text Absent = if has_event text then Unread else Absent
+event_or_unread text event = event
+
 -- which event a line has
 abbrev pub line_event_of : List ℕ → LineEvent
-line_event_of line =
-    option_map_or (λ place. event_behind (stamp_at place line) (named_text place line)) (clock_place line) Absent
+line_event_of line = let text = behind_name line in event_or_unread text (clock_event text)

@@ -1,7 +1,8 @@
 //! What the filter reads and makes.
 
 ghost use Rattle.std.specs.Prelude.{◌≡◌, ◌+◌, ◌*◌, ◌<◌, ◌≤◌, ◌^◌, ℕ, List, [], ◌∷◌, ◌++◌, codes};
-ghost use Rattle.std.specs.Prelude.{nat_eq, Option, None, Some, Ok, false};
+ghost use Rattle.std.specs.Prelude.{length, nat_eq, slice_index, Option, None, Some, Ok, false, true};
+ghost use Rattle.std.specs.Char.{is_digit};
 ghost use Rattle.std.specs.List.{AllByRecursion, ends_with};
 ghost use Rattle.apei_sources.specs.Blocks.{block_of};
 ghost use Rattle.apei_sources.specs.Entries.{entry_data, entry_guid, entry_severity};
@@ -11,17 +12,19 @@ ghost use Rattle.cper_sections.specs.declared.sections.Section.TheVariants as se
 ghost use Rattle.ras_facts.specs.Names.{same_name};
 ghost use Rattle.ras_script.specs.Line.{line_of};
 ghost use Rattle.ras_script.specs.LineLaws.{line_text};
-ghost use Rattle.bank_lines.specs.Parts.{value_after};
+ghost use Rattle.bank_lines.specs.LogHeads.{mark_place};
 ghost use Rattle.bank_lines.specs.TraceHeads.{IsFront, Tracer};
 ghost use Rattle.bank_lines.specs.declared.log_line.TheConstants.{LAST_SECOND};
+ghost use Rattle.bank_lines.specs.declared.stamp.TheConstants.{MOST_SECONDS};
 ghost use Rattle.block_lines.specs.Blocks.{error_entry_bytes, made_status};
 ghost use Rattle.block_lines.specs.Filter.{block_filter};
 ghost use Rattle.block_lines.specs.ReadBack.{IsError};
 ghost use Rattle.block_lines.specs.declared.memory.MemoryError.{MemoryError};
 ghost use Rattle.event_lines.specs.Aer.{aer_event_of, cper_severity};
 ghost use Rattle.event_lines.specs.Filter.{event_block, memory_block, report_filter};
-ghost use Rattle.event_lines.specs.Kernel.{IsEvent, PrintedAer, aer_line, aer_text, event_head, event_of};
-ghost use Rattle.event_lines.specs.Memory.{behind_controller, detail_in};
+ghost use Rattle.event_lines.specs.Kernel.{EventKind, IsEvent, PrintedAer, aer_line, aer_text, event_head, event_of};
+ghost use Rattle.event_lines.specs.Kernel.{kind_name};
+ghost use Rattle.event_lines.specs.Memory.{behind_controller, firmware_mark};
 ghost use Rattle.event_lines.specs.MemoryKernel.{IsExtlog, IsMemory, PrintedExtlog, PrintedMemory, error_of_extlog};
 ghost use Rattle.event_lines.specs.MemoryKernel.{error_of_memory, extlog_line, memory_line};
 ghost use Rattle.event_lines.specs.PcieBytes.{pcie_section_bytes};
@@ -69,13 +72,34 @@ pub fn printed_events_are_read()
         ≡ Memory (record { stamp = 1000000 * seconds + micros; error = error_of_extlog p }) }
 {}
 
-/// Which events of a memory controller are no errors of the firmware: another driver's event says
-/// nothing, whatever is before its last ` (mc:`, and an event that is cut before the parenthesis at
-/// its end can't be read.
+/// No event is passed over: a line that has an event's name behind a clock has an event, or can't be
+/// read. Whatever stands before the clock, as the name of a process, and whatever the event's text
+/// is. Of a memory controller's events these are the ones with the name of the firmware's detail
+/// behind the last ` (mc:`.
+pub fn events_are_never_passed_over()
+    ensures named { (kind : EventKind) (tracer : Tracer) (front text : List ℕ)
+        (seconds micros spaces : ℕ) → seconds ≤ MOST_SECONDS → micros < 1000000
+        → ¬ (line_event_of (event_head tracer front seconds micros spaces
+        ++ (kind_name kind ++ 32 ∷ text)) ≡ Absent) }
+    ensures memory { (tracer : Tracer) (front told inside : List ℕ) (seconds micros spaces : ℕ)
+        → seconds ≤ MOST_SECONDS → micros < 1000000 → behind_controller inside ≡ None
+        → ¬ (mark_place firmware_mark inside ≡ None)
+        → ¬ (line_event_of (event_head tracer front seconds micros spaces
+        ++ (codes "mc_event:" ++ 32 ∷ (told ++ (codes " (mc:" ++ inside)))) ≡ Absent) }
+
+    // What a line has doesn't depend on the name of a process in its 16 columns. So no process makes
+    // or hides an event by its name.
+    ensures names { (name other rest : List ℕ) → length name ≡ 16 → length other ≡ 16
+        → is_digit (slice_index rest 0) 10 ≡ true
+        → line_event_of (name ++ 45 ∷ rest) ≡ line_event_of (other ++ 45 ∷ rest) }
+{}
+
+/// Which events of a memory controller are no errors of the firmware: another driver's event, which
+/// lacks the name of the firmware's detail, says nothing, whatever is before its last ` (mc:`, and
+/// an event that is cut before the parenthesis at its end can't be read.
 pub fn other_controller_events_are_no_errors()
     ensures driver { (stamp : Option ℕ) (front controller : List ℕ)
-        → behind_controller controller ≡ None
-        → value_after (codes "APEI location: ") (detail_in controller) ≡ None
+        → behind_controller controller ≡ None → mark_place firmware_mark controller ≡ None
         → controller_event stamp ((front ++ (codes " (mc:" ++ controller)) ++ codes ")") ≡ Absent }
     ensures cut { (stamp : Option ℕ) (text : List ℕ) → ends_with nat_eq text (codes ")") ≡ false
         → controller_event stamp text ≡ Unread }

@@ -18,6 +18,6 @@ mod traced;
 pub use aer::{AerDevice, AerEvent, AerSeverity, TlpHeader};
 pub use filter::{ReportFilter, TRACE_SOURCE};
 pub use laws::{
-    logs_are_filtered_as_before, made_memory_blocks_are_read_back, made_sections_are_read_back,
-    other_controller_events_are_no_errors, printed_events_are_read,
+    events_are_never_passed_over, logs_are_filtered_as_before, made_memory_blocks_are_read_back,
+    made_sections_are_read_back, other_controller_events_are_no_errors, printed_events_are_read,
 };

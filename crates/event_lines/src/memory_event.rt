@@ -5,8 +5,8 @@ ghost use Rattle.std.specs.Prelude.{◌≡◌, ◌+◌, ◌<◌, ◌≤◌, leng
 ghost use Rattle.std.specs.Option.{option_map};
 ghost use Rattle.bank_lines.specs.LogHeads.{mark_place};
 ghost use Rattle.event_lines.specs.Memory.{addressed_error_of, addresses_in, behind_controller, behind_first};
-ghost use Rattle.event_lines.specs.Memory.{controller_error_of, controller_of, detail_in, kind_before, extlog_error_of};
-ghost use Rattle.event_lines.specs.Memory.{mask_and_location};
+ghost use Rattle.event_lines.specs.Memory.{controller_error_of, controller_of, detail_in, extlog_error_of};
+ghost use Rattle.event_lines.specs.Memory.{kind_before, mask_and_location};
 
 use crate::memory_words::{
     address_told, grain_mask, grain_of, kind_named, low_bit_mask, low_bit_of, type_severity,
@@ -17,6 +17,9 @@ use block_lines::{ErrorLocation, MemoryError, location_of, severity_of};
 use memchr::memmem;
 use ras_script::hexadecimal;
 
+// The name of the firmware's detail in an event of a memory controller.
+pub(crate) const FIRMWARE_MARK: &[u8] = b"APEI location: ";
+
 // Returns what a memory controller's event has in its parentheses, if a parenthesis ends it.
 pub(crate) fn controller_of(text: &[u8]) -> Option<&[u8]>
     ensures { option_map (λ controller. controller.now) result ≡ controller_of text.now }
@@ -25,7 +28,7 @@ pub(crate) fn controller_of(text: &[u8]) -> Option<&[u8]>
 }
 
 // Returns what follows the last ` (mc:` of a text.
-fn behind_controller(text: &[u8]) -> Option<&[u8]>
+pub(crate) fn behind_controller(text: &[u8]) -> Option<&[u8]>
     ensures { option_map (λ behind. behind.now) result ≡ behind_controller text.now }
 {
     let mut found = None;
@@ -137,7 +140,7 @@ fn mask_and_location(text: &[u8]) -> Option<(Option<u64>, ErrorLocation)>
 
 // Returns the first place of a text within another, as `mark_place` does. The compiler inlines
 // `mark_place`, which every line of a trace calls, only while all its calls look for one text.
-fn place_of(text: &[u8], within: &[u8]) -> Option<usize>
+pub(crate) fn place_of(text: &[u8], within: &[u8]) -> Option<usize>
     requires { 0 < length text.now }
     ensures place { result ≡ mark_place text.now within.now }
     ensures fits { IfSome result (λ place. place + length text.now ≤ length within.now) }

@@ -1,13 +1,13 @@
 //! Reads the text of the event `non_standard_event`, a section of a firmware's report that the
 //! kernel doesn't know, with all of its bytes.
 
-ghost use Rattle.std.specs.Prelude.{◌≡◌, ◌≤◌, [], length, IfOk, IfSome};
+ghost use Rattle.std.specs.Prelude.{◌≡◌, ◌<◌, ◌≤◌, [], length, IfOk, IfSome};
 ghost use Rattle.block_lines.specs.declared.blocks.TheConstants.{LONGEST_SECTION};
 ghost use Rattle.std.specs.Option.{option_map};
 ghost use Rattle.uuid.specs.Text.{parsed};
 ghost use Rattle.bank_lines.specs.Parts.{cut_at};
-ghost use Rattle.event_lines.specs.SectionEvent.{byte_of, bytes_read, cper_of_ghes, last_two, raw_text_of};
-ghost use Rattle.event_lines.specs.SectionEvent.{section_bytes_of, section_head_of};
+ghost use Rattle.event_lines.specs.SectionEvent.{behind_byte, byte_of, bytes_from, cper_of_ghes, last_two};
+ghost use Rattle.event_lines.specs.SectionEvent.{raw_text_of, section_bytes_of, section_head_of};
 
 use crate::flags::hexadecimal_to;
 use bank_lines::{Parts, cut, value_after};
@@ -109,20 +109,43 @@ pub(crate) fn section_bytes(
     }
 }
 
-// Returns the bytes of a text that has two hexadecimal digits for each, with spaces between.
+// Returns the bytes of a text that has two hexadecimal digits for each, with a space between two;
+// between two rows of 16 bytes the space may be missing, since Linux 6.1 prints none there.
 fn raw_bytes(alloc: Global, text: &[u8]) -> Result<Option<Vec<u8>>, NoMemory>
-    ensures { IfOk result (λ read. option_map (λ bytes. bytes.items) read
-        ≡ bytes_read (cut_at 32 text.now)) }
+    ensures { IfOk result (λ read. option_map (λ bytes. bytes.items) read ≡ bytes_from 0 text.now) }
 {
     let mut bytes = Vec::new(alloc);
-    let mut words = Parts::new(b' ', text);
-    while let Some(word) = words.next() {
-        let Some(byte) = byte_of(word) else {
+    let mut rest = text;
+    while rest.len() > 2 {
+        let Some(byte) = byte_of(&rest[..2]) else {
             return Ok(None);
         };
         bytes.push(byte)?;
+        let Some(behind) = behind_byte(bytes.len(), rest) else {
+            return Ok(None);
+        };
+        rest = behind;
     }
+    let Some(byte) = byte_of(rest) else {
+        return Ok(None);
+    };
+    bytes.push(byte)?;
     Ok(Some(bytes))
+}
+
+// Returns what follows a byte and the space behind it. `count` bytes end with this one.
+fn behind_byte(count: usize, text: &[u8]) -> Option<&[u8]>
+    requires { 2 < length text.now }
+    ensures value { option_map (λ rest. rest.now) result ≡ behind_byte count text.now }
+    ensures shorter { IfSome result (λ rest. length rest.now < length text.now) }
+{
+    if text[2] == b' ' {
+        Some(&text[3..])
+    } else if count % 16 == 0 {
+        Some(&text[2..])
+    } else {
+        None
+    }
 }
 
 // Returns the byte that two hexadecimal digits stand for.

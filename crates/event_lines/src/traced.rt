@@ -1,13 +1,20 @@
 //! Finds the event of a line, where tracers print it.
 
-ghost use Rattle.std.specs.Prelude.{◌≡◌, ◌+◌, ◌≤◌, length, IfSome};
-ghost use Rattle.event_lines.specs.Traced.{clock_place, controller_event, event_behind, found_event};
-ghost use Rattle.event_lines.specs.Traced.{found_memory, found_section, line_event_of, named_text, stamp_at};
+ghost use Rattle.std.specs.Prelude.{◌≡◌, ◌+◌, ◌≤◌, false, length, IfSome};
+ghost use Rattle.bank_lines.specs.Parts.{cut_at};
+ghost use Rattle.event_lines.specs.Traced.{clock_event, clock_place, controller_event, event_behind, found_event};
+ghost use Rattle.event_lines.specs.Traced.{found_memory, found_section, has_event, has_name, shows_clock, is_event_name};
+ghost use Rattle.event_lines.specs.Traced.{is_firmware, line_event_of, named_text, other_event, stamp_at};
 
 use crate::aer::{AerEvent, aer_event};
-use crate::memory_event::{controller_error, controller_of, detail_in, extlog_error};
+use crate::memory_event::{
+    FIRMWARE_MARK, behind_controller, controller_error, controller_of, detail_in, extlog_error,
+    place_of,
+};
 use crate::section_event::{SectionHead, section_head};
-use bank_lines::{is_count, last_word, mark_place, stamp_of, value_after, without_spaces};
+use bank_lines::{
+    Parts, behind_name, is_count, last_word, mark_place, stamp_of, value_after, without_spaces,
+};
 use block_lines::MemoryError;
 
 /// An event, and the time stamp of its line in microseconds since the boot.
@@ -51,10 +58,85 @@ pub(crate) enum LineEvent {
 pub(crate) fn line_event(line: &[u8]) -> LineEvent
     ensures { result ≡ line_event_of line.now }
 {
-    match clock_place(line) {
-        Some(place) => event_behind(stamp_at(place, line), named_text(place, line)),
+    let text = behind_name(line);
+    match clock_event(text) {
+        LineEvent::Absent => {
+            if has_event(text) {
+                LineEvent::Unread
+            } else {
+                LineEvent::Absent
+            }
+        }
+        event => event,
+    }
+}
+
+// Returns the event behind the first clock of a text.
+fn clock_event(text: &[u8]) -> LineEvent
+    ensures { result ≡ clock_event text.now }
+{
+    match clock_place(text) {
+        Some(place) => event_behind(stamp_at(place, text), named_text(place, text)),
         None => LineEvent::Absent,
     }
+}
+
+// Returns whether a text has an event's name behind a clock, wherever both stand.
+fn has_event(text: &[u8]) -> bool
+    ensures { result ≡ has_event text.now }
+{
+    if place_of(b"_event:", text).is_none() {
+        return false;
+    }
+    has_name(is_firmware(text), text)
+}
+
+// Returns whether a text has the name of the firmware's detail behind its last ` (mc:`, or no
+// ` (mc:`.
+fn is_firmware(text: &[u8]) -> bool
+    ensures { result ≡ is_firmware text.now }
+{
+    match behind_controller(text) {
+        Some(behind) => place_of(FIRMWARE_MARK, behind).is_some(),
+        None => true,
+    }
+}
+
+// Returns whether a word of a text is the name of an event with a clock and spaces before it.
+fn has_name(by_firmware: bool, text: &[u8]) -> bool
+    ensures { result ≡ has_name by_firmware false (cut_at 32 text.now) }
+{
+    let mut is_behind = false;
+    let mut words = Parts::new(b' ', text);
+    while let Some(word) = words.next() {
+        if is_behind && is_event_name(by_firmware, word) {
+            return true;
+        }
+        is_behind = shows_clock(word) || is_behind && word.is_empty();
+    }
+    false
+}
+
+// Returns whether a word is what a tracer's clock shows, and its colon.
+fn shows_clock(word: &[u8]) -> bool
+    ensures { result ≡ shows_clock word.now }
+{
+    match word.strip_suffix(b":") {
+        Some(shown) => is_count(shown),
+        None => false,
+    }
+}
+
+// Returns whether a word is an event's name and its colon; `mc_event:` only if the firmware's driver
+// made that event.
+fn is_event_name(by_firmware: bool, word: &[u8]) -> bool
+    ensures { result ≡ is_event_name by_firmware word.now }
+{
+    let name = value_after(b"ras:", word).unwrap_or(word);
+    name == b"aer_event:".as_slice()
+        || name == b"non_standard_event:".as_slice()
+        || name == b"extlog_mem_event:".as_slice()
+        || by_firmware && name == b"mc_event:".as_slice()
 }
 
 // Returns the place of the first colon before a space, if the word before the colon is what a
@@ -117,8 +199,19 @@ fn controller_event(stamp: Option<u64>, text: &[u8]) -> LineEvent
     let Some(controller) = controller_of(text) else {
         return LineEvent::Unread;
     };
-    match value_after(b"APEI location: ", detail_in(controller)) {
+    match value_after(FIRMWARE_MARK, detail_in(controller)) {
         Some(places) => found_memory(stamp, controller_error(text, controller, places)),
+        None => other_event(controller),
+    }
+}
+
+// Returns which event has this in its parentheses, if the driver's detail doesn't begin with the
+// name of the firmware's.
+fn other_event(controller: &[u8]) -> LineEvent
+    ensures { result ≡ other_event controller.now }
+{
+    match place_of(FIRMWARE_MARK, controller) {
+        Some(_) => LineEvent::Unread,
         None => LineEvent::Absent,
     }
 }

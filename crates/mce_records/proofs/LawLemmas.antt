@@ -1,37 +1,58 @@
 -- A record tells what the trace and the log tell of the same registers.
-use Rattle.std.proofs.Common.{◌≡◌, ℕ, ◌==◌, Bool, false, List, sym, ap, ◌∙◌, arith, Option, None, Some, if◌then◌else◌}
-use Rattle.std.proofs.lemmas.Bool.Decides.{nat_tests}
-use Rattle.std.specs.Option.{option_map_or}
-use Rattle.ras_facts.specs.Facts.{bank_name}
+use Rattle.std.proofs.Common.{◌≡◌, ℕ, ◌==◌, Bool, true, false, [], refl, sym, ap, if◌then◌else◌}
+use Rattle.mca_status.specs.Registers.{valid}
+use Rattle.ras_facts.specs.Facts.{bank_name, status_in}
 use Rattle.ras_facts.specs.declared.bank.BankReport.{BankReport}
 use Rattle.ras_klog.specs.Groups.{bank_of_group}
+use Rattle.bank_lines.specs.Counts.{named_found, number_in, whole_by}
 use Rattle.bank_lines.specs.Finding.{found_of}
-use Rattle.bank_lines.specs.LogGroups.{polled_counter, with_counter}
-use Rattle.bank_lines.specs.Parts.{cut_at}
-use Rattle.bank_lines.specs.Stamp.{last_stamp}
+use Rattle.bank_lines.specs.Naming.{key_of, named_first, numbered}
 use Rattle.bank_lines.specs.Trace.{event_found, event_report}
 use Rattle.bank_lines.specs.declared.event.TraceEvent.{TraceEvent}
-use Rattle.bank_lines.specs.declared.found.Finding.{Finding}
-use Rattle.bank_lines.specs.declared.found.Finding.TheVariants.{Foreign, Unread}
+use Rattle.bank_lines.specs.declared.found.Finding.TheVariants.{Firmware, Foreign, Nothing, Whole}
 use Rattle.mce_records.specs.Records.{record_found, saved_report}
 
-counted : (n : ℕ) → (n ≡ 0 → ⊥) → (n == 0) ≡ false
-counted n some = grind (arith, nat_tests, some)
+-- what is found of the first report alike
+of_found : (r : BankReport) → found_of (named_first r) ≡ named_found [] (found_of r)
+of_found r = by (r.tsc == 0) refl
+  where
+    polled : (r.tsc == 0) ≡ true → (is_valid firmware : Bool)
+        → (if is_valid then (if firmware then Firmware r.cpu else Whole (numbered 0 r)) else Nothing)
+        ≡ named_found [] (if is_valid then (if firmware then Firmware r.cpu else Whole r) else Nothing)
+    polled is true true = refl
+    polled is true false = sym (ap (λ (none : Bool). if none then whole_by r (number_in [] (key_of r)) else Whole r) is)
+    polled is false firmware = refl
 
-pub as_traced : (boot : ℕ) (before : List ℕ) (e : TraceEvent) → (e.tsc ≡ 0 → ⊥) → record_found boot e ≡ event_found boot before e
-as_traced boot before e some =
-    let r : BankReport = event_report boot e e.tsc in
-    let is : (e.tsc == 0) ≡ false = counted e.tsc some in
-    let other : Finding = Foreign e.vendor e.cpu e.bank in
-    ap (λ (none : Bool). if e.vendor == 0 then found_of (if none then record r { tsc = polled_counter 0 None r.seconds } else r) else other) is
-    ∙ sym (ap (λ (none : Bool). if e.vendor == 0 then option_map_or (λ tsc. found_of (event_report boot e tsc)) (if none then last_stamp None (cut_at 32 before) else Some e.tsc) Unread else other) is)
+    counted : (r.tsc == 0) ≡ false → (is_valid firmware : Bool)
+        → (if is_valid then (if firmware then Firmware r.cpu else Whole r) else Nothing)
+        ≡ named_found [] (if is_valid then (if firmware then Firmware r.cpu else Whole r) else Nothing)
+    counted is true true = refl
+    counted is true false = sym (ap (λ (none : Bool). if none then whole_by r (number_in [] (key_of r)) else Whole r) is)
+    counted is false firmware = refl
 
-pub as_logged : (boot cap count : ℕ) (stamp : Option ℕ) (e : TraceEvent) → (e.tsc ≡ 0 → ⊥)
-    → bank_name (saved_report boot e)
-    ≡ bank_name (with_counter count stamp (bank_of_group boot cap (record { cpu = e.cpu; mcg = e.mcg; bank = e.bank; status = e.status }) e.tsc e.addr e.misc e.seconds))
-as_logged boot cap count stamp e some =
-    let r : BankReport = event_report boot e e.tsc in
-    let g : BankReport = bank_of_group boot cap (record { cpu = e.cpu; mcg = e.mcg; bank = e.bank; status = e.status }) e.tsc e.addr e.misc e.seconds in
-    let is : (e.tsc == 0) ≡ false = counted e.tsc some in
-    ap (λ (none : Bool). bank_name (if none then record r { tsc = polled_counter 0 None r.seconds } else r)) is
-    ∙ sym (ap (λ (none : Bool). bank_name (if none then record g { tsc = polled_counter count stamp g.seconds } else g)) is)
+    by : (none : Bool) → (r.tsc == 0) ≡ none → found_of (if none then numbered 0 r else r) ≡ named_found [] (found_of r)
+    by true is = polled is (valid (status_in r)) (r.bank == 255)
+    by false is = counted is (valid (status_in r)) (r.bank == 255)
+
+pub as_traced : (boot : ℕ) (e : TraceEvent) → record_found boot e ≡ named_found [] (event_found boot e)
+as_traced boot e = by (e.vendor == 0)
+  where
+    by : (intel : Bool)
+        → (if intel then found_of (saved_report boot e) else Foreign e.vendor e.cpu e.bank)
+        ≡ named_found [] (if intel then found_of (event_report boot e) else Foreign e.vendor e.cpu e.bank)
+    by true = of_found (event_report boot e)
+    by false = refl
+
+pub as_logged : (boot cap : ℕ) (e : TraceEvent) → bank_name (saved_report boot e)
+    ≡ bank_name (named_first (bank_of_group boot cap (record { cpu = e.cpu; mcg = e.mcg; bank = e.bank; status = e.status }) e.tsc e.addr e.misc e.seconds))
+as_logged boot cap e = by (e.tsc == 0)
+  where
+    r : BankReport
+    r = event_report boot e
+
+    g : BankReport
+    g = bank_of_group boot cap (record { cpu = e.cpu; mcg = e.mcg; bank = e.bank; status = e.status }) e.tsc e.addr e.misc e.seconds
+
+    by : (none : Bool) → bank_name (if none then numbered 0 r else r) ≡ bank_name (if none then numbered 0 g else g)
+    by true = refl
+    by false = refl

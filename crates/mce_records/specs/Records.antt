@@ -1,10 +1,10 @@
 -- The line that is printed of a record.
-use Rattle.std.specs.Prelude.{ℕ, ◌==◌, List, [], ◌∷◌, ◌++◌, codes, decimal, length, take, None, if◌then◌else◌}
+use Rattle.std.specs.Prelude.{ℕ, ◌==◌, List, [], ◌∷◌, ◌++◌, codes, decimal, length, take, if◌then◌else◌}
 use Rattle.std.specs.Option.{option_map_or}
 use Rattle.ras_facts.specs.declared.bank.BankReport.{BankReport}
 use Rattle.ras_script.specs.SplittingLaws.{script_of}
 use Rattle.bank_lines.specs.Finding.{found_of}
-use Rattle.bank_lines.specs.LogGroups.{with_counter}
+use Rattle.bank_lines.specs.Naming.{named_first}
 use Rattle.bank_lines.specs.Texts.{found_text}
 use Rattle.bank_lines.specs.Trace.{event_report}
 use Rattle.bank_lines.specs.declared.event.TraceEvent.{TraceEvent}
@@ -13,10 +13,9 @@ use Rattle.bank_lines.specs.declared.found.Finding.TheVariants.{Foreign, Nothing
 use Rattle.mce_records.specs.Layout.{saved_event}
 use Rattle.mce_records.specs.declared.printing.TheConstants.{MOST_BYTES}
 
--- Its report. An error that was found by polling has no counter, and a record has no stamp: it gets the
--- one that it would have in a log without stamps.
+-- Its report. An error without a counter gets that of the first one alike in a log or a trace.
 abbrev pub saved_report : ℕ → TraceEvent → BankReport
-saved_report boot event = with_counter 0 None (event_report boot event event.tsc)
+saved_report boot event = named_first (event_report boot event)
 
 abbrev pub record_found : ℕ → TraceEvent → Finding
 record_found boot event =

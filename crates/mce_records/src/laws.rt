@@ -1,8 +1,9 @@
 //! What Linux saves is read, and named as its trace and its log name it.
 
-ghost use Rattle.std.specs.Prelude.{◌≡◌, ◌≢◌, ℕ, ◌++◌, List, Option, replicate, true, Some};
+ghost use Rattle.std.specs.Prelude.{◌≡◌, ℕ, [], ◌++◌, List, replicate, true, Some};
+ghost use Rattle.bank_lines.specs.Counts.{named_found};
 ghost use Rattle.bank_lines.specs.Kernel.{Form, IsPrinted, Printed, event_text};
-ghost use Rattle.bank_lines.specs.LogGroups.{with_counter};
+ghost use Rattle.bank_lines.specs.Naming.{named_first};
 ghost use Rattle.bank_lines.specs.Trace.{event_mark, is_traced, trace_found};
 ghost use Rattle.bank_lines.specs.declared.event.TraceEvent.{TraceEvent};
 ghost use Rattle.ras_facts.specs.Facts.{bank_name};
@@ -12,19 +13,19 @@ ghost use Rattle.mce_records.specs.Records.{record_found, saved_report};
 
 use bank_lines::printed_events_are_read;
 
-/// What the kernel saves of a machine check is read, in each version of the struct. If the error has a
-/// counter, its record tells what the event tells that the kernel traces of the same registers, and
-/// its report has the name that the report of a log has. Its clauses are what the function is for.
+/// What the kernel saves of a machine check is read, in each version of the struct. Its record tells
+/// what the event tells that the kernel traces of the same registers, and its report has the name
+/// that the report of a log has, if each is the first one alike. Its clauses are what the function is
+/// for.
 pub fn records_are_read()
     ensures bytes { (version : Version) (s : Saved) → IsSaved s
         → saved_event (saved_bytes version s) ≡ Some s.event }
     ensures trace { (boot : ℕ) (before : List ℕ) (form : Form) (p : Printed) (spaces : ℕ)
-        → IsPrinted p → is_traced before ≡ true → p.event.tsc ≢ 0
-        → record_found boot p.event
-        ≡ trace_found boot (before ++ (event_mark ++ (replicate spaces 32 ++ event_text form p))) }
-    ensures log { (boot cap count : ℕ) (stamp : Option ℕ) (e : TraceEvent) → e.tsc ≢ 0
-        → bank_name (saved_report boot e)
-        ≡ bank_name (with_counter count stamp (bank_of_group boot cap
+        → IsPrinted p → is_traced before ≡ true
+        → record_found boot p.event ≡ named_found []
+        (trace_found boot (before ++ (event_mark ++ (replicate spaces 32 ++ event_text form p)))) }
+    ensures log { (boot cap : ℕ) (e : TraceEvent) → bank_name (saved_report boot e)
+        ≡ bank_name (named_first (bank_of_group boot cap
         (record { cpu = e.cpu; mcg = e.mcg; bank = e.bank; status = e.status })
         e.tsc e.addr e.misc e.seconds)) }
 {

@@ -6,7 +6,7 @@ ghost use Rattle.std.specs.Prelude.{◌∷◌, []};
 ghost use Rattle.mce_records.specs.Records.{empty_record, saved_text, record_found, record_text, unread_record};
 
 use crate::layout::saved_event;
-use bank_lines::{Finding, TraceEvent, event_report, push_found, with_counter};
+use bank_lines::{Finding, TraceEvent, event_report, named_first, push_found};
 use ras_base::{NoMemory, push_number};
 
 /// Appends the line of a record, of an error in this boot: a line `bank` of an Intel processor's, a
@@ -45,7 +45,7 @@ fn record_found(boot: u64, event: TraceEvent) -> Finding
             bank: event.bank,
         };
     }
-    Finding::of_report(with_counter(0, None, event_report(boot, event, event.tsc)))
+    Finding::of_report(named_first(event_report(boot, event)))
 }
 
 // Adds the comment of a record of a bank that holds no error.

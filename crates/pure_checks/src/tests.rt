@@ -2,6 +2,7 @@
 //! comes into the proof of that function only, and a test sees plain bytes.
 
 mod bytes;
+mod inputs;
 mod klog;
 mod lines;
 mod pcie;

@@ -1,4 +1,5 @@
-use Rattle.std.proofs.Common.{◌∙◌, sym}
+use Rattle.std.proofs.Common.{[], ◌∙◌, ap, sym}
+use Rattle.bank_lines.specs.Counts.{named_found}
 use Rattle.mce_records.proofs.LawLemmas.{as_logged, as_traced}
 use Rattle.mce_records.proofs.LayoutLemmas.{is_read}
 use Rattle.mce_records.proofs.laws.records_are_read.Goals as goal
@@ -6,6 +7,7 @@ use Rattle.mce_records.proofs.laws.records_are_read.Goals as goal
 pub returns : goal.returns
 returns c = record {
   bytes = is_read;
-  trace = λ boot before form p spaces printed traced some. as_traced boot before p.event some ∙ sym (c.printed_events_are_read.ensures.line boot before form p spaces printed traced);
+  trace = λ boot before form p spaces printed traced.
+      as_traced boot p.event ∙ ap (named_found []) (sym (c.printed_events_are_read.ensures.line boot before form p spaces printed traced));
   log = as_logged;
 }
