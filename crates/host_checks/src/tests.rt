@@ -3,7 +3,7 @@
 mod store;
 
 use board_core::{Board, Failed, FileNo};
-use ras_host::{Alone, FileBoard, Reading, RealSystem, Use};
+use ras_host::{Alone, FileBoard, OnlyReading, RealSystem, Use};
 use std::env::Env;
 use std::fs;
 use std::marker::Brand;
@@ -55,14 +55,14 @@ fn write<U: Use>(board: &mut FileBoard<RealSystem, U, Brand>, bytes: &[u8]) -> (
 #[test]
 fn reading_board_changes_nothing(rt: HostRuntime) -> Result<(), Fail> {
     enter(&rt, "reading")?;
-    let mut reader = board::<Reading>(rt);
+    let mut reader = board::<OnlyReading>(rt);
     assert!(rt; reader.size(FileNo::One) == Ok(0) && read(&mut reader, 0) == (Ok(0), [0; 4]));
     assert!(rt; write(&mut reader, b"x") == (false, true));
     assert!(rt; is_missing(&rt, "rasd.0") && is_missing(&rt, "rasd.1"));
     let mut writer = board::<Alone>(rt);
     assert!(rt; write(&mut writer, b"abcdef") == (true, true));
     assert!(rt; reader.size(FileNo::One) == Ok(0) && read(&mut reader, 0) == (Ok(0), [0; 4]));
-    let mut later = board::<Reading>(rt);
+    let mut later = board::<OnlyReading>(rt);
     assert!(rt; later.size(FileNo::One) == Ok(6) && read(&mut later, 1) == (Ok(4), *b"bcde"));
     assert!(rt; read(&mut later, 4) == (Ok(2), *b"ef\0\0"));
     assert!(rt; read(&mut later, 7) == (Ok(0), [0; 4]));

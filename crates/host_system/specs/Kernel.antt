@@ -1,8 +1,8 @@
 -- What one call of the operating system does, for the clauses of `Kernel`.
-use Rattle.std.specs.Prelude.{◌≡◌, ◌⊎◌, Option, None, Some, IfSome}
-use Rattle.std.specs.Fs.{metadata_len, file_type, IsSymlink}
+use Rattle.std.specs.Prelude.{◌≡◌, ◌⊎◌, ℕ, Bool, true, false, Option, None, Some, IfSome, Result, Ok, Err}
 use Rattle.std.specs.Option.{option_map}
-use Rattle.std.specs.declared.fs.attrs.Metadata.{Metadata}
+use Rattle.host_system.specs.declared.kernel.FileKind.TheVariants.{Link}
+use Rattle.host_system.specs.declared.kernel.FoundFile.{FoundFile}
 use Rattle.host_system.specs.declared.kernel.Held.{Held}
 use Rattle.host_system.specs.declared.kernel.Held.TheVariants.{Kept, Opened}
 use Rattle.host_system.specs.declared.kernel.Note.{Note}
@@ -10,7 +10,8 @@ use Rattle.host_system.specs.declared.kernel.Note.TheVariants.{Locked, Lost, Abs
 use Rattle.host_system.specs.declared.kernel.Place.{Place}
 use Rattle.host_system.specs.declared.kernel.Place.TheVariants.{Name}
 use Rattle.host_system.specs.declared.kernel.Refusal.{Refusal}
-use Rattle.host_system.specs.declared.kernel.Refusal.TheVariants.{Exists, NotPermitted, ReadOnly, Unsupported}
+use Rattle.host_system.specs.declared.kernel.Refusal.TheVariants.{Exists, NotPermitted, Unsupported, Interrupted}
+use Rattle.host_system.specs.declared.kernel.Way.{Way}
 use Rattle.host_system.specs.declared.system.FileName.{FileName}
 use Rattle.host_system.specs.declared.system.FileName.TheVariants.{Journal}
 use Rattle.host_system.specs.Folder.{FolderChange, opens, locks, loses, made, synced, synced_names}
@@ -18,24 +19,70 @@ use Rattle.host_system.specs.FolderPast.{FolderPast, Did, IfTold, MayDo, HasFile
 
 -- ---- what is found
 
--- Nothing was found and the file with this name is missing, or its metadata was found, with its length.
-abbrev pub IsFound : FileName → Option Metadata → FolderPast → Type 0
-IsFound name found past = length_told name past ≡ option_map metadata_len found
+-- Nothing was found and the file with this name is missing, or it was found, with its length.
+abbrev pub IsFound : FileName → Option FoundFile → FolderPast → Type 0
+IsFound name found past = length_told name past ≡ option_map (λ f. f.length) found
 
 -- the same, where the name is one of the four
-abbrev pub IsFoundAt : Place → Option Metadata → FolderPast → Type 0
+abbrev pub IsFoundAt : Place → Option FoundFile → FolderPast → Type 0
 IsFoundAt (Name name) found past = IsFound name found past
 IsFoundAt place found past = Unit {0}
 
-abbrev pub IsLink : Option Metadata → Type 0
+abbrev pub IsLink : Option FoundFile → Type 0
 IsLink None = ⊥
-IsLink (Some metadata) = IsSymlink (file_type metadata)
+IsLink (Some found) = found.kind ≡ Link
 
 -- A name itself was found: its file, or a symlink, of which nothing more is said. Only a journal file is behind a
 -- symlink.
-abbrev pub IsFoundItself : Place → Option Metadata → FolderPast → Type 0
+abbrev pub IsFoundItself : Place → Option FoundFile → FolderPast → Type 0
 IsFoundItself (Name (Journal file)) found past = IsLink found ⊎ IsFound (Journal file) found past
 IsFoundItself place found past = IsFoundAt place found past
+
+-- A call that only looks changes nothing but the count of failed calls.
+pub record Looks (old new : Option FolderPast) (before now : Option FolderChange) : Type 0 where
+  pub told : new ≡ old
+  pub prepared : now ≡ before
+
+-- A file that is no symlink is in the folder that its name is in.
+abbrev pub IsThere : Place → Option FoundFile → (FileName → Bool) → Type 0
+IsThere (Name name) (Some found) reaches = (found.kind ≡ Link → ⊥) → reaches name ≡ true
+IsThere place found reaches = Unit {0}
+
+-- The file that was opened last is open in this way, if the kernel is modelled.
+abbrev pub IsOpenAs : Way → Option FolderPast → Way → Type 0
+IsOpenAs how None way = Unit {0}
+IsOpenAs how (Some past) way = way ≡ how
+
+-- ---- which answers count as failed calls
+
+abbrev pub failed_any : {T E : Type 0} → Result T E → ℕ
+failed_any (Ok value) = 0
+failed_any (Err why) = 1
+
+-- That a file exists is an answer: another run has made it.
+abbrev pub failed_make : Result (Unit {0}) Refusal → ℕ
+failed_make (Ok done) = 0
+failed_make (Err Exists) = 0
+failed_make (Err why) = 1
+
+-- That the file system has no sync for a file that is only read is an answer.
+abbrev pub failed_sync : Held → Result (Unit {0}) Refusal → ℕ
+failed_sync held (Ok done) = 0
+failed_sync (Opened name) (Err Unsupported) = 0
+failed_sync held (Err why) = 1
+
+-- So is it of the folder, to a process that keeps no file, and that it may not open the folder.
+abbrev pub failed_names : Bool → Result (Unit {0}) Refusal → ℕ
+failed_names keeps (Ok done) = 0
+failed_names false (Err Unsupported) = 0
+failed_names false (Err NotPermitted) = 0
+failed_names keeps (Err why) = 1
+
+-- An interrupted read isn't one that failed.
+abbrev pub failed_read : {T : Type 0} → Result T Refusal → ℕ
+failed_read (Ok value) = 0
+failed_read (Err Interrupted) = 0
+failed_read (Err why) = 1
 
 -- ---- which file a call is made on
 
@@ -66,18 +113,17 @@ abbrev pub FailsMake : FileName → Refusal → Option FolderPast → Option Fol
 FailsMake name Exists old new = (old ≡ None) × (new ≡ None)
 FailsMake name why old new = IfTold (MayDo (made name)) old new
 
--- A sync of a file failed. Of a file that was opened only to be read, a sync counts as done if the file system is
--- read-only or has no syncs, because then nothing waits there to be written.
+-- A sync of a file failed. Of a file that was opened only to be read, a sync counts as done if the file system has no
+-- syncs, because then nothing waits there to be written. A read-only mount that is sound answers a sync with success; one
+-- that answers "read-only file system" has failed, with bytes that will never be written.
 abbrev pub FailsSync : Held → Refusal → Option FolderPast → Option FolderPast → Type 0
 FailsSync (Kept name) why old new = Did (loses name) old new
-FailsSync (Opened name) ReadOnly old new = Did (synced name) old new
 FailsSync (Opened name) Unsupported old new = Did (synced name) old new
 FailsSync (Opened name) why old new = Did (loses name) old new
 
--- Syncing the names failed, of a process that keeps no file. It may count as done if the file system is read-only
--- or has no syncs. A modelled folder may be opened.
+-- Syncing the names failed, of a process that keeps no file. It may count as done if the file system has no syncs. A
+-- modelled folder may be opened.
 abbrev pub FailsNames : Refusal → Option FolderPast → Option FolderChange → Type 0
-FailsNames ReadOnly told prepared = IsPrepared synced_names told prepared
 FailsNames Unsupported told prepared = IsPrepared synced_names told prepared
 FailsNames NotPermitted told prepared = told ≡ None
 FailsNames why told prepared = Unit {0}
@@ -92,8 +138,9 @@ change_of (Absent file) = synced (Journal file)
 change_of Names = synced_names
 
 -- What was prepared may be noted as done, that a file isn't relied on any more, and that a missing file is synced.
-abbrev pub MayNote : Note → Option FolderPast → Option FolderChange → Type 0
-MayNote (Locked name) told prepared = IsPrepared (locks name) told prepared
-MayNote (Lost name) told prepared = Unit {0}
-MayNote (Absent file) told prepared = IfSome told (IsMissing (Journal file))
-MayNote Names told prepared = IsPrepared synced_names told prepared
+-- A file counts as locked only if a sync of the folders makes its name durable.
+abbrev pub MayNote : Note → Option FolderPast → Option FolderChange → (FileName → Bool) → Type 0
+MayNote (Locked name) told prepared reaches = IsPrepared (locks name) told prepared × (reaches name ≡ true)
+MayNote (Lost name) told prepared reaches = Unit {0}
+MayNote (Absent file) told prepared reaches = IfSome told (IsMissing (Journal file))
+MayNote Names told prepared reaches = IsPrepared synced_names told prepared

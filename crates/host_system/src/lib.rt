@@ -4,6 +4,7 @@
 #![tactic(auto)]
 
 mod board_file;
+mod failed_calls;
 mod faults;
 mod kernel;
 mod laws;
@@ -12,8 +13,11 @@ mod store_file;
 mod system;
 
 pub use board_file::{open_files, read_file};
+pub use failed_calls::FailedCalls;
 pub use faults::counted;
-pub use kernel::{Held, INLINE_LENGTH, Kernel, KernelInput, Note, Place, Refusal, Way};
+pub use kernel::{
+    FileKind, FoundFile, Held, INLINE_LENGTH, Kernel, KernelInput, Note, Place, Refusal, Way,
+};
 pub use laws::system_laws;
 pub use notes::Notes;
 pub use store_file::replace_store;

@@ -6,4 +6,5 @@ pub mod LongLemmas
 mod ReadLemmas
 pub mod ReadingLemmas
 pub mod ToldLemmas
+mod CountLemmas
 mod DiskCallLemmas

@@ -13,6 +13,7 @@
 mod faults;
 mod file_board;
 mod file_source;
+mod found_files;
 mod journal;
 mod kept;
 mod listed;
@@ -23,6 +24,7 @@ mod over_kernel;
 mod reading;
 mod real_input;
 mod real_kernel;
+mod refused;
 mod saved;
 mod uses;
 
@@ -33,4 +35,4 @@ pub use over_input::OverInput;
 pub use over_kernel::OverKernel;
 pub use real_input::{RealInput, StandardInput};
 pub use real_kernel::{RealKernel, RealSystem};
-pub use uses::{Alone, Found, Reading, Use};
+pub use uses::{Alone, Found, OnlyReading, Use};

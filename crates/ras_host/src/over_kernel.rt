@@ -1,21 +1,23 @@
 //! The system over a kernel: which calls each call of the system makes, and in which order.
-ghost use Rattle.std.specs.Prelude.{◌≡◌, ◌≢◌, ◌≤◌, length, take, IfSome, IfOk, IfErr, OnOk, OnErr};
+ghost use Rattle.std.specs.Prelude.{◌≡◌, ◌≢◌, ◌+◌, ◌≤◌, Err, length, take, IfSome, IfOk, IfErr, OnOk, OnErr};
 ghost use Rattle.std.proofs.Props.{props};
 ghost use Rattle.std.specs.Option.{option_map};
 ghost use Rattle.host_system.specs.Folder.{wrote, made, opens, locks, loses, removed, synced, synced_names};
 ghost use Rattle.host_system.specs.FolderPast.{Did, IfTold, HasFile, IsMissing, IsOpen, IsNotLost, MayBeWritten, MayDo, MayWrite, bytes_named, file_bytes, length_told};
-ghost use Rattle.host_system.specs.Kernel.{FailsSync, IsHeldBy, MaySync, name_of};
+ghost use Rattle.host_system.specs.Kernel.{FailsSync, IsHeldBy, IsOpenAs, Looks, MaySync, failed_any, failed_sync, name_of};
 ghost use Rattle.host_system.specs.View.{MayBeRead};
+ghost use Rattle.host_system.specs.declared.kernel.Refusal.TheVariants.{Other};
+ghost use Rattle.host_system.specs.declared.kernel.Way.TheVariants.{Write};
 ghost use Rattle.host_system.specs.declared.system.FileName.TheVariants.{Journal};
 ghost use Rattle.ras_host.specs.LongFiles.{AreLong, IsFoundLong};
+ghost use Rattle.ras_host.specs.Steps.OverCounts.{counted_up_to};
 
+use crate::found_files::FoundFiles;
 use crate::long_files::LongFiles;
-use crate::names::{check_names, keep_folder, look, open_to_read};
+use crate::names::{check_names, check_to_write, keep_folder, look, open_to_read};
+use crate::refused::Refused;
 use board_core::{Failed, FileNo};
-use host_system::{
-    FileName, Held, INLINE_LENGTH, Kernel, Note, Place, Refusal, System, Way, counted,
-};
-use std::os::unix::fs::MetadataExt;
+use host_system::{FileName, Held, INLINE_LENGTH, Kernel, Note, Place, Refusal, System, Way};
 
 // The mode of a new file, without the bits of the process's mask. Other users may not read a
 // journal file, because whoever can read it can hold its lock.
@@ -24,11 +26,14 @@ const NEW_MODE: u32 = 0o640;
 // The mode of a new store's file before it gets the owner and mode of the old one.
 const UNOWNED_MODE: u32 = 0o600;
 
-/// The system over a kernel. It is modelled if its kernel is.
+/// The system over a kernel. It is modelled if its kernel is. Its faults are the kernel's failed
+/// calls, and what it refused for a reason of its own.
 #[derive(Drop)]
 pub struct OverKernel<K: Kernel + Drop> {
     kernel: K,
-    faults: u64,
+    refused: Refused,
+    // Each journal file that is locked, as its name was found then.
+    locked: FoundFiles,
     long: LongFiles,
     ghost known: { IfSome (K.told kernel) (AreLong long) } by { Prim.hlevel props },
 }
@@ -37,53 +42,64 @@ impl<K: Kernel + Drop> OverKernel<K> {
     /// Returns a system over a kernel that keeps no file, with no faults.
     pub fn over(kernel: K) -> OverKernel<K>
         ensures kernel { result.kernel ≡ kernel }
-        ensures quiet { result.faults ≡ 0 }
+        ensures quiet { result.refused ≡ 0 }
     {
         OverKernel {
             kernel,
-            faults: 0,
+            refused: Refused::none(),
+            locked: FoundFiles::none(),
             long: LongFiles::none(),
         }
     }
 }
 
-// Makes the calls of each call, and counts its fault if one failed.
+// Makes the calls of each call. No count is kept of its own: each fault is a failed call of the
+// kernel, or a refusal that `Refused` names.
 impl<K: Kernel + Drop> System for OverKernel<K> {
     ghost told = { λ s. K.told s.kernel };
 
-    ghost faults = { λ s. s.faults };
+    ghost faults = { λ s. counted_up_to (K.fails s.kernel + s.refused) };
 
     fn find(&mut self, name: FileName) -> Result<Option<u64>, Failed> {
-        counted(find(&self.kernel, name), &mut self.faults)
+        find(&mut self.kernel, &mut self.refused, name).or(Err(Failed))
     }
 
     fn open(&mut self, name: FileName) -> Result<(), Failed> {
+        self.locked.keep(name, None);
         self.long.set(name, false);
-        counted(open_file(&mut self.kernel, name), &mut self.faults)
+        open_file(&mut self.kernel, name).or(Err(Failed))
     }
 
     fn make(&mut self, name: FileName) -> Result<(), Failed> {
+        self.locked.keep(name, None);
         self.long.set(name, false);
-        counted(make_file(&mut self.kernel, name), &mut self.faults)
+        make_file(&mut self.kernel, &mut self.refused, name).or(Err(Failed))
     }
 
     fn lock(&mut self, name: FileName) -> Result<(), Failed> {
-        counted(lock_file(&mut self.kernel, name), &mut self.faults)
+        lock_file(&mut self.kernel, &mut self.refused, &mut self.locked, name).or(Err(Failed))
     }
 
     fn read(&mut self, name: FileName, most: u64) -> Result<Option<Vec<u8>>, Failed> {
-        counted(read_file(&mut self.kernel, name, most), &mut self.faults)
+        read_file(&mut self.kernel, &mut self.refused, name, most).or(Err(Failed))
     }
 
     fn read_at(&mut self, name: FileName, place: u64, buf: &mut [u8]) -> Result<(), Failed> {
-        counted(self.kernel.pread(name, place, buf), &mut self.faults)
+        self.kernel.pread(name, place, buf).or(Err(Failed))
     }
 
     #[tactic(auto, using(crate::proofs::LongLemmas::write_long))]
     fn write_at(&mut self, name: FileName, place: u64, bytes: &[u8]) -> Result<(), Failed> {
-        let checked = check_to_write(&self.kernel, name, place, bytes);
-        counted(checked, &mut self.faults)?;
-        counted(self.kernel.pwrite(name, place, bytes), &mut self.faults)?;
+        check_to_write(
+            &mut self.kernel,
+            &mut self.refused,
+            &self.locked,
+            name,
+            place,
+            bytes,
+        )
+        .or(Err(Failed))?;
+        self.kernel.pwrite(name, place, bytes).or(Err(Failed))?;
         if place.saturating_add(bytes.len() as u64) > INLINE_LENGTH {
             self.long.set(name, true);
         }
@@ -91,40 +107,47 @@ impl<K: Kernel + Drop> System for OverKernel<K> {
     }
 
     fn sync(&mut self, name: FileName) -> Result<(), Failed> {
-        let answer = sync_kept(&mut self.kernel, &mut self.long, name);
-        counted(answer, &mut self.faults)
+        sync_kept(&mut self.kernel, &mut self.long, name).or(Err(Failed))
     }
 
     fn sync_read(&mut self, file: FileNo) -> Result<(), Failed> {
-        counted(sync_to_read(&mut self.kernel, file), &mut self.faults)
+        sync_to_read(&mut self.kernel, &mut self.refused, file).or(Err(Failed))
     }
 
     fn remove(&mut self, name: FileName) -> Result<(), Failed> {
         self.long.set(name, false);
-        counted(remove_file(&mut self.kernel, name), &mut self.faults)
+        remove_file(&mut self.kernel, &mut self.refused, name).or(Err(Failed))
     }
 
     fn rename(&mut self) -> Result<(), Failed> {
-        counted(self.kernel.rename(), &mut self.faults)
+        self.kernel.rename().or(Err(Failed))
     }
 
     fn sync_names(&mut self) -> Result<(), Failed> {
-        counted(sync_folders(&mut self.kernel), &mut self.faults)
+        sync_folders(&mut self.kernel).or(Err(Failed))
     }
 
     fn print(&mut self, bytes: &[u8]) -> Result<(), Failed> {
-        counted(self.kernel.write(bytes), &mut self.faults)
+        self.kernel.write(bytes).or(Err(Failed))
     }
 }
 
 // Returns the length of a file, or `None` if it is missing. If a file is kept, it is asked itself.
-fn find<K: Kernel>(kernel: &K, name: FileName) -> Result<Option<u64>, Refusal>
-    ensures { IfOk result (λ found. IfSome (K.told kernel.now) (λ p. found ≡ length_told name p)) }
+fn find<K: Kernel>(
+    kernel: &mut K,
+    refused: &mut Refused,
+    name: FileName,
+) -> Result<Option<u64>, Refusal>
+    ensures found { IfOk result (λ found. IfSome (K.told kernel.old)
+        (λ p. found ≡ length_told name p)) }
+    ensures told { K.told kernel.new ≡ K.told kernel.old }
+    ensures cause { K.fails kernel.new + refused.new
+        ≡ K.fails kernel.old + refused.old + failed_any result }
 {
-    match kernel.fstat(Held::Kept(name)) {
-        Err(Refusal::NotOpen) => Ok(look(kernel, name)?.map(|it| it.len())),
-        open => Ok(Some(open?.len())),
+    if kernel.is_kept(name) {
+        return Ok(Some(kernel.fstat(Held::Kept(name))?.length));
     }
+    Ok(look(kernel, refused, name)?.map(|it| it.length))
 }
 
 // Opens a file to read and write it, and keeps it.
@@ -133,6 +156,7 @@ fn open_file<K: Kernel>(kernel: &mut K, name: FileName) -> Result<(), Refusal>
     requires kept { IfSome (K.told kernel.old) (IsNotLost name) }
     ensures told { OnOk result (Did (opens name) (K.told kernel.old) (K.told kernel.new)) }
     ensures failed { OnErr result (K.told kernel.new ≡ K.told kernel.old) }
+    ensures cause { K.fails kernel.new ≡ K.fails kernel.old + failed_any result }
 {
     kernel.open(name, Way::Write)?;
     move_up(kernel, Held::Opened(name))?;
@@ -145,6 +169,8 @@ fn open_file<K: Kernel>(kernel: &mut K, name: FileName) -> Result<(), Refusal>
 fn move_up<K: Kernel>(kernel: &mut K, held: Held) -> Result<(), Refusal>
     ensures told { K.told kernel.new ≡ K.told kernel.old }
     ensures prepared { OnOk result (K.prepared kernel.new ≡ K.prepared kernel.old) }
+    ensures way { OnOk result (K.way kernel.new ≡ K.way kernel.old) }
+    ensures cause { K.fails kernel.new ≡ K.fails kernel.old + failed_any result }
 {
     if kernel.number(held)? <= 2 {
         return kernel.dup(held);
@@ -153,14 +179,20 @@ fn move_up<K: Kernel>(kernel: &mut K, held: Held) -> Result<(), Refusal>
 }
 
 // Makes a file and keeps it.
-fn make_file<K: Kernel>(kernel: &mut K, name: FileName) -> Result<(), Refusal>
+fn make_file<K: Kernel>(
+    kernel: &mut K,
+    refused: &mut Refused,
+    name: FileName,
+) -> Result<(), Refusal>
     requires { IfSome (K.told kernel.old) (IsMissing name) }
     ensures told { OnOk result (Did (made name) (K.told kernel.old) (K.told kernel.new)) }
     ensures failed { OnErr result (IfTold (MayDo (made name)) (K.told kernel.old)
         (K.told kernel.new)) }
+    ensures cause { K.fails kernel.new + refused.new
+        ≡ K.fails kernel.old + refused.old + failed_any result }
 {
     match name {
-        FileName::New => make_new(kernel),
+        FileName::New => make_new(kernel, refused),
         _ => make_or_open(kernel, name),
     }
 }
@@ -172,6 +204,7 @@ fn make_or_open<K: Kernel>(kernel: &mut K, name: FileName) -> Result<(), Refusal
     ensures told { OnOk result (Did (made name) (K.told kernel.old) (K.told kernel.new)) }
     ensures failed { OnErr result (IfTold (MayDo (made name)) (K.told kernel.old)
         (K.told kernel.new)) }
+    ensures cause { K.fails kernel.new ≡ K.fails kernel.old + failed_any result }
 {
     match kernel.create(name, NEW_MODE) {
         Ok(()) => move_up(kernel, Held::Kept(name)),
@@ -181,40 +214,55 @@ fn make_or_open<K: Kernel>(kernel: &mut K, name: FileName) -> Result<(), Refusal
 }
 
 // Makes a new store's file, with the owner and the mode of the old one.
-fn make_new<K: Kernel>(kernel: &mut K) -> Result<(), Refusal>
+fn make_new<K: Kernel>(kernel: &mut K, refused: &mut Refused) -> Result<(), Refusal>
     requires { IfSome (K.told kernel.old) (IsMissing FileName.New) }
     ensures told { OnOk result (Did (made FileName.New) (K.told kernel.old)
         (K.told kernel.new)) }
     ensures failed { OnErr result (IfTold (MayDo (made FileName.New)) (K.told kernel.old)
         (K.told kernel.new)) }
+    ensures cause { K.fails kernel.new + refused.new
+        ≡ K.fails kernel.old + refused.old + failed_any result }
 {
-    let old = look(kernel, FileName::Store)?;
+    let old = look(kernel, refused, FileName::Store)?;
     let mode = old.as_ref().map_or(NEW_MODE, |_| UNOWNED_MODE);
-    kernel.create(FileName::New, mode)?;
+    let made = kernel.create(FileName::New, mode);
+    if let Err(Refusal::Exists) = made {
+        return Err(refused.made_meanwhile(&made));
+    }
+    made?;
     move_up(kernel, Held::Kept(FileName::New))?;
     if let Some(old) = old {
-        kernel.fchown(FileName::New, old.uid(), old.gid())?;
-        kernel.fchmod(FileName::New, old.permissions())?;
+        kernel.fchown(FileName::New, old.user, old.group)?;
+        kernel.fchmod(FileName::New, old.mode)?;
     }
     Ok(())
 }
 
-// Locks a file. The names are checked once it is locked.
-fn lock_file<K: Kernel>(kernel: &mut K, name: FileName) -> Result<(), Refusal>
+// Locks a file. The names are checked once it is locked, and what was found of the file is kept.
+fn lock_file<K: Kernel>(
+    kernel: &mut K,
+    refused: &mut Refused,
+    locked: &mut FoundFiles,
+    name: FileName,
+) -> Result<(), Refusal>
     requires { IfSome (K.told kernel.old) (IsOpen name) }
     ensures told { OnOk result (Did (locks name) (K.told kernel.old) (K.told kernel.new)) }
     ensures failed { OnErr result (K.told kernel.new ≡ K.told kernel.old) }
+    ensures cause { K.fails kernel.new + refused.new
+        ≡ K.fails kernel.old + refused.old + failed_any result }
 {
     kernel.flock(name)?;
-    check_names(kernel)?;
-    keep_folder(kernel, name)?;
+    let found = check_names(kernel, refused)?;
+    keep_folder(kernel, refused, name)?;
     kernel.note(Note::Locked(name));
+    locked.keep(name, found.of(name));
     Ok(())
 }
 
 // Returns the first bytes of a file, at most `most`, or `None` if it is missing.
 fn read_file<K: Kernel>(
     kernel: &mut K,
+    refused: &mut Refused,
     name: FileName,
     most: u64,
 ) -> Result<Option<Vec<u8>>, Refusal>
@@ -222,32 +270,16 @@ fn read_file<K: Kernel>(
         (λ p. MayBeRead name p → option_map (λ v. v.items) found
         ≡ option_map (take most) (bytes_named name p))) }
     ensures told { K.told kernel.new ≡ K.told kernel.old }
+    ensures cause { K.fails kernel.new + refused.new
+        ≡ K.fails kernel.old + refused.old + failed_any result }
 {
     if name != FileName::Store {
-        check_names(kernel)?;
+        check_names(kernel, refused)?;
     }
-    if !open_to_read(kernel, name)? {
+    if !open_to_read(kernel, refused, name)? {
         return Ok(None);
     }
     Ok(Some(kernel.read(name, most)?))
-}
-
-// Fails on a file that has no name left, because what is written to it would be lost. A write of one
-// byte is a gate, whose link was written just before, so it isn't checked. Before a file is begun
-// from scratch, the names themselves are checked again.
-fn check_to_write<K: Kernel>(
-    kernel: &K,
-    name: FileName,
-    place: u64,
-    bytes: &[u8],
-) -> Result<(), Refusal> {
-    if place == 0 && name != FileName::New {
-        check_names(kernel)?;
-    }
-    if bytes.len() > 1 && kernel.fstat(Held::Kept(name))?.nlink() == 0 {
-        return Err(Refusal::Other);
-    }
-    Ok(())
 }
 
 // Makes a file that is kept durable. The owner and the mode of a new store's file have to be durable
@@ -259,6 +291,7 @@ fn sync_kept<K: Kernel>(kernel: &mut K, long: &mut LongFiles, name: FileName) ->
     ensures told { OnOk result (Did (synced name) (K.told kernel.old) (K.told kernel.new)) }
     ensures failed { OnErr result (Did (loses name) (K.told kernel.old) (K.told kernel.new)) }
     ensures known { IfSome (K.told kernel.new) (AreLong long.new) }
+    ensures cause { K.fails kernel.new ≡ K.fails kernel.old + failed_any result }
 {
     match name {
         FileName::New => kernel.fsync(Held::Kept(name)),
@@ -270,10 +303,17 @@ fn sync_kept<K: Kernel>(kernel: &mut K, long: &mut LongFiles, name: FileName) ->
 }
 
 // Returns whether a file that is kept is long. A file that is known to be long isn't asked.
-fn find_long<K: Kernel>(kernel: &K, long: &mut LongFiles, name: FileName) -> Result<bool, Refusal>
-    requires known { IfSome (K.told kernel.now) (AreLong long.old) }
-    ensures found { IfOk result (IsFoundLong name (K.told kernel.now)) }
-    ensures known { IfSome (K.told kernel.now) (AreLong long.new) }
+fn find_long<K: Kernel>(
+    kernel: &mut K,
+    long: &mut LongFiles,
+    name: FileName,
+) -> Result<bool, Refusal>
+    requires known { IfSome (K.told kernel.old) (AreLong long.old) }
+    ensures found { IfOk result (IsFoundLong name (K.told kernel.old)) }
+    ensures known { IfSome (K.told kernel.old) (AreLong long.new) }
+    ensures looks { Looks (K.told kernel.old) (K.told kernel.new) (K.prepared kernel.old)
+        (K.prepared kernel.new) }
+    ensures cause { K.fails kernel.new ≡ K.fails kernel.old + failed_any result }
 {
     if long.knows(name) {
         return Ok(true);
@@ -286,11 +326,14 @@ fn find_long<K: Kernel>(kernel: &K, long: &mut LongFiles, name: FileName) -> Res
 }
 
 // Returns whether a file is longer than `INLINE_LENGTH`.
-fn is_long<K: Kernel>(kernel: &K, held: Held) -> Result<bool, Refusal>
-    requires { IsHeldBy held (K.told kernel.now) (K.prepared kernel.now) }
-    ensures { IfOk result (IsFoundLong (name_of held) (K.told kernel.now)) }
+fn is_long<K: Kernel>(kernel: &mut K, held: Held) -> Result<bool, Refusal>
+    requires { IsHeldBy held (K.told kernel.old) (K.prepared kernel.old) }
+    ensures found { IfOk result (IsFoundLong (name_of held) (K.told kernel.old)) }
+    ensures looks { Looks (K.told kernel.old) (K.told kernel.new) (K.prepared kernel.old)
+        (K.prepared kernel.new) }
+    ensures cause { K.fails kernel.new ≡ K.fails kernel.old + failed_any result }
 {
-    Ok(kernel.fstat(held)?.len() > INLINE_LENGTH)
+    Ok(kernel.fstat(held)?.length > INLINE_LENGTH)
 }
 
 // Makes a file's bytes durable, by whether it is long.
@@ -306,6 +349,9 @@ fn sync_bytes<K: Kernel>(
         (K.told kernel.new)) }
     ensures failed { IfErr result (λ why. FailsSync held why (K.told kernel.old)
         (K.told kernel.new)) }
+    ensures cause { OnOk found (K.fails kernel.new
+        ≡ K.fails kernel.old + failed_sync held result) }
+    ensures lost { OnErr found ((result ≡ Err Other) × (K.fails kernel.new ≡ K.fails kernel.old)) }
 {
     match found {
         Ok(true) => kernel.fdatasync(held),
@@ -327,14 +373,20 @@ fn name_of(held: Held) -> FileName
 
 // Makes a journal file durable that is only read: a run may have written there and not yet synced
 // it.
-fn sync_to_read<K: Kernel>(kernel: &mut K, file: FileNo) -> Result<(), Refusal>
+fn sync_to_read<K: Kernel>(
+    kernel: &mut K,
+    refused: &mut Refused,
+    file: FileNo,
+) -> Result<(), Refusal>
     ensures told { OnOk result (Did (synced (Journal file)) (K.told kernel.old)
         (K.told kernel.new)) }
     ensures failed { OnErr result (Did (loses (Journal file)) (K.told kernel.old)
         (K.told kernel.new)) }
+    ensures cause { K.fails kernel.new + refused.new
+        ≡ K.fails kernel.old + refused.old + failed_any result }
 {
     let name = FileName::Journal(file);
-    match open_to_read(kernel, name) {
+    match open_to_read(kernel, refused, name) {
         Ok(true) => sync_opened(kernel, file),
         Ok(false) => {
             kernel.note(Note::Absent(file));
@@ -347,34 +399,41 @@ fn sync_to_read<K: Kernel>(kernel: &mut K, file: FileNo) -> Result<(), Refusal>
     }
 }
 
-// Makes a file durable that was opened to read it, and closes it. On a read-only file system nothing
-// waits to be written, for example after a fault of its disk.
+// Makes a file durable that was opened to read it, and closes it. Where the file system has no syncs,
+// nothing waits to be written.
 fn sync_opened<K: Kernel>(kernel: &mut K, file: FileNo) -> Result<(), Refusal>
     requires { MaySync (Held.Opened (Journal file)) (K.told kernel.old) (K.prepared kernel.old) }
     ensures told { OnOk result (Did (synced (Journal file)) (K.told kernel.old)
         (K.told kernel.new)) }
     ensures failed { OnErr result (Did (loses (Journal file)) (K.told kernel.old)
         (K.told kernel.new)) }
+    ensures cause { K.fails kernel.new ≡ K.fails kernel.old + failed_any result }
 {
     let held = Held::Opened(FileName::Journal(file));
     let found = is_long(kernel, held);
     let answer = sync_bytes(kernel, held, found);
     kernel.close();
     match answer {
-        Err(Refusal::ReadOnly | Refusal::Unsupported) => Ok(()),
+        Err(Refusal::Unsupported) => Ok(()),
         answer => answer,
     }
 }
 
 // Removes a name.
-fn remove_file<K: Kernel>(kernel: &mut K, name: FileName) -> Result<(), Refusal>
+fn remove_file<K: Kernel>(
+    kernel: &mut K,
+    refused: &mut Refused,
+    name: FileName,
+) -> Result<(), Refusal>
     requires { IfSome (K.told kernel.old) (HasFile name) }
     ensures told { OnOk result (Did (removed name) (K.told kernel.old) (K.told kernel.new)) }
     ensures failed { OnErr result (IfTold (MayDo (removed name)) (K.told kernel.old)
         (K.told kernel.new)) }
+    ensures cause { K.fails kernel.new + refused.new
+        ≡ K.fails kernel.old + refused.old + failed_any result }
 {
     match name {
-        FileName::New => remove_new(kernel),
+        FileName::New => remove_new(kernel, refused),
         _ => kernel.unlink(name),
     }
 }
@@ -382,18 +441,21 @@ fn remove_file<K: Kernel>(kernel: &mut K, name: FileName) -> Result<(), Refusal>
 // Removes `rasd.new`. A file system without a journal may lose half of the rename of a new store:
 // the store then has its first name, and `rasd.store` is missing. So the file isn't removed in that
 // case, but kept under another name.
-fn remove_new<K: Kernel>(kernel: &mut K) -> Result<(), Refusal>
+fn remove_new<K: Kernel>(kernel: &mut K, refused: &mut Refused) -> Result<(), Refusal>
     requires { IfSome (K.told kernel.old) (HasFile FileName.New) }
     ensures told { OnOk result (Did (removed FileName.New) (K.told kernel.old)
         (K.told kernel.new)) }
     ensures failed { OnErr result (IfTold (MayDo (removed FileName.New)) (K.told kernel.old)
         (K.told kernel.new)) }
+    ensures cause { K.fails kernel.new + refused.new
+        ≡ K.fails kernel.old + refused.old + failed_any result }
 {
     if kernel.lstat(Place::Name(FileName::Store))?.is_some() {
         return kernel.unlink(FileName::New);
     }
-    if kernel.lstat(Place::Left)?.is_some() {
-        return Err(Refusal::Other);
+    let left = kernel.lstat(Place::Left)?;
+    if left.is_some() {
+        return Err(refused.left_before(&left));
     }
     kernel.leave()
 }
@@ -404,11 +466,12 @@ fn remove_new<K: Kernel>(kernel: &mut K) -> Result<(), Refusal>
 fn sync_folders<K: Kernel>(kernel: &mut K) -> Result<(), Refusal>
     ensures told { OnOk result (Did synced_names (K.told kernel.old) (K.told kernel.new)) }
     ensures failed { OnErr result (K.told kernel.new ≡ K.told kernel.old) }
+    ensures cause { K.fails kernel.new ≡ K.fails kernel.old + failed_any result }
 {
     let is_run = kernel.keeps_any();
     match kernel.fsync_folders() {
         Err(Refusal::NotPermitted) if !is_run => Ok(()),
-        Err(Refusal::ReadOnly | Refusal::Unsupported) if !is_run => {
+        Err(Refusal::Unsupported) if !is_run => {
             kernel.note(Note::Names);
             Ok(())
         }

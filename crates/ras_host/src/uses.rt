@@ -24,9 +24,9 @@ impl Use for Alone {
 
 /// Every other command reads the files as they are at the first use, even while a run writes them.
 /// A missing file counts as empty.
-pub struct Reading;
+pub struct OnlyReading;
 
-impl Use for Reading {
+impl Use for OnlyReading {
     ghost HOW = { 0 };
 
     const HOW: u8 = 0;

@@ -11,7 +11,7 @@ use board_core::MemSource;
 use host_system::system_laws;
 use mem_system::{Effect, LeftFolder, MemSystem, NamePick, StopPick, WriteLeft};
 use ras_daemon::{Exit, RasWord, rasd};
-use ras_host::{Alone, FileBoard, Reading, Use};
+use ras_host::{Alone, FileBoard, OnlyReading, Use};
 use std::alloc::Global;
 use std::marker::Brand;
 use std::test::Fail;
@@ -107,7 +107,7 @@ fn names_in(alloc: Global, start: &LeftFolder) -> Result<Vec<u8>, Fail> {
         RasWord::new(alloc, b"names")?,
     ]?;
     let nothing = Trouble::Nothing;
-    let (_, system) = call_over::<Reading>(alloc, &words, Vec::new(alloc), start, nothing)?;
+    let (_, system) = call_over::<OnlyReading>(alloc, &words, Vec::new(alloc), start, nothing)?;
     Ok(now(&system)?.out)
 }
 

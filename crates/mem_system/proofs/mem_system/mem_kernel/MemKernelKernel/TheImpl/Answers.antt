@@ -12,4 +12,5 @@ write-tells c =
     record {
       told = search rules;
       failed = refused_told (to_print bytes) c.result old c.new.self.now.system (λ p. IfTold (MayPrint bytes) (Some old.past) (Some p)) (λ work. may_print bytes work old.past) c.ensures.serves;
+      cause = c.ensures.cause;
     }
