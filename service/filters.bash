@@ -3,7 +3,6 @@
 #
 # usage: source filters.bash, as service/feed and service/earlier-lines do, with the folder of the scripts in `here`
 # shellcheck disable=SC2034
-here=${here:-$(dirname -- "$(readlink -f -- "${BASH_SOURCE[0]}")")}
 program=${RASD:-/usr/libexec/rasd/rasd}
 traces=${RASD_TRACE:-/var/lib/rasd-trace}
 # A filter takes at most 64 MB, so a longer log or trace is cut into pieces for several, one after the other.
@@ -16,8 +15,9 @@ whole=("$here/whole-lines" --most 4096)
 # The end of a complete log: a line later than any, which ends the last report.
 log_end='[999999999999.000000] the end'
 
-# A run ignores comments. They say what a filter left out, so standard error gets them too.
-pass_on=("${whole[@]}" --tell '^#' "feed: left out")
+# A run ignores comments. They say what a filter left out, so standard error gets them too. If a filter is called wrongly, that
+# is the script's fault, and no run gets its line.
+pass_on=("${whole[@]}" --tell '^(?:#|stop )' "feed: left out" --without '^stop ')
 
 # Sets make_lines to the command that converts a boot's log: BOOT MCG_CAP. A piece ends before a report.
 log_filter() {
@@ -30,7 +30,7 @@ any_event='\b(aer|non_standard|mc|extlog_mem)_event: '
 
 # Passes on of a log what the firmware reported. Only a later line shows that a report has ended, so some lines after each
 # are passed too, but none that looks like an event: a device can have that in its name.
-log_reports=("${whole[@]}" --only '\}\[Hardware Error\]: |^\[9{12}\.' --more 1000 --without "$any_event")
+log_reports=("${whole[@]}" --only '\}\[Hardware Error\]: ' --only '^\[9{12}\.' --more 1000 --without "$any_event")
 
 # Sets firmware to where the memory errors come from that the firmware reports in a boot, log or trace: TRACE, the boot's
 # file. Its first line names the events that it has from its beginning, so this never changes: an error has another name in
@@ -67,7 +67,7 @@ log_before_trace() {
         echo "feed: $traces/trace.$1 has no time stamp, so machine checks from before the trace don't count" >&2
         return
     fi
-    journalctl -k -b "${1//-/}" -o short-monotonic ${2:+"--after-cursor=$2"} |
+    "$here/kernel-log" -b "${1//-/}" ${2:+"--after-cursor=$2"} |
         awk -v begins=': Machine Check' -v end="$first" -f "$here/older-lines.awk"
 }
 
@@ -77,12 +77,12 @@ reports_before_trace() {
     local first
     first=$(awk -f "$here/first-stamp.awk" "$traces/trace.$1")
     [[ -n $first ]] || return 0
-    journalctl -k -b "${1//-/}" -o short-monotonic ${2:+"--after-cursor=$2"} |
+    "$here/kernel-log" -b "${1//-/}" ${2:+"--after-cursor=$2"} |
         awk -v begins='Hardware error from APEI' -v end="$first" -v margin=1 -f "$here/older-lines.awk" && echo "$log_end"
 }
 
 # Sets make_lines to the command that converts a boot's trace: BOOT MCG_CAP. An injected error has no MCG_CAP, and gets this.
 trace_filter() {
-    make_lines=("${whole[@]}" --tell '^CPU:[0-9]+ \[LOST|^\[LINE TOO BIG' "feed: the trace has a gap" --only 'mce_record: '
+    make_lines=("${whole[@]}" --tell '^(?:CPU:[0-9]+ \[LOST|\[LINE TOO BIG|# keep-trace was killed)' "feed: the trace has a gap" --only 'mce_record: '
         --replace 'MCGc/s: 0/' "MCGc/s: $2/" --piece "$piece" -- "${tied[@]}" "$program" lines trace "$1")
 }
