@@ -1,0 +1,82 @@
+"""The memory slots of a machine as a picture: its DIMMs are the lines `# dimm` of its description."""
+import re
+
+from page import UNCORRECTED, element, grouped, joined, named
+
+PLACE = re.compile(r"S(\d+)\.M(\d+)\.C(\d+)\.D(\d+)")
+
+
+def name_of(label):
+    """The slot of a label, or the slots that it may mean."""
+    return " or ".join(part.partition("#")[0] for part in label.partition("~")[0].split("/"))
+
+
+def is_several(label):
+    """Whether a label means one of several DIMMs."""
+    return "/" in label or "~" in label
+
+
+class Dimm:
+    """A DIMM of the description: its label, name, serial number, size in MB, part number and place."""
+
+    def __init__(self, label, name, serial, size, part, place):
+        self.label, self.name, self.place = label, name, PLACE.fullmatch(place)
+        self.serial = serial if serial not in ("", "-") else ""
+        size = f"{int(size) // 1024} GB" if size.isdigit() and len(size) < 12 else ""
+        serial, part = (f"{what} {it}" if it not in ("", "-") else "" for what, it in (("serial", serial), ("part", part)))
+        self.said = ", ".join(filter(None, (serial, size, part)))
+
+
+class Board:
+    """The DIMMs of a machine, and how each is."""
+
+    def __init__(self):
+        self.dimms = {}
+
+    def take(self, line):
+        """Takes a line of the machine's description."""
+        words = line.split("\t")
+        if len(words) == 7 and words[0] == "# dimm":
+            self.dimms[words[1]] = Dimm(*words[1:])
+
+    def said(self, label):
+        """A label in words: the slot, with what is known of its DIMM."""
+        it = self.dimms.get(label)
+        if it is None:
+            return name_of(label)
+        return f"{it.name} ({it.said})" if it.said else it.name
+
+    def short(self, label):
+        """A label in few words: the slot, with its DIMM's serial number."""
+        it = self.dimms.get(label)
+        return f"{it.name} ({it.serial})" if it and it.serial else name_of(label)
+
+    def slots(self, counts, replaced):
+        """The pictures of the sockets: a slot is bad, has had errors, or nothing."""
+        sockets = {}
+        for it in self.dimms.values():
+            if it.place:
+                sockets.setdefault(int(it.place[1]), {}).setdefault((int(it.place[2]), int(it.place[3])), []).append(it)
+        for socket in sorted(sockets):
+            channels = [
+                element("div", *(self.slot(it, counts, replaced) for it in sockets[socket][key]), class_="channel")
+                for key in sorted(sockets[socket])
+            ]
+            yield element("div", element("h3", f"Socket {socket}"), element("div", *channels, class_="socket"), class_="frame board")
+
+    def slot(self, dimm, counts, replaced):
+        """The picture of a slot."""
+        of = counts.get(dimm.label, {})
+        bad = sum(count for name, count in of.items() if name in UNCORRECTED)
+        good = sum(of.values()) - bad
+        kind = "bad" if dimm.label in replaced or bad else "some" if good else ""
+        text = "replace" if dimm.label in replaced else f"{grouped(bad)} lost" if bad else grouped(good) if good else ""
+        title = f"{self.said(dimm.label)}: {grouped(good)} corrected, {grouped(bad)} uncorrected"
+        return element("div", element("strong", dimm.name), element("small", text), class_=f"slot {kind}".rstrip(), title=title)
+
+
+def unknown_which(counts):
+    """Lines on labels that mean one of several DIMMs."""
+    for label, of in counts.items():
+        if is_several(label) and sum(of.values()):
+            yield joined(named(name_of(label)), f": {grouped(sum(of.values()))} errors; the kernel didn’t say which")
