@@ -5,6 +5,7 @@
 # nothing.
 set -euo pipefail
 shopt -s inherit_errexit
+export LC_ALL=C
 bench=$(dirname -- "$(readlink -f -- "${BASH_SOURCE[0]}")")
 
 # Reads a script's arguments, PROGRAM [full], and enters a temporary folder.
@@ -60,12 +61,14 @@ lines() {
         -f "$bench/lines.awk"
 }
 
-# Empties the work folder except for the journal of an account with NAMES names, which rasd makes once.
+# Empties the work folder except for the journal of an account with so many names, of one page or each with a page of its own,
+# which rasd makes once: NAMES [new|paged]
 over() {
-    local kept=$ACCOUNTS/$1
+    local kind=${2-new}
+    local kept=$ACCOUNTS/$kind-$1
     if [[ ! -d $kept ]]; then
         mkdir -- "$kept"
-        { lines modules 1 && lines new "$1" 1; } | (cd -- "$kept" && "$program" run >/dev/null)
+        { lines modules 1 && lines "$kind" "$1" 1; } | (cd -- "$kept" && "$program" run >/dev/null)
     fi
     rm -f -- "$room"/work/*
     cp -- "$kept"/* "$room/work"

@@ -1,8 +1,9 @@
 # Prints `count` lines of a kind, for this folder's measurements: `module` lines, machine checks of new names (of boot
-# `boot`), the same one again and again, and so on. `block` and `record` are the firmware's, in hexadecimal, and `table` is the
-# `erst` line.
+# `boot`), all of one page or each of its own page, the same one again and again, and so on. `block` and `record` are the
+# firmware's, in hexadecimal, and `table` is the `erst` line.
 BEGIN {
-    bank = "1000c14 0 8c00004000010090 12345040 86"
+    status = "1000c14 0 8c00004000010090"
+    bank = status " 12345040 86"
     zeros = "0000000000000000"
     mark = "[%5d.%06d] mce: [Hardware Error]: "
     first = mark "CPU %d: Machine Check: 0 Bank 7: 8c00004000010090\n"
@@ -17,6 +18,7 @@ BEGIN {
         cpu = i % 64; address = 305418304 + i * 4096; time = 1400000000 + i; s = i / 10; us = i % 10
         if (kind == "modules") printf "module M%d %d %d %d\n", i, (i - 1) / 2048, (i + 6) % 256, (i - 1) / 256 % 8
         else if (kind == "new") printf "bank %d 100 0 7 %d %s\n", boot, i, bank
+        else if (kind == "paged") printf "bank %d 100 0 7 %d %s %x 86\n", boot, i, status, address
         else if (kind == "repeat") printf "bank %d 100 0 7 1 %s\n", boot, bank
         else if (kind == "empty") print ""
         else if (kind == "comment") print "# A comment, whose first byte says already that it is one."

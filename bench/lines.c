@@ -1,5 +1,5 @@
 /* lines klog BOOT CAP | lines trace BOOT: does in plain C what `rasd lines` does with a log as the console prints it, with a
-   time stamp in brackets, or with a trace as kernels since 6.12 print it: it prints the `bank` line of each complete report
+   time stamp in brackets and without EDAC's text, or with a trace as kernels since 6.12 print it: it prints the `bank` line of each complete report
    of an Intel processor, and a comment for each unreadable line, in the same bytes. Like rasd it prints the text before it
    reads the source again. */
 #include "text.h"
@@ -7,7 +7,6 @@
 static Text out;
 static Bank bank;
 static u64 boot, cap, count;
-static u64 stamp;
 /* How much of the report in work is read: 0 nothing, 1 its first line, 2 its second one too. */
 static int stage;
 
@@ -23,10 +22,28 @@ static void reg(u64 v) {
 	str(&out, " ");
 	hex(&out, v, digits);
 }
-static void asking_line(const Bank *b) {
+/* Gives an error without a counter one: its second, a check of its registers, and how many alike came before. */
+static void name(Bank *b) {
+	enum { SLOTS = 1 << 19, CHECKS = 1048573 };
+	static struct {
+		u64 place, like, count;
+	} slots[SLOTS];
+	unsigned __int128 check = ((unsigned __int128)b->status << 64 | b->addr) % CHECKS;
+	u64 place = b->cpu << 8 | b->bank, like, at;
+	check = (check << 64 | b->misc) % CHECKS;
+	like = (b->seconds & 0xffffffff) << 32 | (u64)check << 12;
+	for (at = (like ^ place) * 0x9e3779b97f4a7c15 >> 45; slots[at].count; at = (at + 1) % SLOTS)
+		if (slots[at].place == place && slots[at].like == like) break;
+	slots[at].place = place;
+	slots[at].like = like;
+	b->tsc = like + (slots[at].count < 4095 ? slots[at].count : 4095);
+	slots[at].count++;
+}
+static void asking_line(Bank *b) {
+	if (!(b->status >> 63)) return;
+	if (!b->tsc) name(b);
 	const u64 numbers[] = {b->seconds, b->cpu, b->bank, b->tsc};
 	const u64 registers[] = {b->cap, b->mcg, b->status, b->addr, b->misc};
-	if (!(b->status >> 63)) return;
 	str(&out, "bank ");
 	dec(&out, b->boot);
 	for (int i = 0; i < 4; i++) {
@@ -42,23 +59,21 @@ static int value(const char **p, unsigned base, char end, u64 *v) {
 	*v = number(p, base);
 	return *p > start && *(*p)++ == end;
 }
-/* Reads a stamp of seconds and microseconds, and what ends it. */
-static int read_stamp(const char *p, char end, u64 *us) {
+/* Whether a stamp of seconds and microseconds stands before an event. */
+static int is_traced(const char *line, const char *at) {
 	u64 seconds, part;
-	while (*p == ' ') p++;
-	if (!value(&p, 10, '.', &seconds) || !value(&p, 10, end, &part) || p[-8] != '.') return 0;
-	*us = seconds * 1000000 + part;
-	return 1;
+	while (at > line && at[-1] == ' ') at--;
+	while (at > line && at[-1] != ' ') at--;
+	return value(&at, 10, '.', &seconds) && value(&at, 10, ':', &part);
 }
 
 /* Whether a line of a log tells nothing or can be read. */
 static int read_log(const char *p) {
 	static const char mark[] = "mce: [Hardware Error]: ";
 	const char *at = strstr(p, mark), *text;
-	u64 us = 0, cpu, number_, vendor;
+	u64 cpu, number_, vendor;
 	Bank b = {.boot = boot, .cap = cap};
 	if (!at || (at > p && (*p != '[' || at[-1] != ' ' || at[-2] != ']' || memchr(p, ']', at - p) != at - 2))) return 1;
-	if (at > p) read_stamp(p + 1, ']', &us);
 	text = at + sizeof mark - 1;
 	if (is(&text, "CPU ")) {
 		if (!value(&text, 10, ':', &cpu) || !(is(&text, " Machine Check: ") || is(&text, " Machine Check Exception: ")) ||
@@ -69,7 +84,6 @@ static int read_log(const char *p) {
 		b.bank = number_;
 		if (stage) fail("a report isn't whole");
 		bank = b;
-		stamp = us;
 		stage = 1;
 	} else if (is(&text, "TSC ")) {
 		if (stage != 1) return 0;
@@ -84,7 +98,6 @@ static int read_log(const char *p) {
 		bank.seconds = number(&text, 10);
 		stage = 0;
 		if (vendor) fail("another vendor");
-		if (!bank.tsc) bank.tsc = stamp;
 		asking_line(&bank);
 	}
 	return 1;
@@ -124,11 +137,7 @@ static int read_trace(const char *p) {
 	}
 	if (told != ALL || twice) return 0;
 	if (vendor) fail("another vendor");
-	if (!b.tsc) {
-		while (at > p && at[-1] == ' ') at--;
-		while (at > p && at[-1] != ' ') at--;
-		if (!read_stamp(at, ':', &b.tsc)) return 0;
-	}
+	if (!b.tsc && !is_traced(p, at)) return 0;
 	asking_line(&b);
 	return 1;
 }

@@ -23,6 +23,8 @@ CODE_HEAD = re.compile(
 IMPL_HEAD = re.compile(r"impl(?:<.*?>)? (?:(?P<trait>[\w:<>, ]+?) for )?(?P<type>\w+)")
 CLAUSE = re.compile(r" +(?P<kind>requires|ensures)\b *(?P<name>\w+)?")
 FIELD_SET = re.compile(r"([{;]\s*)[^\s(){}\[\];,&]+ (?==)")
+# what stands in a type for members that aren't shown
+POINTS = ".."
 SPEC_WORD = re.compile(r"[^\s(){}\[\];,&]+")
 CODE_WORD = re.compile(r"[^\s(){}\[\];,&<>?!:]+")
 
@@ -129,6 +131,48 @@ def constructors_of(item):
     """The constructors of an item that is data."""
     found = [re.match(r"\s+(?:pub )?([^\s({:]+) :", line) for line in item.lines[1:]]
     return [match[1] for match in found if match] if item.kind == "data" else []
+
+
+# ---- the members of a type
+
+STATEMENT = re.compile(r"[≡≢≤×⊎↔¬]| < ")
+MEMBER = re.compile(r"(?P<indent>    |  )(?:pub )?(?P<name>\w+)(?= :|:|,| \{|\(|$)")
+
+
+@functools.cache
+def is_data(item):
+    """Whether an item is a type of values: no field of a record, and no constructor of data, is a statement."""
+    if item.kind in ("record", "data"):
+        fields = item._replace(lines=item.lines[1:])
+        is_stated = any(STATEMENT.search(line) for line in fields.lines) or item.kind == "data" and "→" in item.lines[0]
+        needed = (it for it in meanings(fields) if it and it.kind != "fn" and it.name != item.name)
+        return not is_stated and (item.kind == "data" or all(is_data(it) for it in needed))
+    return item.kind in ("struct", "enum")
+
+
+def members_of(item):
+    """The fields or variants of a type of values, each with the places of its lines. A record of statements has none
+    here: what is stated is read whole."""
+    indent = "    " if item.kind in ("struct", "enum") else "  "
+    members, name = {}, None
+    for place, line in enumerate(item.lines[1:], 1) if is_data(item) else ():
+        match = MEMBER.match(line)
+        if match and match["indent"] == indent:
+            name = match["name"]
+        elif line.strip() and not line.startswith(f"{indent} ") and line != f"{indent}}},":
+            name = None
+        if name:
+            members.setdefault(name, []).append(place)
+    return members
+
+
+def with_members(item, used):
+    """A type with these of its members, and two points in place of the others."""
+    dropped = {place for name, places in members_of(item).items() if name not in used for place in places}
+    points = f"    {POINTS}" if item.kind in ("struct", "enum") else f"  {POINTS}"
+    lines = [points if place in dropped else line for place, line in enumerate(item.lines)]
+    lines = [line for place, line in enumerate(lines) if line != points or points not in lines[:place]]
+    return item._replace(lines=tuple(lines))
 
 
 # ---- what a crate gives to others

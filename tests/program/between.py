@@ -23,7 +23,7 @@ def built(folder):
 
 
 def ran(library, words, data, folder, **between):
-    """A run in a folder with that between: how it ended, and how many calls of the two kinds it made."""
+    """Runs words in a folder, with the library preloaded: how the run ended, and how many calls of the two kinds it made."""
     with tempfile.NamedTemporaryFile(dir=ROOM) as counts:
         counts.write(bytes(COUNTS.size))
         counts.flush()

@@ -290,12 +290,13 @@ def checks_of_labels(program, folder, samples):
         rows_file.unlink(missing_ok=True)
         if lines is not None:
             rows_file.write_text(lines)
-        settings = {**os.environ, "RASD": str(program), "RASD_ROWS": str(rows_file)}
+        settings = {**os.environ, "RASD": str(program), "RASD_ROWS": str(rows_file), "RASD_MADE_ROWS": "/nonexistent"}
+        settings["RASD_WATCH"] = f"{folder}/watch"
         ran = subprocess.run([MONITOR / "write-metrics", file], cwd=folder, env=settings, capture_output=True)
         wanted = {key: it for key, it in samples.items() if dict(key[1]).get("label", "-") in kept}
-        found = samples_of(file.read_text())
-        # Whether the service is active is tests/program/alerts' to try: here may be no systemd.
-        found.pop(key_of("rasd_active"), None)
+        # What write-metrics adds is tests/program/alerts' to try: here may be no systemd.
+        names = {name for name, *_ in samples}
+        found = {key: it for key, it in samples_of(file.read_text()).items() if key[0] in names}
         is_right = ran.returncode == 0 and found == wanted
         yield holds(f"metrics: by the rows {lines}: {ran.stderr}", is_right)
 
@@ -338,7 +339,7 @@ def put_of(data):
 
 
 def saved_record(identifier, kind, section, sections=1, place=200):
-    """A record that the kernel saves: a section of this type, said to be at this place."""
+    """A record as the kernel saves it, with one section of this type, whose descriptor gives this place."""
     record = bytearray(record_of(identifier, 200 + len(section)))
     record[10:12] = sections.to_bytes(2, "little")
     record[128:136] = struct.pack("<2I", place, len(section))

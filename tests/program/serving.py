@@ -21,27 +21,66 @@ EARLIER = "01234567-89ab-cdef-0123-456789abcdef"
 SOON = 10.0
 PATIENCE = 60.0
 
-# The log of this boot goes on until it is ended; its process and its words are noted. Those of other boots stand in
-# files, and come in two parts if they are to be slow.
-JOURNALCTL = """#!/bin/sh
-case " $* " in
-    *" --list-boots "*) cat {room}/boots ;;
-    *" -f "*)
-        echo "$*" > {room}/words
-        echo $$ > {room}/process
-        exec tail -n +1 -f {room}/log ;;
-    *" export "*) printf '__REALTIME_TIMESTAMP=1400000005000000\\n__MONOTONIC_TIMESTAMP=5000000\\n' ;;
-    *" {boot} "*) exec cat {room}/log ;;
-    *)
-        [ ! -e {room}/slow ] || {{ head -c 300000 {room}/log.$3; sleep 1; exec tail -c +300001 {room}/log.$3; }}
-        exec cat {room}/log.$3 ;;
-esac
+# It prints logs as journalctl's export form. The log of this boot goes on until the stub is ended, and its process and its
+# words are noted. Those of other boots are files, and come in two parts if they are to be slow.
+JOURNALCTL = r"""#!/usr/bin/perl
+use strict; use warnings; use Time::HiRes 'sleep';
+$| = 1;
+END {{ close STDOUT or $? ||= 1 }}
+my ($room, $boot, $words) = ('{room}', '{boot}', "@ARGV");
+sub note {{ open my $file, '>', "$room/$_[0]"; print $file $_[1] }}
+sub pass_on {{ open my $file, '<', $_[0] or exit print STDERR "$_[0]: No such file\n"; print while <$file> }}
+my ($count, $time, $message) = (0);
+my $after = $words =~ /--after-cursor=s=(\d+)/ ? $1 : 0;
+sub print_entry {{
+    return if !defined $message;
+    return ++$count && undef $message if $count < $after;
+    # journald reads a line later than the kernel prints it.
+    printf "__CURSOR=s=%d\n__REALTIME_TIMESTAMP=%.0f\n__MONOTONIC_TIMESTAMP=%.0f\nSYSLOG_IDENTIFIER=kernel\n",
+        ++$count, 1400000000000000 + $time + 700000, $time + 700000;
+    printf "_SOURCE_MONOTONIC_TIMESTAMP=%.0f\n", $time;
+    print $message =~ /\n/ ? "MESSAGE\n" . pack('Q<', length $message) . "$message\n\n" : "MESSAGE=$message\n\n";
+    undef $message;
+}}
+sub take {{
+    my $line = shift;
+    chomp $line;
+    # A message's second line is indented.
+    return $message .= "\n" . $line =~ s/^ +//r if $line =~ /^ {{20}}/ && defined $message;
+    print_entry();
+    ($time, $message) = $line =~ /^\[ *([\d.]+)\] (?:\S+ kernel: )?(.*)/ ? ($1 * 1000000, $2) : (0, $line);
+}}
+sub print_log {{
+    my ($name, $goes_on, $is_slow) = @_;
+    open my $file, '<', $name or do {{ print STDERR "$name: No such file\n"; exit 1 }};
+    my $text = '';
+    while (1) {{
+        my $got = sysread $file, $text, $is_slow ? 300000 : 65536, length $text;
+        my $whole = rindex($text, "\n") + 1;
+        take($_) for split /^/m, substr $text, 0, $whole, '';
+        if ($got) {{ sleep 1 if $is_slow; $is_slow = 0; next }}
+        print_entry();
+        last if !$goes_on;
+        sleep 0.02;
+    }}
+}}
+open my $calls, '>>', "$room/calls"; print $calls "$words\n"; close $calls;
+if ($words =~ /--list-boots/) {{ pass_on("$room/boots") if -e "$room/boots" }}
+elsif ($words =~ / -n 1 /) {{
+    # The other boots began later than the one that tests call the earlier one.
+    printf "__REALTIME_TIMESTAMP=%d000000\n__MONOTONIC_TIMESTAMP=5000000\n", $words =~ / {earlier} / ? 1400000005 : 1400001005;
+}}
+elsif ($words =~ / -f /) {{ note('words', "$words\n"); note('process', "$$\n"); print_log("$room/log", 1) }}
+elsif ($words =~ / $boot /) {{ print_log("$room/log") }}
+else {{ print_log("$room/log.$ARGV[2]", 0, -e "$room/slow") }}
 """
 ERROR = (
     "[{0:5}.000001] node7 kernel: mce: [Hardware Error]: CPU 0: Machine Check: 0 Bank 7: 8c00004000010090\n"
     "[{0:5}.000002] node7 kernel: mce: [Hardware Error]: TSC {1:x} ADDR 12345040 MISC 86 \n"
     "[{0:5}.000003] node7 kernel: mce: [Hardware Error]: PROCESSOR {2}:306e4 TIME 1400000000 SOCKET 0 APIC 0 microcode 1\n"
 )
+# The counter by which the first such error of the second 1400000000 is named if it has none.
+POLLED = 6012954218412957696
 TRACED = (
     "  kworker/0:1-7  [000] .....  100.000001: mce_record: CPU: 0, MCGc/s: 1000c14/0, MC7: 8c00004000010090, IPID: {0}, "
     "ADDR/MISC/SYND: 0000000012345040/0000000000000086/{0}, RIP: 00:<{0}>, TSC: 3e8, PROCESSOR: 0:306e4, "
@@ -76,8 +115,9 @@ MEMORY = (
 EVENTS = "mce_record aer_event non_standard_event"
 SETTINGS = ("MCG_CAP", "SOURCE", "FIRMWARE", "BOOTS_KEPT")
 ROWS = "cpu 0 0\nmodule DIMM_A1 0 7 0\nmodule-limit 4 86400"
-# The feed's line before the first error is a poll, behind rows, a bank that holds none, and a table with its comment.
-HEAD = 8
+# The feed's last line before the first error is a bank without an error, behind rows, another one, a table with its comment, a
+# poll, and a mark.
+HEAD = 10
 
 
 def holds(what, is_so):
@@ -113,7 +153,7 @@ class Service:
         self.room, self.folder = pathlib.Path(room), pathlib.Path(folder)
         (self.room / "bin").mkdir(parents=True)
         stub = self.room / "bin" / "journalctl"
-        stub.write_text(JOURNALCTL.format(room=self.room, boot=BOOT.replace("-", "")))
+        stub.write_text(JOURNALCTL.format(room=self.room, boot=BOOT.replace("-", ""), earlier=EARLIER.replace("-", "")))
         stub.chmod(0o755)
         (self.room / "log").touch()
         (self.room / "rows").write_text(ROWS)
@@ -123,22 +163,30 @@ class Service:
             "MCG_CAP": "1000c14",
             "RASD": str(PROGRAM),
             "RASD_ROWS": f"{self.room}/rows",
+            "RASD_MADE_ROWS": f"{self.room}/made",
             "RASD_PIPE": f"{self.room}/lines",
             "RASD_TRACE": str(self.room),
             "RASD_PSTORE": f"{self.room}/pstore",
+            "RASD_BERT": f"{self.room}/bert",
             "RASD_EDAC": f"{self.room}/mc",
         }
         self.process = None
 
-    def start(self, *where, loud=False):
-        """Begins the command, as the service manager does; if it is loud, the output has the lines that are left out."""
+    def start(self, *where, loud=False, wait=True):
+        """Begins the command, as the service manager does; if it is loud, the output has the lines that are left out. Without
+        waiting, what comes before the command is begun with it.
+        """
         before, command = (with_our_paths(settings(it)[0], *where) for it in ("ExecStartPre", "ExecStart"))
         words = shlex.split(command)
         if loud:
-            words[-1] = re.sub(r" > >\(.*\)$", "", words[-1])
+            numbers = f"{SERVICE}/whole-lines --acknowledged {self.room}/acknowledged"
+            words[-1] = re.sub(r" > >\(.*\)$", f" > >(exec {numbers})", words[-1])
         how = {"cwd": self.folder, "env": self.environment, "stdin": subprocess.DEVNULL}
         with open(self.room / "out", "wb") as out, open(self.room / "errors", "wb") as errors:
-            subprocess.run(shlex.split(before.lstrip("-")), stdout=out, stderr=errors, **how)
+            if wait:
+                subprocess.run(shlex.split(before.lstrip("-")), stdout=out, stderr=errors, **how)
+            else:
+                words = ["bash", "-c", '"$1"; shift; exec "$@"', "-", before.lstrip("-"), *words]
             self.process = subprocess.Popen(words, stdout=out, stderr=errors, start_new_session=True, **how)
 
     def processes(self):
@@ -186,6 +234,13 @@ class Service:
             time.sleep(0.05)
         return is_whole
 
+    def awaits_no_boots_before(self):
+        """Whether the errors of earlier boots are acknowledged in time, so that no boot is noted any more."""
+        end = time.monotonic() + PATIENCE
+        while (self.folder / "boots-before").read_text() and time.monotonic() < end:
+            time.sleep(0.05)
+        return not (self.folder / "boots-before").read_text()
+
     def has_before(self, text):
         """Lets the account be one of a boot 7 before this one, whose log has this text."""
         subprocess.run([PROGRAM, "run"], stdin=subprocess.DEVNULL, capture_output=True, cwd=self.folder)
@@ -203,7 +258,8 @@ class Service:
         (self.room / f"trace.{boot}").write_text(f"# {events}\n{text}")
 
     def end_log(self):
-        """Ends journalctl."""
+        """Ends journalctl, once it follows the log."""
+        self.awaits("\n", "process")
         os.kill(int(self.text("process")), signal.SIGTERM)
 
     def tell(self, *words):

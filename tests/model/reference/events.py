@@ -4,7 +4,7 @@ import uuid
 
 from reference import memory
 from reference.base import check
-from reference.kernel import LAST_SECOND_OF_TRACE, SECOND, STAMP
+from reference.kernel import LAST_SECOND_OF_TRACE, SECOND, STAMP, behind_name
 
 HEX = rb"([0-9a-fA-F]{1,16})"
 NAMED = re.compile(rb" *(?:ras:)?(aer|non_standard|mc|extlog_mem)_event: +(.*)|(?!)", re.S)
@@ -13,6 +13,12 @@ AER = re.compile(
     % (HEX, HEX, HEX), re.S
 )  # fmt: skip
 HEADER = re.compile(rb"\{0x%s,0x%s,0x%s,0x%s\}" % (HEX, HEX, HEX, HEX))
+# Rows of 16 bytes; Linux 6.1 prints no space between two rows.
+BYTE = rb"[0-9a-fA-F]{2}"
+ROWS = re.compile(rb"(?:%s(?: %s){15} ?)*%s(?: %s){0,15}" % (BYTE, BYTE, BYTE, BYTE))
+# An event's name behind a clock, wherever both are; and a memory controller's.
+STRAY = rb"(?:^| )(?=[0-9.]{4})\.*[0-9][0-9.]*: +(?:ras:)?%s_event:(?= |$)"
+STRAYS, STRAY_MC = re.compile(STRAY % rb"(?:aer|non_standard|extlog_mem)"), re.compile(STRAY % rb"mc")
 RAW = re.compile(rb"severity: ([0-9]{1,20}); sec type:([^;]*); FRU: (?:.*;)? data len:([0-9]{1,20}); raw data:([^;]*)", re.S)
 SEVERITIES = {b"Corrected": 2, b"Fatal": 1, b"Uncorrected, non-fatal": 0}
 # The kernel's numbers of severities, which are none, corrected, recoverable and panic, as numbers of a block.
@@ -87,7 +93,7 @@ def raw_section(text):
     found = RAW.fullmatch(text)
     check(found)
     severity, kind, size, data = found.groups()
-    check(re.fullmatch(rb"[0-9a-f]{2}(?: [0-9a-f]{2})*", data, re.I))
+    check(ROWS.fullmatch(data))
     check(re.fullmatch(rb"[0-9a-f]{8}(?:-[0-9a-f]{4}){3}-[0-9a-f]{12}", kind, re.I))
     section = bytes.fromhex(data.decode())
     check(len(section) == at_most(size, LONGEST_SECTION, 10))
@@ -97,17 +103,23 @@ def raw_section(text):
 READERS = {b"aer": pcie_section, b"non_standard": raw_section, b"mc": memory.of_controller, b"extlog_mem": memory.of_log}
 
 
+def has_stray(line):
+    """Whether a line has an event's name behind a clock, wherever both are."""
+    return STRAYS.search(line) or memory.may_be_of_firmware(line) and STRAY_MC.search(line)
+
+
 def event_in(line):
     """The time stamp of a line's event, and its severity, type and section; none if the line has no event that counts.
 
     The event's name is behind the clock: the line's first colon before a space ends a word of at least four signs.
     """
+    line = behind_name(line)
     head, _, rest = line.partition(b": ")
     clock = head.rpartition(b" ")[2]
     found = NAMED.fullmatch(b" " + rest)
-    if not found or not re.fullmatch(rb"(?=.{4})[0-9.]*[0-9][0-9.]*", clock):
-        return None
-    if found[1] == b"mc" and memory.is_of_another_driver(found[2]):
+    is_event = found and re.fullmatch(rb"(?=.{4})[0-9.]*[0-9][0-9.]*", clock)
+    if not is_event or found[1] == b"mc" and memory.is_of_another_driver(found[2]):
+        check(not has_stray(line))
         return None
     stamp = STAMP.fullmatch(clock + b":")
     check(stamp and int(stamp[1]) <= LAST_SECOND_OF_TRACE)

@@ -111,18 +111,19 @@ class Reports:
 
     def section(self, kind, line):
         """What is told of a line that says what a section is about."""
-        work = self.work
+        work, has_begun = self.work, self.work["state"] == "begun"
+        work["errors"] += [work["error"]] if work["error"] else []
+        work["error"], work["state"] = None, "left out"
         if kind != b"memory error":
-            work["error"], work["state"] = None, "left out"
             return LEFT_OUT.format(line)
-        if work["state"] != "begun":
+        is_full = len(work["errors"]) == MOST_ERRORS
+        if not is_full:
+            blank = {"address": None, "mask": None, "place": [None] * 3, "kind": None}
+            severity = work["next"] if has_begun else work["severity"]
+            work["state"], work["error"] = "memory", {"severity": severity, **blank}
+        if not has_begun:
             return UNREAD.format(line)
-        if len(work["errors"]) == MOST_ERRORS:
-            work["state"] = "left out"
-            return LEFT_OUT.format(line)
-        blank = {"address": None, "mask": None, "place": [None] * 3, "kind": None}
-        work["state"], work["error"] = "memory", {"severity": work["next"], **blank}
-        return ""
+        return LEFT_OUT.format(line) if is_full else ""
 
     def field(self, text, line):
         """What is told of a field of a section about memory."""

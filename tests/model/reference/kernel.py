@@ -84,12 +84,36 @@ def klog(boot, cap, log):
 # ---- lines of a script
 
 VENDOR, PARTIAL, UNREAD = "# vendor={} cpu={} bank={}\n", "# partial cpu={} bank={}\n", "# unread {}\n"
-FIRMWARE, TORN = "# firmware cpu={} bank=255\n", "# torn {}\n"
+FIRMWARE, TORN, FULL = "# firmware cpu={} bank=255\n", "# torn {}\n", "# full\n"
+# An error without a counter gets one: its second, a check below this prime, and how many alike came before.
+CHECKS = 1_048_573
+MOST_ALIKE, MOST_KEYS = 4_095, 200_000
 
 
 def bank_line(boot, seconds, cpu, bank, tsc, cap, mcg, status, addr, misc):
     """The line of a report, as a script writes its numbers."""
     return f"bank {boot} {seconds} {cpu} {bank} {tsc} {cap:x} {mcg:x} {status:x} {addr:x} {misc:x}\n"
+
+
+class Names:
+    """How many errors without a counter one printer told so far, by what those alike have in common."""
+
+    def __init__(self):
+        self.counts = {}
+
+    def line(self, boot, seconds, cpu, bank, tsc, cap, mcg, status, addr, misc):
+        """The line of a report, with a counter if it has none; behind a comment if its like aren't counted."""
+        comment = ""
+        if not tsc:
+            check = int(f"{status:016x}{addr:016x}{misc:016x}", 16) % CHECKS
+            key = cpu, bank, seconds % 2**32, check
+            before = self.counts.get(key, 0)
+            if key in self.counts or len(self.counts) < MOST_KEYS:
+                self.counts[key] = before + 1
+            else:
+                comment = FULL
+            tsc = (key[2] << 32) + (check << 12) + min(before, MOST_ALIKE)
+        return comment + bank_line(boot, seconds, cpu, bank, tsc, cap, mcg, status, addr, misc)
 
 
 def printed(source, text_of):
@@ -153,17 +177,8 @@ def fields_of(text):
     return found
 
 
-def microseconds(front):
-    """The last stamp among the words that stand before an event."""
-    for word in reversed(front.split(b" ")):
-        stamp = STAMP.fullmatch(word)
-        if stamp and int(stamp[1]) <= LAST_SECOND_OF_TRACE:
-            return int(stamp[1]) * SECOND + int(stamp[2])
-    raise Unreadable
-
-
-def event_text(boot, front, text):
-    """What is printed of an event that stands after such a front."""
+def event_text(names, boot, text):
+    """What is printed of an event, after these names."""
     found = fields_of(text)
     cpu, seconds = number_of(found["cpu"][0], 65_535), number_of(found["time"][0])
     vendor = number_of((found.get("vendor") or found["processor"])[0])
@@ -172,12 +187,16 @@ def event_text(boot, front, text):
     addr, misc = (int(it, 16) for it in registers)
     if vendor:
         return VENDOR.format(vendor, cpu, found["bank"])
-    tsc = tsc or microseconds(front)
     if not bit(status, reports.VAL):
         return ""
     if found["bank"] == 255:
         return FIRMWARE.format(cpu)
-    return bank_line(boot, seconds, cpu, found["bank"], tsc, cap, mcg, status, addr, misc)
+    return names.line(boot, seconds, cpu, found["bank"], tsc, cap, mcg, status, addr, misc)
+
+
+def behind_name(line):
+    """What follows the name of a process, if a line has it in the 16 columns of the kernel's own file."""
+    return line[17:] if re.match(rb".{16}-[0-9]", line, re.S) else line
 
 
 def is_front(front):
@@ -185,26 +204,27 @@ def is_front(front):
 
     The time has four signs at least: so it doesn't fit into the name of a process before the mark.
     """
-    head, colon, rest = front.partition(b": ")
+    head, colon, rest = behind_name(front).partition(b": ")
     is_time = re.fullmatch(rb"(?=.{4})[0-9.]*[0-9][0-9.]*", head.rpartition(b" ")[2])
     return bool(colon and is_time and rest.lstrip(b" ") in (b"", b"mce:"))
 
 
-def trace_text(boot, number, line):
-    """What is printed of a line of a trace."""
+def trace_text(names, boot, number, line):
+    """What is printed of a line of a trace, after these names."""
     front, mark, text = line.rpartition(MARK)
     if not mark:
         return ""
     try:
         check(is_front(front))
-        return event_text(boot, front, text)
+        return event_text(names, boot, text)
     except Unreadable:
         return UNREAD.format(number)
 
 
 def lines_trace(boot, trace):
     """What `lines trace` prints, and its status."""
-    return printed(trace, lambda number, line: trace_text(boot, number, line))
+    names = Names()
+    return printed(trace, lambda number, line: trace_text(names, boot, number, line))
 
 
 # ---- the record that the kernel saves when it panics: struct mce of arch/x86/include/uapi/asm/mce.h
@@ -230,8 +250,7 @@ def lines_mce(boot, record):
         return f"# no error cpu={cpu} bank={bank}\n", 0
     if bank == 255:
         return FIRMWARE.format(cpu), 0
-    tsc = tsc or seconds % 10**12 * SECOND
-    return bank_line(boot, seconds, cpu, bank, tsc, cap, mcg, status, addr, misc), 0
+    return Names().line(boot, seconds, cpu, bank, tsc, cap, mcg, status, addr, misc), 0
 
 
 # ---- the log as lines of a script
@@ -304,43 +323,25 @@ def edac_told(kind, text):
 
 
 class LogLines:
-    """The report in work, how many had neither counter nor stamp, and the last one of EDAC's that had no counter."""
+    """The report in work, and the names that EDAC and the kernel gave."""
 
     def __init__(self, boot, cap):
-        self.boot, self.cap, self.counted = boot, cap, 0
-        self.start = self.tsc = self.stamp = None
+        self.boot, self.cap = boot, cap
+        self.start = self.tsc = None
         # EDAC's registers so far, and the kind of its next line; None if no report of EDAC is in work
-        self.registers, self.awaited, self.by_edac, self.twin = [], None, False, None
+        self.registers, self.awaited, self.by_edac = [], None, False
+        self.names = {True: Names(), False: Names()}
 
-    def begin(self, start, stamp, by_edac=False):
+    def begin(self, start, by_edac=False):
         """Begins a report, or none; what is told of the one before, if that isn't whole."""
         text = PARTIAL.format(self.start[1], self.start[3]) if self.start else ""
-        self.start, self.tsc, self.stamp, self.by_edac = start, None, stamp, by_edac
+        self.start, self.tsc, self.by_edac = start, None, by_edac
         self.registers, self.awaited = [], "tsc" if by_edac else None
         return text
 
-    def counter(self, seconds):
-        """The counter of a report that the kernel found by polling: its own text has the one of EDAC's before it."""
-        report = (*self.start[1:], *self.tsc[2:], seconds)
-        if self.twin and not self.by_edac and self.twin[0] == report:
-            return self.twin[1]
-        counter = self.stamp
-        if counter is None:
-            counter = seconds % (LAST_SECOND + 1) * SECOND + self.counted % SECOND
-            self.counted += 1
-        return counter
-
-    def named(self, seconds):
-        """The counter of a report that is whole."""
-        tsc = self.tsc[1]
-        counter = tsc or self.counter(seconds)
-        self.twin = ((*self.start[1:], *self.tsc[2:], seconds), counter) if self.by_edac and not tsc else None
-        return counter
-
     def whole(self, number, vendor, seconds):
         """What is told of a report that is whole, at the line of this number."""
-        tsc = self.named(seconds)
-        (_, cpu, mcg, bank, status), (_, _, addr, misc) = self.start, self.tsc
+        (_, cpu, mcg, bank, status), (_, tsc, addr, misc) = self.start, self.tsc
         self.start = None
         if vendor:
             return VENDOR.format(vendor, cpu, bank)
@@ -350,8 +351,9 @@ class LogLines:
             return FIRMWARE.format(cpu)
         is_torn = bit(status, reports.ADDRV) and addr == 0
         status ^= is_torn << reports.ADDRV
-        line = bank_line(self.boot, seconds, cpu, bank, tsc, self.cap, mcg, status, addr, misc)
-        return (TORN.format(number) if is_torn else "") + line
+        names = self.names[self.by_edac]
+        line = names.line(self.boot, seconds, cpu, bank, tsc, self.cap, mcg, status, addr, misc)
+        return TORN.format(number) + line.removeprefix(FULL) if is_torn else line
 
     def take_edac(self, number, head, text):
         """What is told as a line of EDAC's is read: of its three registers the last one tells all."""
@@ -363,7 +365,7 @@ class LogLines:
         check(is_own(head))
         kind, *numbers = edac_told(kind, driver[1])
         if kind == "start":
-            return self.begin((kind, *numbers), stamp_in(head), True)
+            return self.begin((kind, *numbers), True)
         check(kind == self.awaited)
         self.awaited = NEXT_OF_EDAC[kind]
         if kind == "processor":
@@ -373,11 +375,11 @@ class LogLines:
             self.tsc = ("tsc", *self.registers)
         return ""
 
-    def take(self, number, told, stamp):
+    def take(self, number, told):
         """What is told as a line of a report is read; one for which the report has no place can't be read."""
         kind, *numbers = told
         if kind == "start":
-            return self.begin(told, stamp)
+            return self.begin(told)
         check(self.start and not self.awaited and (self.tsc is None) == (kind == "tsc"))
         if kind == "tsc":
             self.tsc = told
@@ -387,7 +389,7 @@ class LogLines:
     def text(self, number, line):
         """What is printed of a line, and of the log's end, which has no number."""
         if number is None:
-            return self.begin(None, None)
+            return self.begin(None)
         try:
             if LOG_MARK not in line and EDAC_MARK in line:
                 head, _, text = line.partition(EDAC_MARK)
@@ -402,7 +404,7 @@ class LogLines:
         try:
             check(is_own(head) and told)
             check(words[0] != b"PROCESSOR" or len(words) > 4)
-            return self.take(number, told, stamp_in(head))
+            return self.take(number, told)
         except Unreadable:
             return UNREAD.format(number)
 

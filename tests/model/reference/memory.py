@@ -13,6 +13,8 @@ KINDS = (
     b"memory sparing", b"scrub corrected error", b"scrub uncorrected error", b"physical memory map-out event",
 )  # fmt: skip
 HEX = rb"([0-9a-fA-F]{1,16})"
+# The name of the firmware's detail.
+FIRMWARE = b"APEI location: "
 # What a controller's event has in its parentheses, up to its driver's detail.
 CONTROLLER = re.compile(rb"[^ ]* [^ ]* ([^ ]*) ([^ ]*) [^ ]* APEI location: (.*)", re.S)
 FRONT = re.compile(rb"1 ([^ ]*) error: (.*)", re.S)
@@ -58,8 +60,13 @@ def in_parentheses(text):
 
 def is_of_another_driver(text):
     """Whether another driver than the firmware's made this event."""
-    controller = in_parentheses(text)
-    return not b"".join(controller.split(b" ", 5)[5:]).startswith(b"APEI location: ")
+    return FIRMWARE not in in_parentheses(text)
+
+
+def may_be_of_firmware(text):
+    """Whether a text may have the firmware's event: what is behind its last parenthesis, if it has one, names the detail."""
+    _, mark, behind = text.rpartition(b" (mc:")
+    return not mark or FIRMWARE in behind
 
 
 def of_controller(text):
