@@ -1,16 +1,13 @@
 -- Inputs are taken one after another, and their texts wait or are printed.
-use Rattle.std.proofs.Common.{◌≡◌, ℕ, ◌+◌, ◌≤◌, Bool, true, false, List, [], ◌∷◌, ◌++◌, length, None, Some, IfSome, Result, Ok, Err, refl, ap, sym, ◌∙◌, subst, append_assoc, append-nil, length-append, arith, inl, inr}
+use Rattle.std.proofs.Common.{◌≡◌, ℕ, Bool, true, false, List, [], ◌∷◌, ◌++◌, length, Some, Result, Ok, Err, refl, ap, sym, ◌∙◌, subst, append_assoc, append-nil, length-append, arith, inl, inr}
 use Rattle.std.specs.Prelude.{◌⊎◌}
-use Rattle.std.specs.List.{flat_map}
 use Rattle.std.proofs.lemmas.Grind.{flat_map-append}
 use Rattle.board_core.specs.Clock.{Clock, Leads, Passes}
 use Rattle.board_core.specs.Steps.ClockLemmas.{adds_none}
 use Rattle.board_core.specs.Stop.{Appends, Begins, InOut}
 use Rattle.board_core.specs.Told.{Told, after_print}
-use Rattle.board_core.specs.declared.source.Failed.{Failed}
 use Rattle.ras_script.specs.declared.input.InputStep.{InputStep}
 use Rattle.ras_script.specs.declared.input.InputStep.TheVariants.{Line, Long, Dropping, End}
-use Rattle.ras_script.specs.declared.reader.TheConstants.{LONGEST_LINE}
 use Rattle.ras_script.specs.InputBuffer.{InputBuffer, MovesInput, MovesPast, inputs_to_come}
 use Rattle.ras_script.specs.Inputs.{Input, Inputs, inputs_behind, inputs_of, line, long}
 use Rattle.ras_script.specs.SplittingLaws.{Lacks}
@@ -18,7 +15,7 @@ use Rattle.ras_script.proofs.InputLemmas.{behind_end, behind_line, behind_long, 
 use Rattle.ras_exit.specs.declared.exit.Exit.{Exit}
 use Rattle.ras_exit.specs.declared.exit.Exit.TheVariants.{NoMemory, PrintFault, SourceFault}
 use Rattle.ras_exit.specs.Telling.{PrintMoment}
-use Rattle.line_filters.specs.Feed.{Feed, TookInput}
+use Rattle.line_filters.specs.Feed.{Feed}
 use Rattle.line_filters.specs.Feeds.{FeedsOn, feed_output}
 use Rattle.line_filters.specs.Pieces.{joined}
 use Rattle.line_filters.specs.Steps.Feeding.{Fed, FeedEnds, TakesStep, later_text, no_inputs, with_inputs}

@@ -1,17 +1,16 @@
 -- The steps of a filter's call over an input of any length, if source and board are modelled.
-use Rattle.std.proofs.Common.{◌≡◌, ℕ, ◌+◌, ◌≤◌, Bool, true, false, List, [], ◌∷◌, ◌++◌, length, Option, None, Some, IfErr, IsSomeAnd, Result, Ok, Err, refl, ap, sym, ◌∙◌, subst, append_assoc, append-nil, arith, inl, inr}
+use Rattle.std.proofs.Common.{◌≡◌, ℕ, Bool, true, false, List, [], ◌++◌, Option, None, Some, IfErr, IsSomeAnd, Result, Ok, Err, refl, ap, sym, ◌∙◌, subst, append_assoc, append-nil, inl, inr}
 use Rattle.std.specs.Prelude.{◌⊎◌, Contains}
 use Rattle.std.specs.Option.{option_map}
 use Rattle.board_core.specs.Cause.{Faults}
-use Rattle.board_core.specs.Clock.{Adds, Clock, Leads, Passes}
+use Rattle.board_core.specs.Clock.{Clock, Leads, Passes}
 use Rattle.board_core.specs.Doing.{Seen}
 use Rattle.board_core.specs.Stop.{Appends, Begins, InOut}
 use Rattle.board_core.specs.Told.{FailsPrint, Relates, Steps, Told, after_print}
 use Rattle.board_core.specs.declared.source.Failed.{Failed}
 use Rattle.ras_script.specs.declared.input.InputStep.{InputStep}
 use Rattle.ras_script.specs.declared.input.InputStep.TheVariants.{Line, Long, Dropping, End}
-use Rattle.ras_script.specs.InputBuffer.{InputBuffer, MovesInput, MovesPast}
-use Rattle.ras_script.specs.SplittingLaws.{Lacks}
+use Rattle.ras_script.specs.InputBuffer.{InputBuffer, MovesInput}
 use Rattle.ras_script.proofs.ReaderLemmas.{front_lacks, lacks_not_contains}
 use Rattle.ras_exit.specs.declared.exit.Exit.{Exit}
 use Rattle.ras_exit.specs.declared.exit.Exit.TheVariants.{NoMemory, PrintFault, SourceFault}
@@ -19,8 +18,8 @@ use Rattle.ras_exit.specs.Causes.{BoardCause, Causes, SourceCause}
 use Rattle.ras_exit.proofs.PrintLemmas.{nothing_passes}
 use Rattle.line_filters.specs.Feed.{Feed}
 use Rattle.line_filters.specs.Feeds.{feed_output}
-use Rattle.line_filters.specs.Steps.Feeding.{EndsBoth, Fed, FedBoth, FeedEnds, GoesOn, IsFeedStop, TakesStep, is_fault, no_inputs}
-use Rattle.line_filters.specs.Steps.Filtering.{Printed, PrintsWaiting, Unprinted}
+use Rattle.line_filters.specs.Steps.Feeding.{EndsBoth, FedBoth, FeedEnds, GoesOn, IsFeedStop, TakesStep, is_fault, no_inputs}
+use Rattle.line_filters.specs.Steps.Filtering.{Printed, PrintsWaiting}
 use Rattle.line_filters.proofs.FedLemmas.{ahead_more, fed_ends, fed_none, fed_printed, fed_source, fed_starved, fed_step, fed_stop, fed_unprinted}
 use Rattle.line_filters.proofs.MomentLemmas.{leads_more, leads_none, stops_more}
 use Rattle.line_filters.proofs.StepLemmas.{print-both}

@@ -1,16 +1,14 @@
 -- A call of a filter over an input of any length as a whole.
-use Rattle.std.proofs.Common.{◌≡◌, ℕ, Bool, true, false, List, [], ◌++◌, Option, None, Some, IfSome, IsSomeAnd, Result, Ok, Err, refl, ap, sym, ◌∙◌, subst, append_assoc, append-nil, arith, inl, inr}
-use Rattle.board_core.specs.Cause.{Faults}
-use Rattle.board_core.specs.Clock.{Adds, Clock, Leads, Passes}
+use Rattle.std.proofs.Common.{◌≡◌, ℕ, Bool, List, [], ◌++◌, Option, None, Some, IsSomeAnd, Ok, Err, refl, ap, sym, ◌∙◌, subst, append_assoc, append-nil, arith, inl, inr}
+use Rattle.board_core.specs.Clock.{Adds, Clock, Passes}
 use Rattle.board_core.specs.Doing.{Seen}
-use Rattle.board_core.specs.Steps.ClockLemmas.{adds_none}
-use Rattle.board_core.specs.Stop.{Appends, Begins, InOut}
+use Rattle.board_core.specs.Stop.{Begins, InOut}
 use Rattle.board_core.specs.Told.{FailsPrint, Relates, Told, after_print}
 use Rattle.ras_base.specs.Prefix.{IsPrefixOf}
 use Rattle.ras_script.specs.Inputs.{inputs_of}
 use Rattle.ras_exit.specs.declared.exit.Exit.{Exit}
 use Rattle.ras_exit.specs.declared.exit.Exit.TheVariants.{Done, NoMemory, PrintFault, SourceFault}
-use Rattle.ras_exit.specs.Causes.{BoardCause, SourceCause}
+use Rattle.ras_exit.specs.Causes.{SourceCause}
 use Rattle.ras_exit.specs.Endings.{OnAnswer}
 use Rattle.ras_exit.specs.Telling.{PrintMoment}
 use Rattle.line_filters.specs.Feed.{Feed}

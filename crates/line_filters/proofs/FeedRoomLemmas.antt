@@ -1,5 +1,5 @@
 -- What waits and the next text, and when the source is read.
-use Rattle.std.proofs.Common.{◌≡◌, ℕ, ◌+◌, ◌≤◌, Bool, true, IsTrue, ◌↔◌, List, [], ◌++◌, length, Result, Ok, ap, sym, ◌∙◌, arith, inl, inr}
+use Rattle.std.proofs.Common.{◌≡◌, ℕ, ◌+◌, ◌≤◌, Bool, true, IsTrue, ◌↔◌, List, [], length, Ok, ap, arith, inl, inr}
 use Rattle.std.specs.Prelude.{◌⊎◌, Contains}
 use Rattle.board_core.specs.Doing.{Seen}
 use Rattle.ras_script.specs.declared.input.InputStep.{InputStep}

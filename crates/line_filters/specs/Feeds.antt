@@ -1,5 +1,5 @@
 -- What a filter prints for an input of any length, how its call ends, and how far ahead it reads.
-use Rattle.std.specs.Prelude.{◌≡◌, ℕ, ◌+◌, ◌≤◌, List, [], ◌++◌, length, Option, None, Some, ⊤}
+use Rattle.std.specs.Prelude.{◌≡◌, ℕ, ◌+◌, ◌≤◌, List, [], ◌++◌, length, Option, Some, ⊤}
 use Rattle.board_core.specs.Clock.{Adds, Clock}
 use Rattle.board_core.specs.Told.{Told}
 use Rattle.ras_script.specs.Inputs.{inputs_of}

@@ -1,5 +1,5 @@
 -- The steps of a filter's call over an input of any length.
-use Rattle.std.specs.Prelude.{◌≡◌, ℕ, Bool, true, false, List, [], ◌∷◌, ◌++◌, IsSomeAnd, Option, Result, Ok, Err, ⊤}
+use Rattle.std.specs.Prelude.{◌≡◌, ℕ, Bool, true, false, List, [], ◌++◌, IsSomeAnd, Option, Result, Ok, Err, ⊤}
 use Rattle.board_core.specs.Clock.{Adds, Clock, Leads}
 use Rattle.board_core.specs.Stop.{Appends, InOut}
 use Rattle.board_core.specs.Told.{Told, after_print}

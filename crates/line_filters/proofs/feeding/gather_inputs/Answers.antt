@@ -1,4 +1,4 @@
-use Rattle.std.proofs.Common.{◌≡◌, ◌+◌, ℕ, List, [], ◌++◌, length, Ok, Err, true, false, ap, refl, subst, sym, ◌∙◌, arith, length-append}
+use Rattle.std.proofs.Common.{◌≡◌, ℕ, List, [], ◌++◌, length, Ok, Err, true, ap, refl, subst, sym, ◌∙◌, arith, length-append}
 use Rattle.board_core.specs.Cause.{Rose}
 use Rattle.ras_script.specs.InputBuffer.{MovesInput}
 use Rattle.ras_script.specs.declared.input.InputStep.{InputStep}

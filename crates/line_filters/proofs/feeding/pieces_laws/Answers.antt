@@ -1,4 +1,4 @@
-use Rattle.std.proofs.Common.{◌≤◌, [], arith}
+use Rattle.std.proofs.Common.{[], arith}
 use Rattle.line_filters.proofs.PieceLemmas.{all_printed, are_short}
 use Rattle.line_filters.proofs.feeding.pieces_laws.Goals as goal
 
