@@ -17,7 +17,7 @@ use Rattle.ras_exit.specs.declared.exit.Exit.TheVariants.{NoMemory, PrintFault, 
 use Rattle.ras_exit.specs.Telling.{PrintMoment}
 use Rattle.line_filters.specs.Feed.{Feed}
 use Rattle.line_filters.specs.Feeds.{FeedsOn, feed_output}
-use Rattle.line_filters.specs.Pieces.{joined}
+use Rattle.line_filters.specs.Pieces.{texts_joined}
 use Rattle.line_filters.specs.Steps.Feeding.{Fed, FeedEnds, TakesStep, later_text, no_inputs, with_inputs}
 use Rattle.line_filters.proofs.MomentLemmas.{leads_more, leads_none, stops_more}
 use Rattle.line_filters.proofs.StepLemmas.{print-both}
@@ -34,14 +34,14 @@ behind_lacks : (buffer : InputBuffer) → Lacks 10 buffer.held → (inputs_behin
 behind_lacks buffer lacks =
     ap (λ (text : List ℕ). (inputs_behind buffer.dropping text).whole) (sym (append-nil buffer.held)) ∙ ap (λ (i : Inputs). i.whole) (behind_end buffer lacks)
 
-joined_one : (text : List ℕ) → joined (text ∷ []) ≡ text
+joined_one : (text : List ℕ) → texts_joined (text ∷ []) ≡ text
 joined_one text = append-nil text
 
 pub ahead_more : (feed : Feed) (taken printed part : List ℕ) → FeedsOn feed taken printed → FeedsOn feed taken (printed ++ part)
 ahead_more feed taken printed part on = record {
   front = on.front;
   more = on.more ++ part;
-  text = ap (λ (out : List ℕ). out ++ part) on.text ∙ append_assoc (joined (feed.texts (inputs_of on.front).whole)) on.more part;
+  text = ap (λ (out : List ℕ). out ++ part) on.text ∙ append_assoc (texts_joined (feed.texts (inputs_of on.front).whole)) on.more part;
   rest = on.rest;
   splits = on.splits;
   few = on.few;
@@ -62,7 +62,7 @@ fed_none whole script t clock nothing = record {
   is = ap (λ (out : List ℕ). record t { here = record t.here { out = out } }) (sym (append-nil t.here.out));
   stops = adds_none (PrintMoment clock (feed_output whole script)) clock;
   leads = leads_none clock;
-  ahead = record { front = []; more = []; text = sym (ap (λ (texts : List (List ℕ)). joined texts ++ []) nothing); rest = []; splits = refl; few = omega arith };
+  ahead = record { front = []; more = []; text = sym (ap (λ (texts : List (List ℕ)). texts_joined texts ++ []) nothing); rest = []; splits = refl; few = omega arith };
 }
 
 module _ (whole : Feed) (script : List ℕ) (before : Told) (a : Clock) (buffer : InputBuffer) (feed : Feed) (left : List ℕ) (now : Told) (b : Clock) where
@@ -78,11 +78,11 @@ module _ (whole : Feed) (script : List ℕ) (before : Told) (a : Clock) (buffer 
       let is : inputs_of script ≡ with_inputs fed.given come =
       ap inputs_of (sym fed.splits ∙ append_assoc fed.done buffer.held left) ∙ fed.come (buffer.held ++ left) in
       let last : List ℕ = feed.last come.whole come.cut in
-      ap (λ (i : Inputs). joined (whole.texts i.whole) ++ whole.last i.whole i.cut) is
-      ∙ ap (λ (texts : List (List ℕ)). joined texts ++ whole.last (fed.given ++ come.whole) come.cut) (fed.made come.whole)
-      ∙ ap (λ (text : List ℕ). joined (fed.texts ++ feed.texts come.whole) ++ text) (fed.last come.whole come.cut)
+      ap (λ (i : Inputs). texts_joined (whole.texts i.whole) ++ whole.last i.whole i.cut) is
+      ∙ ap (λ (texts : List (List ℕ)). texts_joined texts ++ whole.last (fed.given ++ come.whole) come.cut) (fed.made come.whole)
+      ∙ ap (λ (text : List ℕ). texts_joined (fed.texts ++ feed.texts come.whole) ++ text) (fed.last come.whole come.cut)
       ∙ ap (λ (text : List ℕ). text ++ last) (flat_map-append (λ (text : List ℕ). text) fed.texts (feed.texts come.whole))
-      ∙ append_assoc (joined fed.texts) (joined (feed.texts come.whole)) last
+      ∙ append_assoc (texts_joined fed.texts) (texts_joined (feed.texts come.whole)) last
       ∙ ap (λ (text : List ℕ). text ++ later) fed.all
 
   -- the same, with a part that waits and the text after it
@@ -93,13 +93,13 @@ module _ (whole : Feed) (script : List ℕ) (before : Told) (a : Clock) (buffer 
 
   -- the texts of what was read, whose rest ends no input
   texts_read : (waiting more : List ℕ) (fed : Fed whole script before a buffer feed waiting left now b) → feed.texts [] ≡ [] → (inputs_behind buffer.dropping more).whole ≡ []
-      → joined (whole.texts (inputs_of (fed.done ++ more)).whole) ≡ fed.printed ++ waiting
+      → texts_joined (whole.texts (inputs_of (fed.done ++ more)).whole) ≡ fed.printed ++ waiting
   texts_read waiting more fed nothing none =
-      ap (λ (i : Inputs). joined (whole.texts i.whole)) (fed.come more)
-      ∙ ap (λ (rest : List Input). joined (whole.texts (fed.given ++ rest))) none
-      ∙ ap (λ (texts : List (List ℕ)). joined texts) (fed.made [])
-      ∙ ap (λ (rest : List (List ℕ)). joined (fed.texts ++ rest)) nothing
-      ∙ ap (λ (texts : List (List ℕ)). joined texts) (append-nil fed.texts)
+      ap (λ (i : Inputs). texts_joined (whole.texts i.whole)) (fed.come more)
+      ∙ ap (λ (rest : List Input). texts_joined (whole.texts (fed.given ++ rest))) none
+      ∙ ap (λ (texts : List (List ℕ)). texts_joined texts) (fed.made [])
+      ∙ ap (λ (rest : List (List ℕ)). texts_joined (fed.texts ++ rest)) nothing
+      ∙ ap (λ (texts : List (List ℕ)). texts_joined texts) (append-nil fed.texts)
       ∙ fed.all
 
   -- a part of what waits was printed
@@ -163,8 +163,8 @@ module _ (whole : Feed) (script : List ℕ) (before : Told) (a : Clock) (buffer 
     front = fed.done;
     more = [];
     text = sym (
-        append-nil (joined (whole.texts (inputs_of fed.done).whole))
-        ∙ ap (λ (text : List ℕ). joined (whole.texts (inputs_of text).whole)) (sym (append-nil fed.done))
+        append-nil (texts_joined (whole.texts (inputs_of fed.done).whole))
+        ∙ ap (λ (text : List ℕ). texts_joined (whole.texts (inputs_of text).whole)) (sym (append-nil fed.done))
         ∙ texts_read waiting [] fed nothing (behind_nothing buffer.dropping)
         ∙ ap (λ (text : List ℕ). fed.printed ++ text) none ∙ append-nil fed.printed);
     rest = buffer.held ++ moves.bytes;
@@ -185,7 +185,7 @@ module _ (whole : Feed) (script : List ℕ) (before : Told) (a : Clock) (buffer 
       → ((more : List ℕ) → inputs_behind buffer.dropping (given ++ more) ≡ with_inputs inputs (inputs_behind new.dropping more))
       → ((more : List Input) → feed.texts (inputs ++ more) ≡ texts ++ after.texts more)
       → ((more : List Input) (cut : Bool) → feed.last (inputs ++ more) cut ≡ after.last more cut)
-      → joined texts ≡ text → FeedsOn whole ((fed.done ++ given) ++ new.held) fed.printed
+      → texts_joined texts ≡ text → FeedsOn whole ((fed.done ++ given) ++ new.held) fed.printed
       → Fed whole script before a new after (waiting ++ text) rest now b
   fed_goes waiting given new rest after inputs texts text fed moves turns made last all ahead = record {
     done = fed.done ++ given;
@@ -201,7 +201,7 @@ module _ (whole : Feed) (script : List ℕ) (before : Told) (a : Clock) (buffer 
     last = λ more cut. ap (λ (i : List Input). whole.last i cut) (append_assoc fed.given inputs more) ∙ fed.last (inputs ++ more) cut ∙ last more cut;
     printed = fed.printed;
     all =
-        flat_map-append (λ (t : List ℕ). t) fed.texts texts ∙ ap (λ (t : List ℕ). joined fed.texts ++ t) all
+        flat_map-append (λ (t : List ℕ). t) fed.texts texts ∙ ap (λ (t : List ℕ). texts_joined fed.texts ++ t) all
         ∙ ap (λ (t : List ℕ). t ++ text) fed.all ∙ append_assoc fed.printed waiting text;
     is = fed.is;
     stops = fed.stops;
@@ -234,7 +234,7 @@ module _ (whole : Feed) (script : List ℕ) (before : Told) (a : Clock) (buffer 
 
   ends_at : (result : Result Bool Exit) (other : Feed) (w text taken rest : List ℕ) (fed : Fed whole script before a buffer feed (w ++ text) left now b) → taken ++ rest ≡ script → FeedsOn whole taken fed.printed
       → ((cut : Bool) → result ≡ Ok cut → (whole_text ≡ (fed.printed ++ w) ++ other.last [] cut) × (rest ≡ []))
-      → (result ≡ Err SourceFault → fed.printed ≡ joined (whole.texts (inputs_of taken).whole))
+      → (result ≡ Err SourceFault → fed.printed ≡ texts_joined (whole.texts (inputs_of taken).whole))
       → FeedEnds whole script before a result other w rest now b
   ends_at result other w text taken rest fed splits ahead done read = record {
     taken = taken;
@@ -285,7 +285,7 @@ module _ (whole : Feed) (script : List ℕ) (before : Told) (a : Clock) (buffer 
       (ahead_next ⊥ (waiting ++ []) [] new rest ended nothing (inl empty) (λ never. absurd never) moves)
       (λ cut is. absurd cc)
       (λ is. sym (
-      ap (λ (text : List ℕ). joined (whole.texts (inputs_of (text ++ new.held)).whole)) (append-nil ended.done)
+      ap (λ (text : List ℕ). texts_joined (whole.texts (inputs_of (text ++ new.held)).whole)) (append-nil ended.done)
       ∙ texts_read (waiting ++ []) new.held ended nothing ends_none
       ∙ ap (λ (text : List ℕ). ended.printed ++ text) empty ∙ append-nil ended.printed))
 
@@ -297,7 +297,7 @@ module _ (whole : Feed) (script : List ℕ) (before : Told) (a : Clock) (buffer 
       let free_nil : (waiting ++ [] ≡ []) ⊎ Held = subst (λ (w : List ℕ). (w ≡ []) ⊎ Held) (sym (append-nil waiting)) free in
       let come : inputs_to_come buffer left ≡ record { whole = []; cut = cut } = gives_input (Ok (End cut)) buffer new (Some left) (Some rest) moves in
       let text : later ≡ feed.last [] cut =
-      ap (λ (i : Inputs). joined (feed.texts i.whole) ++ feed.last i.whole i.cut) come ∙ ap (λ (texts : List (List ℕ)). joined texts ++ feed.last [] cut) nothing in
+      ap (λ (i : Inputs). texts_joined (feed.texts i.whole) ++ feed.last i.whole i.cut) come ∙ ap (λ (texts : List (List ℕ)). texts_joined texts ++ feed.last [] cut) nothing in
       let output : whole_text ≡ (ended.printed ++ waiting) ++ feed.last [] cut =
       output_of (waiting ++ []) ended ∙ ap (λ (w : List ℕ). (ended.printed ++ w) ++ later) (append-nil waiting) ∙ ap (λ (t : List ℕ). (ended.printed ++ waiting) ++ t) text in
       ends_at (Ok cut) feed waiting [] ((ended.done ++ []) ++ new.held) rest ended (splits_on (waiting ++ []) [] new rest ended moves.0)

@@ -18,7 +18,7 @@ use Rattle.ras_exit.specs.Causes.{BoardCause, Causes, SourceCause}
 use Rattle.ras_exit.proofs.PrintLemmas.{nothing_passes}
 use Rattle.line_filters.specs.Feed.{Feed}
 use Rattle.line_filters.specs.Feeds.{feed_output}
-use Rattle.line_filters.specs.Steps.Feeding.{EndsBoth, FedBoth, FeedEnds, GoesOn, IsFeedStop, TakesStep, is_fault, no_inputs}
+use Rattle.line_filters.specs.Steps.Feeding.{FedBoth, FeedEnds, FeedEndsBoth, IsFeedStop, PrintsNext, TakesStep, is_fault, no_inputs}
 use Rattle.line_filters.specs.Steps.Filtering.{Printed, PrintsWaiting}
 use Rattle.line_filters.proofs.FedLemmas.{ahead_more, fed_ends, fed_none, fed_printed, fed_source, fed_starved, fed_step, fed_stop, fed_unprinted}
 use Rattle.line_filters.proofs.MomentLemmas.{leads_more, leads_none, stops_more}
@@ -76,7 +76,7 @@ module _ (whole : Feed) (script : List ℕ) (before : Told) (a : Clock) (buffer 
         by (Some t) there steps = rw (none, steps) (fed_printed whole script before a buffer feed left t (see x).clock w text (see y).clock there printed.stops printed.leads)
 
     pub unprinted_on : (exit : Exit) (other : Feed) (left : Option (List ℕ)) → FedBoth whole script before a buffer feed (w ++ text) left (see x).told (see x).clock → PrintsWaiting see (Err exit) Held w rest x y
-        → EndsBoth whole script before a (Err exit) other rest left (see y).told (see y).clock
+        → FeedEndsBoth whole script before a (Err exit) other rest left (see y).told (see y).clock
     unprinted_on exit other None fed fails = absurd fed
     unprinted_on exit other (Some left) fed (is, fails) = by (see x).told (see y).told fed fails.told
       where
@@ -111,28 +111,28 @@ module _ (whole : Feed) (script : List ℕ) (before : Told) (a : Clock) (buffer 
         by (Some t) there = fed_step whole script before a buffer feed left t b step (Contains buffer.held 10) waiting new rest after text going there nothing free (λ held. same_left left rest (first held)) moves took
 
     pub starved_on : (step : InputStep) (other : Feed) (left later : Option (List ℕ)) → (waiting ≡ []) ⊎ Contains buffer.held 10 → FedBoth whole script before a buffer feed waiting left told b → (Contains buffer.held 10 → later ≡ left)
-        → MovesInput (Ok step) buffer new left later → EndsBoth whole script before a (Err NoMemory) other waiting later told b
+        → MovesInput (Ok step) buffer new left later → FeedEndsBoth whole script before a (Err NoMemory) other waiting later told b
     starved_on step other None later free fed first moves = absurd fed
     starved_on step other (Some left) None free fed first moves = absurd (stays_known (Ok step) buffer new left moves)
     starved_on step other (Some left) (Some rest) free fed first moves = by told fed
       where
-        by : (now : Option Told) → FedBoth whole script before a buffer feed waiting (Some left) now b → EndsBoth whole script before a (Err NoMemory) other waiting (Some rest) now b
+        by : (now : Option Told) → FedBoth whole script before a buffer feed waiting (Some left) now b → FeedEndsBoth whole script before a (Err NoMemory) other waiting (Some rest) now b
         by None never = absurd never
         by (Some t) there = fed_starved whole script before a buffer feed left t b step other (Contains buffer.held 10) waiting new rest there nothing free (λ held. same_left left rest (first held)) moves
 
     pub ends_on : (cut : Bool) (left later : Option (List ℕ)) → (waiting ≡ []) ⊎ Contains buffer.held 10 → FedBoth whole script before a buffer feed waiting left told b → (Contains buffer.held 10 → later ≡ left)
-        → MovesInput (Ok (End cut)) buffer new left later → EndsBoth whole script before a (Ok cut) feed waiting later told b
+        → MovesInput (Ok (End cut)) buffer new left later → FeedEndsBoth whole script before a (Ok cut) feed waiting later told b
     ends_on cut None later free fed first moves = absurd fed
     ends_on cut (Some left) None free fed first moves = absurd (stays_known (Ok (End cut)) buffer new left moves)
     ends_on cut (Some left) (Some rest) free fed first moves = by told fed
       where
-        by : (now : Option Told) → FedBoth whole script before a buffer feed waiting (Some left) now b → EndsBoth whole script before a (Ok cut) feed waiting (Some rest) now b
+        by : (now : Option Told) → FedBoth whole script before a buffer feed waiting (Some left) now b → FeedEndsBoth whole script before a (Ok cut) feed waiting (Some rest) now b
         by None never = absurd never
         by (Some t) there = fed_ends whole script before a buffer feed left t b cut (Contains buffer.held 10) waiting new rest there nothing free (λ held. same_left left rest (first held)) moves
 
     -- the source failed, so the buffer had no line feed
     pub source_on : (failed : Failed) (other : Feed) (left later : Option (List ℕ)) → (waiting ≡ []) ⊎ Contains buffer.held 10 → FedBoth whole script before a buffer feed waiting left told b → MovesInput (Err failed) buffer new left later
-        → EndsBoth whole script before a (Err SourceFault) other waiting later told b
+        → FeedEndsBoth whole script before a (Err SourceFault) other waiting later told b
     source_on failed other None later free fed moves = absurd fed
     source_on failed other (Some left) None free fed moves = absurd (stays_known (Err failed) buffer new left moves)
     source_on failed other (Some left) (Some rest) free fed moves = by told fed
@@ -141,12 +141,12 @@ module _ (whole : Feed) (script : List ℕ) (before : Told) (a : Clock) (buffer 
         none (inl is) = is
         none (inr held) = absurd (lacks_not_contains buffer.held (front_lacks buffer.held moves.0.bytes (rw moves.0.kept moves.1)) held)
 
-        by : (now : Option Told) → FedBoth whole script before a buffer feed waiting (Some left) now b → EndsBoth whole script before a (Err SourceFault) other waiting (Some rest) now b
+        by : (now : Option Told) → FedBoth whole script before a buffer feed waiting (Some left) now b → FeedEndsBoth whole script before a (Err SourceFault) other waiting (Some rest) now b
         by None never = absurd never
         by (Some t) there = fed_source whole script before a buffer feed left t b other waiting new rest there nothing (none free) moves.0 moves.1 moves.2
 
   -- memory ran out, or the most inputs were taken
-  pub stop_on : (other : Feed) (w text : List ℕ) (left : Option (List ℕ)) (told : Option Told) (b : Clock) → FedBoth whole script before a buffer feed (w ++ text) left told b → EndsBoth whole script before a (Err NoMemory) other w left told b
+  pub stop_on : (other : Feed) (w text : List ℕ) (left : Option (List ℕ)) (told : Option Told) (b : Clock) → FedBoth whole script before a buffer feed (w ++ text) left told b → FeedEndsBoth whole script before a (Err NoMemory) other w left told b
   stop_on other w text None told b fed = absurd fed
   stop_on other w text (Some left) None b fed = absurd fed
   stop_on other w text (Some left) (Some t) b fed = fed_stop whole script before a buffer feed left t b other w text fed
@@ -160,7 +160,7 @@ free_of see Held text rest x y (inr (same, stays, inr held)) = inr held
 -- ---- the end of the inputs
 
 module _ (whole : Feed) (script : List ℕ) (before : Told) (a : Clock) (result : Result Bool Exit) (feed : Feed) (w left : List ℕ) (now : Told) (b : Clock) where
-  ends_printed : (c : Clock) → FeedEnds whole script before a result feed w left now b → GoesOn result → (result ≡ Err SourceFault → ⊥) → Passes (InOut (Begins w)) b c → Leads (InOut (Appends w)) b c
+  ends_printed : (c : Clock) → FeedEnds whole script before a result feed w left now b → PrintsNext result → (result ≡ Err SourceFault → ⊥) → Passes (InOut (Begins w)) b c → Leads (InOut (Appends w)) b c
       → FeedEnds whole script before a result feed [] left (after_print w now) c
   ends_printed c ends going read passes leads =
       let goes = ends.goes going in
@@ -179,7 +179,7 @@ module _ (whole : Feed) (script : List ℕ) (before : Told) (a : Clock) (result 
         read = λ is. absurd (read is);
       }
 
-  ends_unprinted : (part missing : List ℕ) (other : Feed) (c : Clock) → FeedEnds whole script before a result feed w left now b → GoesOn result → part ++ missing ≡ w → Passes (InOut (Begins w)) b c
+  ends_unprinted : (part missing : List ℕ) (other : Feed) (c : Clock) → FeedEnds whole script before a result feed w left now b → PrintsNext result → part ++ missing ≡ w → Passes (InOut (Begins w)) b c
       → FeedEnds whole script before a (Err PrintFault) other [] left (after_print part now) c
   ends_unprinted part missing other c ends going splits passes =
       let goes = ends.goes going in
@@ -202,21 +202,21 @@ module _ (whole : Feed) (script : List ℕ) (before : Told) (a : Clock) (result 
       }
 
 module _ {X : Type 0} (see : X → Seen) (whole : Feed) (script : List ℕ) (before : Told) (a : Clock) (result : Result Bool Exit) (feed : Feed) (w : List ℕ) (x y : X) where
-  pub ends_printed_on : (left : Option (List ℕ)) → EndsBoth whole script before a result feed w left (see x).told (see x).clock → GoesOn result → (result ≡ Err SourceFault → ⊥) → Printed see w x y
-      → EndsBoth whole script before a result feed [] left (see y).told (see y).clock
+  pub ends_printed_on : (left : Option (List ℕ)) → FeedEndsBoth whole script before a result feed w left (see x).told (see x).clock → PrintsNext result → (result ≡ Err SourceFault → ⊥) → Printed see w x y
+      → FeedEndsBoth whole script before a result feed [] left (see y).told (see y).clock
   ends_printed_on None ends going read printed = absurd ends
   ends_printed_on (Some left) ends going read printed = by (see x).told ends printed.told
     where
-      by : (told : Option Told) → EndsBoth whole script before a result feed w (Some left) told (see x).clock → Steps (after_print w) told (see y).told → EndsBoth whole script before a result feed [] (Some left) (see y).told (see y).clock
+      by : (told : Option Told) → FeedEndsBoth whole script before a result feed w (Some left) told (see x).clock → Steps (after_print w) told (see y).told → FeedEndsBoth whole script before a result feed [] (Some left) (see y).told (see y).clock
       by None never steps = absurd never
       by (Some t) there steps = rw steps (ends_printed whole script before a result feed w left t (see x).clock (see y).clock there going read printed.stops printed.leads)
 
-  pub ends_unprinted_on : (fault : Exit) (Held : Type 0) (rest : List ℕ) (left : Option (List ℕ)) → EndsBoth whole script before a result feed w left (see x).told (see x).clock → GoesOn result → PrintsWaiting see (Err fault) Held w rest x y
-      → EndsBoth whole script before a (Err fault) feed [] left (see y).told (see y).clock
+  pub ends_unprinted_on : (fault : Exit) (Held : Type 0) (rest : List ℕ) (left : Option (List ℕ)) → FeedEndsBoth whole script before a result feed w left (see x).told (see x).clock → PrintsNext result → PrintsWaiting see (Err fault) Held w rest x y
+      → FeedEndsBoth whole script before a (Err fault) feed [] left (see y).told (see y).clock
   ends_unprinted_on fault Held rest None ends going fails = absurd ends
   ends_unprinted_on fault Held rest (Some left) ends going (is, fails) = by (see x).told (see y).told ends fails.told
     where
-      by : (told now : Option Told) → EndsBoth whole script before a result feed w (Some left) told (see x).clock → Relates (FailsPrint w) told now → IsSomeAnd now (λ n. FeedEnds whole script before a (Err fault) feed [] left n (see y).clock)
+      by : (told now : Option Told) → FeedEndsBoth whole script before a result feed w (Some left) told (see x).clock → Relates (FailsPrint w) told now → IsSomeAnd now (λ n. FeedEnds whole script before a (Err fault) feed [] left n (see y).clock)
       by None now never failed = absurd never
       by (Some t) None there failed = absurd failed
       by (Some t) (Some u) there (part, missing, splits, printed) =
@@ -239,13 +239,13 @@ not_printing exit whole script before a feed w left now b ends = record {
 }
 
 pub fault_on : (result : Result Bool Exit) (whole : Feed) (script : List ℕ) (before : Told) (a : Clock) (feed : Feed) (w : List ℕ) (left : Option (List ℕ)) (told : Option Told) (b : Clock) → is_fault result ≡ true
-    → EndsBoth whole script before a result feed w left told b → EndsBoth whole script before a result feed [] left told b
+    → FeedEndsBoth whole script before a result feed w left told b → FeedEndsBoth whole script before a result feed [] left told b
 fault_on (Ok cut) whole script before a feed w left told b is ends = absurd cc
 fault_on (Err exit) whole script before a feed w None told b is ends = absurd ends
 fault_on (Err exit) whole script before a feed w (Some left) None b is ends = absurd ends
 fault_on (Err exit) whole script before a feed w (Some left) (Some t) b is ends = not_printing exit whole script before a feed w left t b ends
 
-pub goes_on : (result : Result Bool Exit) → is_fault result ≡ false → GoesOn result
+pub goes_on : (result : Result Bool Exit) → is_fault result ≡ false → PrintsNext result
 goes_on (Ok cut) well = tt
 goes_on (Err PrintFault) well = absurd cc
 goes_on (Err exit) well = tt

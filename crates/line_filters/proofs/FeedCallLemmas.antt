@@ -14,8 +14,8 @@ use Rattle.ras_exit.specs.Telling.{PrintMoment}
 use Rattle.line_filters.specs.Feed.{Feed}
 use Rattle.line_filters.specs.Feeds.{Feeds, FeedsOn, IsFeedExit, StopsFeeding, feed_output}
 use Rattle.line_filters.specs.Filters.{OfBoth}
-use Rattle.line_filters.specs.Pieces.{joined}
-use Rattle.line_filters.specs.Steps.Feeding.{EndsBoth, FeedEnds, IsFeedStop}
+use Rattle.line_filters.specs.Pieces.{texts_joined}
+use Rattle.line_filters.specs.Steps.Feeding.{FeedEnds, FeedEndsBoth, IsFeedStop}
 use Rattle.line_filters.specs.Steps.Filtering.{Says}
 use Rattle.line_filters.proofs.MomentLemmas.{stops_more}
 use Rattle.line_filters.proofs.FedLemmas.{ahead_more}
@@ -29,7 +29,7 @@ module _ (whole : Feed) (script : List ℕ) (before : Told) where
 
   feeds_made : (exit : Exit) (printed taken left : List ℕ) (now : Told) → now ≡ after_print printed before → IsPrefixOf printed output → OnAnswer exit (exit ≡ Done)
       → OnAnswer exit (before.here.out ++ printed ≡ before.here.out ++ output) → taken ++ left ≡ script → FeedsOn whole taken printed → (exit ≡ Done → left ≡ [])
-      → (exit ≡ SourceFault → printed ≡ joined (whole.texts (inputs_of taken).whole)) → Feeds whole exit script left before now
+      → (exit ≡ SourceFault → printed ≡ texts_joined (whole.texts (inputs_of taken).whole)) → Feeds whole exit script left before now
   feeds_made exit printed taken left now is begins answers all splits ahead none read = subst (λ (n : Told). Feeds whole exit script left before n) (sym is) (record {
     tells = record { answers = answers; begun = (printed, begins, refl); whole = all };
     only = refl;
@@ -94,30 +94,30 @@ module _ {X : Type 0} (see : X → Seen) (whole : Feed) (script : List ℕ) (bef
 
   -- ---- if source and board are modelled
 
-  pub feeds_on : (result : Exit) (left : Option (List ℕ)) → EndsBoth whole script before a (Ok cut) feed [] left (see x).told (see x).clock → Says see Done result (feed.last [] cut) x y
+  pub feeds_on : (result : Exit) (left : Option (List ℕ)) → FeedEndsBoth whole script before a (Ok cut) feed [] left (see x).told (see x).clock → Says see Done result (feed.last [] cut) x y
       → IsSomeAnd left (λ rest. IsSomeAnd (see y).told (Feeds whole result script rest before))
   feeds_on result None ends says = absurd ends
   feeds_on result (Some rest) ends says = by (see x).told refl ends
     where
-      by : (told : Option Told) → (see x).told ≡ told → EndsBoth whole script before a (Ok cut) feed [] (Some rest) told (see x).clock → IsSomeAnd (see y).told (Feeds whole result script rest before)
+      by : (told : Option Told) → (see x).told ≡ told → FeedEndsBoth whole script before a (Ok cut) feed [] (Some rest) told (see x).clock → IsSomeAnd (see y).told (Feeds whole result script rest before)
       by None tells never = absurd never
       by (Some t) tells there = feeds_said whole script before a feed rest t (see x).clock see x y cut result there tells says
 
-  pub stops_on_said : (result : Exit) (left : Option (List ℕ)) → EndsBoth whole script before a (Ok cut) feed [] left (see x).told (see x).clock → Says see Done result (feed.last [] cut) x y → Adds (PrintMoment a said_text) a (see y).clock
+  pub stops_on_said : (result : Exit) (left : Option (List ℕ)) → FeedEndsBoth whole script before a (Ok cut) feed [] left (see x).told (see x).clock → Says see Done result (feed.last [] cut) x y → Adds (PrintMoment a said_text) a (see y).clock
   stops_on_said result None ends says = absurd ends
   stops_on_said result (Some rest) ends says = by (see x).told ends
     where
-      by : (told : Option Told) → EndsBoth whole script before a (Ok cut) feed [] (Some rest) told (see x).clock → Adds (PrintMoment a said_text) a (see y).clock
+      by : (told : Option Told) → FeedEndsBoth whole script before a (Ok cut) feed [] (Some rest) told (see x).clock → Adds (PrintMoment a said_text) a (see y).clock
       by None never = absurd never
       by (Some t) there = stops_said result rest t there says
 
 module _ (whole : Feed) (script : List ℕ) (before : Told) (a : Clock) (feed : Feed) (exit : Exit) where
-  pub feeds_err_on : (left : Option (List ℕ)) (told : Option Told) (b : Clock) → IsFeedStop exit → EndsBoth whole script before a (Err exit) feed [] left told b → IsSomeAnd left (λ rest. IsSomeAnd told (Feeds whole exit script rest before))
+  pub feeds_err_on : (left : Option (List ℕ)) (told : Option Told) (b : Clock) → IsFeedStop exit → FeedEndsBoth whole script before a (Err exit) feed [] left told b → IsSomeAnd left (λ rest. IsSomeAnd told (Feeds whole exit script rest before))
   feeds_err_on None told b is ends = absurd ends
   feeds_err_on (Some rest) None b is ends = absurd ends
   feeds_err_on (Some rest) (Some t) b is ends = feeds_err whole script before a feed rest t b exit is ends
 
-  pub stops_err_on : (left : Option (List ℕ)) (told : Option Told) (b : Clock) → EndsBoth whole script before a (Err exit) feed [] left told b → Adds (PrintMoment a (feed_output whole script)) a b
+  pub stops_err_on : (left : Option (List ℕ)) (told : Option Told) (b : Clock) → FeedEndsBoth whole script before a (Err exit) feed [] left told b → Adds (PrintMoment a (feed_output whole script)) a b
   stops_err_on None told b ends = absurd ends
   stops_err_on (Some rest) None b ends = absurd ends
   stops_err_on (Some rest) (Some t) b ends = ends.stops
@@ -135,7 +135,7 @@ feeds_nothing whole (Some script) None nothing = tt
 feeds_nothing whole (Some script) (Some t) nothing =
     feeds_made whole script t NoMemory [] [] script t (ap (λ (out : List ℕ). record t { here = record t.here { out = out } }) (sym (append-nil t.here.out)))
     (feed_output whole script, refl) tt tt refl
-    (record { front = []; more = []; text = sym (ap (λ (texts : List (List ℕ)). joined texts ++ []) nothing); rest = []; splits = refl; few = omega arith })
+    (record { front = []; more = []; text = sym (ap (λ (texts : List (List ℕ)). texts_joined texts ++ []) nothing); rest = []; splits = refl; few = omega arith })
     (λ e. absurd cc) (λ e. absurd cc)
 
 -- ---- why it ended so

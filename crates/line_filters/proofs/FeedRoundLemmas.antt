@@ -12,7 +12,7 @@ use Rattle.ras_script.specs.InputBuffer.{InputBuffer, MovesInput}
 use Rattle.ras_exit.specs.declared.exit.Exit.{Exit}
 use Rattle.ras_exit.specs.declared.exit.Exit.TheVariants.{NoMemory, SourceFault}
 use Rattle.line_filters.specs.Feed.{Feed}
-use Rattle.line_filters.specs.Steps.Feeding.{EndsBoth, FedBoth, TakesStep}
+use Rattle.line_filters.specs.Steps.Feeding.{FedBoth, FeedEndsBoth, TakesStep}
 use Rattle.line_filters.specs.Steps.Filtering.{PrintsWaiting}
 use Rattle.line_filters.proofs.FeedBothLemmas.{ends_on, free_of, source_on, starved_on, step_on, unprinted_on, wait_on, with_nil, without_nil}
 use Rattle.line_filters.proofs.FeedRoomLemmas.{free_line}
@@ -24,7 +24,7 @@ module _ (whole : Feed) (script : List ℕ) (before : Told) (a : Clock) (buffer 
       without_nil whole script before a buffer feed rest left (see y).told (see y).clock
       (wait_on whole script before a buffer feed see w [] rest Held x y left (with_nil whole script before a buffer feed w left (see x).told (see x).clock fed) prints)
 
-  pub unprinted_round : (exit : Exit) → PrintsWaiting see (Err exit) Held w rest x y → EndsBoth whole script before a (Err exit) feed rest left (see y).told (see y).clock
+  pub unprinted_round : (exit : Exit) → PrintsWaiting see (Err exit) Held w rest x y → FeedEndsBoth whole script before a (Err exit) feed rest left (see y).told (see y).clock
   unprinted_round exit prints = unprinted_on whole script before a buffer feed see w [] rest Held x y exit feed left (with_nil whole script before a buffer feed w left (see x).told (see x).clock fed) prints
 
 module _ (whole : Feed) (script : List ℕ) (before : Told) (a : Clock) (buffer : InputBuffer) (feed : Feed) {X : Type 0} (see : X → Seen) (w rest : List ℕ) (found : Bool) (x y : X) (left later : Option (List ℕ))
@@ -36,13 +36,13 @@ module _ (whole : Feed) (script : List ℕ) (before : Told) (a : Clock) (buffer 
   free : (rest ≡ []) ⊎ Contains buffer.held 10
   free = free_line found buffer.held rest means (free_of see (found ≡ true) w rest x y prints)
 
-  pub source_round : (failed : Failed) → MovesInput (Err failed) buffer new left later → EndsBoth whole script before a (Err SourceFault) feed rest later (see y).told (see y).clock
+  pub source_round : (failed : Failed) → MovesInput (Err failed) buffer new left later → FeedEndsBoth whole script before a (Err SourceFault) feed rest later (see y).told (see y).clock
   source_round failed moves = source_on whole script before a buffer feed rest new (see y).told (see y).clock nothing failed feed left later free ready moves
 
-  pub ends_round : (cut : Bool) → (Contains buffer.held 10 → later ≡ left) → MovesInput (Ok (End cut)) buffer new left later → EndsBoth whole script before a (Ok cut) feed rest later (see y).told (see y).clock
+  pub ends_round : (cut : Bool) → (Contains buffer.held 10 → later ≡ left) → MovesInput (Ok (End cut)) buffer new left later → FeedEndsBoth whole script before a (Ok cut) feed rest later (see y).told (see y).clock
   ends_round cut first moves = ends_on whole script before a buffer feed rest new (see y).told (see y).clock nothing cut left later free ready first moves
 
-  pub starved_round : (step : InputStep) (other : Feed) → (Contains buffer.held 10 → later ≡ left) → MovesInput (Ok step) buffer new left later → EndsBoth whole script before a (Err NoMemory) other rest later (see y).told (see y).clock
+  pub starved_round : (step : InputStep) (other : Feed) → (Contains buffer.held 10 → later ≡ left) → MovesInput (Ok step) buffer new left later → FeedEndsBoth whole script before a (Err NoMemory) other rest later (see y).told (see y).clock
   starved_round step other first moves = starved_on whole script before a buffer feed rest new (see y).told (see y).clock nothing step other left later free ready first moves
 
   pub step_round : (step : InputStep) (after : Feed) (text : List ℕ) → ((cut : Bool) → step ≡ End cut → ⊥) → (Contains buffer.held 10 → later ≡ left) → MovesInput (Ok step) buffer new left later

@@ -18,9 +18,9 @@ input_in (Line bytes) = line bytes.now
 input_in Long = long
 
 -- a line has no more bytes than a line may have
-abbrev pub IsShort : Input → Type 0
-IsShort (line bytes) = length bytes ≤ LONGEST_LINE
-IsShort long = ⊤
+abbrev pub IsShortInput : Input → Type 0
+IsShortInput (line bytes) = length bytes ≤ LONGEST_LINE
+IsShortInput long = ⊤
 
 -- An input was taken and its text appended, which one call can print: the filter goes on with the inputs after it.
 pub record TookInput (input : Input) (before after : Feed) (old new : List ℕ) : Type 0 where

@@ -8,20 +8,20 @@ use Rattle.ras_exit.specs.declared.exit.Exit.{Exit}
 use Rattle.ras_exit.specs.declared.exit.Exit.TheVariants.{Done, SourceFault, PrintFault, NoMemory}
 use Rattle.ras_exit.specs.Telling.{OnlyText, PrintMoment, Tells}
 use Rattle.line_filters.specs.Feed.{Feed}
-use Rattle.line_filters.specs.Pieces.{joined}
+use Rattle.line_filters.specs.Pieces.{texts_joined}
 
 -- all that a filter prints for an input
 abbrev pub feed_output : Feed → List ℕ → List ℕ
 feed_output feed input =
     let inputs = inputs_of input in
-    joined (feed.texts inputs.whole) ++ feed.last inputs.whole inputs.cut
+    texts_joined (feed.texts inputs.whole) ++ feed.last inputs.whole inputs.cut
 
 -- How far an input was read when this was printed: no text of a line waits while its source is read.
 pub record FeedsOn (feed : Feed) (taken printed : List ℕ) : Type 0 where
   -- The texts of all lines in the front of what was taken are printed,
   pub front : List ℕ
   pub more : List ℕ
-  pub text : printed ≡ joined (feed.texts (inputs_of front).whole) ++ more
+  pub text : printed ≡ texts_joined (feed.texts (inputs_of front).whole) ++ more
   -- and at most 40,001 bytes were read after it.
   pub rest : List ℕ
   pub splits : front ++ rest ≡ taken
@@ -40,7 +40,7 @@ pub record Feeds (feed : Feed) (result : Exit) (input left : List ℕ) (before n
   -- If the call is done, all was read.
   pub all : result ≡ Done → left ≡ []
   -- If the source failed, the texts of all lines that were read are printed.
-  pub read : result ≡ SourceFault → printed ≡ joined (feed.texts (inputs_of taken).whole)
+  pub read : result ≡ SourceFault → printed ≡ texts_joined (feed.texts (inputs_of taken).whole)
 
 -- Whatever a crash during a call leaves, it differs only by a beginning of what is printed for the input. Says nothing
 -- of a source or a board that isn't modelled.

@@ -4,8 +4,8 @@ use Rattle.std.specs.List.{AllByRecursion, flat_map}
 use Rattle.line_filters.specs.declared.feeding.TheConstants.{MOST_AT_ONCE}
 
 -- texts one after another
-abbrev pub joined : List (List ℕ) → List ℕ
-joined texts = flat_map (λ text. text) texts
+abbrev pub texts_joined : List (List ℕ) → List ℕ
+texts_joined texts = flat_map (λ text. text) texts
 
 -- the calls that print these texts after gathered ones: as many texts together as one call may print
 abbrev pub pieces_after : List ℕ → List (List ℕ) → List (List ℕ)

@@ -9,8 +9,8 @@ ghost use Rattle.ras_exit.specs.Causes.{BoardCause, Causes, SourceCause};
 ghost use Rattle.ras_script.specs.declared.reader.TheConstants.{LONGEST_LINE};
 ghost use Rattle.line_filters.specs.Feeds.{Feeds, IsFeedExit, StopsFeeding};
 ghost use Rattle.line_filters.specs.Filters.{OfBoth};
-ghost use Rattle.line_filters.specs.Pieces.{AreShort, joined, pieces_of};
-ghost use Rattle.line_filters.specs.Steps.Feeding.{EndsBoth, IsFeedStop, TakesStep, is_fault, no_inputs};
+ghost use Rattle.line_filters.specs.Pieces.{AreShort, pieces_of, texts_joined};
+ghost use Rattle.line_filters.specs.Steps.Feeding.{FeedEndsBoth, IsFeedStop, TakesStep, is_fault, no_inputs};
 ghost use Rattle.line_filters.specs.Steps.Filtering.{PrintsWaiting, Says};
 
 use crate::{InputFilter, InputLine};
@@ -32,7 +32,7 @@ pub const MOST_INPUTS: u64 = u64::MAX;
 /// in a piece if no text is longer. This is about the definition; `print_unless`, through which all
 /// is printed here, requires such pieces.
 pub fn pieces_laws()
-    ensures all { (texts : List (List ℕ)) → joined (pieces_of texts) ≡ joined texts }
+    ensures all { (texts : List (List ℕ)) → texts_joined (pieces_of texts) ≡ texts_joined texts }
     ensures short { (texts : List (List ℕ)) → AreShort texts
         → AllByRecursion (λ (piece : List ℕ). length piece ≤ 4096) (pieces_of texts) }
 {}
@@ -80,7 +80,7 @@ fn take_inputs<S: Source, B: Board, F: InputFilter>(
 ) -> Result<bool, Exit>
     requires begins { (inputs.old ≡ no_inputs) × (F.taken filter.old ≡ 0) }
     ensures ends { (script : List ℕ) (t : Told) → S.left source.old ≡ Some script
-        → (B.seen board.old).told ≡ Some t → EndsBoth (F.makes filter.old) script t
+        → (B.seen board.old).told ≡ Some t → FeedEndsBoth (F.makes filter.old) script t
         (B.seen board.old).clock result (F.makes filter.new) [] (S.left source.new)
         (B.seen board.new).told (B.seen board.new).clock }
     ensures few { OnOk result (F.taken filter.new < MOST_INPUTS) }
@@ -121,7 +121,7 @@ fn gather_inputs<S: Source, B: Board, F: InputFilter>(
     requires begins { (inputs.old ≡ no_inputs) × (F.taken filter.old ≡ 0)
         × (waiting.old.items ≡ []) }
     ensures ends { (script : List ℕ) (t : Told) → S.left source.old ≡ Some script
-        → (B.seen board.old).told ≡ Some t → EndsBoth (F.makes filter.old) script t
+        → (B.seen board.old).told ≡ Some t → FeedEndsBoth (F.makes filter.old) script t
         (B.seen board.old).clock result (F.makes filter.new) waiting.new.items
         (S.left source.new) (B.seen board.new).told (B.seen board.new).clock }
     ensures short { length waiting.new.items ≤ MOST_AT_ONCE }

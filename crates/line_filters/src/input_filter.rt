@@ -1,7 +1,7 @@
 //! A filter of the lines of an input of any length.
 
 ghost use Rattle.std.specs.Prelude.{◌≡◌, ◌+◌, ◌<◌, ◌≤◌, ◌++◌, ℕ, [], length, OnOk};
-ghost use Rattle.line_filters.specs.Feed.{Feed, IsShort, TookInput, input_in};
+ghost use Rattle.line_filters.specs.Feed.{Feed, IsShortInput, TookInput, input_in};
 ghost use Rattle.line_filters.specs.declared.feeding.TheConstants.{MOST_AT_ONCE, MOST_INPUTS};
 
 use ras_base::NoMemory;
@@ -36,7 +36,7 @@ pub trait InputFilter {
         input: InputLine<'_>,
         text: &mut Vec<u8>,
     ) -> Result<(), NoMemory>
-        requires short { IsShort (input_in input) }
+        requires short { IsShortInput (input_in input) }
         requires few { taken self.old < MOST_INPUTS }
         ensures takes { OnOk result (TookInput (input_in input.entry) (makes self.old)
             (makes self.new) text.old.items text.new.items) }

@@ -13,7 +13,7 @@ use Rattle.ras_exit.specs.declared.exit.Exit.TheVariants.{NoMemory, PrintFault, 
 use Rattle.ras_exit.specs.Telling.{PrintMoment}
 use Rattle.line_filters.specs.Feed.{Feed, TookInput}
 use Rattle.line_filters.specs.Feeds.{FeedsOn, feed_output}
-use Rattle.line_filters.specs.Pieces.{joined}
+use Rattle.line_filters.specs.Pieces.{texts_joined}
 
 -- a reader before the first input
 abbrev pub no_inputs : InputBuffer
@@ -33,7 +33,7 @@ with_inputs given inputs = record inputs { whole = given ++ inputs.whole }
 abbrev pub later_text : Feed → InputBuffer → List ℕ → List ℕ
 later_text feed buffer left =
     let inputs = inputs_to_come buffer left in
-    joined (feed.texts inputs.whole) ++ feed.last inputs.whole inputs.cut
+    texts_joined (feed.texts inputs.whole) ++ feed.last inputs.whole inputs.cut
 
 -- Inputs were taken: what the call prints is what they make, some of which waits, and what is to come.
 pub record Fed (whole : Feed) (script : List ℕ) (before : Told) (old : Clock) (buffer : InputBuffer) (feed : Feed) (waiting left : List ℕ) (now : Told) (new : Clock) : Type 0 where
@@ -48,16 +48,16 @@ pub record Fed (whole : Feed) (script : List ℕ) (before : Told) (old : Clock) 
   pub last : (inputs : List Input) (cut : Bool) → whole.last (given ++ inputs) cut ≡ feed.last inputs cut
   -- what is printed of them
   pub printed : List ℕ
-  pub all : joined texts ≡ printed ++ waiting
+  pub all : texts_joined texts ≡ printed ++ waiting
   pub is : now ≡ after_print printed before
   pub stops : Adds (PrintMoment old (feed_output whole script)) old new
   pub leads : Leads (InOut (Appends printed)) old new
   pub ahead : FeedsOn whole (done ++ buffer.held) printed
 
 -- the call goes on to print what waits
-abbrev pub GoesOn : Result Bool Exit → Type 0
-GoesOn (Err PrintFault) = ⊥
-GoesOn result = ⊤
+abbrev pub PrintsNext : Result Bool Exit → Type 0
+PrintsNext (Err PrintFault) = ⊥
+PrintsNext result = ⊤
 
 -- The inputs came to an end in this way, with this filter, and texts wait.
 pub record FeedEnds (whole : Feed) (script : List ℕ) (before : Told) (old : Clock) (result : Result Bool Exit) (feed : Feed) (waiting left : List ℕ) (now : Told) (new : Clock) : Type 0 where
@@ -69,18 +69,18 @@ pub record FeedEnds (whole : Feed) (script : List ℕ) (before : Told) (old : Cl
   pub stops : Adds (PrintMoment old (feed_output whole script)) old new
   pub ahead : FeedsOn whole taken printed
   -- what waits is printed next, unless printing failed
-  pub goes : GoesOn result → IsPrefixOf (printed ++ waiting) (feed_output whole script) × Leads (InOut (Appends printed)) old new
+  pub goes : PrintsNext result → IsPrefixOf (printed ++ waiting) (feed_output whole script) × Leads (InOut (Appends printed)) old new
   -- only the last text is to come, and all was read
   pub done : (cut : Bool) → result ≡ Ok cut → (feed_output whole script ≡ (printed ++ waiting) ++ feed.last [] cut) × (left ≡ [])
-  pub read : result ≡ Err SourceFault → printed ≡ joined (whole.texts (inputs_of taken).whole)
+  pub read : result ≡ Err SourceFault → printed ≡ texts_joined (whole.texts (inputs_of taken).whole)
 
 -- the same if source and board are modelled
 abbrev pub FedBoth : Feed → List ℕ → Told → Clock → InputBuffer → Feed → List ℕ → Option (List ℕ) → Option Told → Clock → Type 0
 FedBoth whole script before old buffer feed waiting left told new =
     IsSomeAnd left (λ rest. IsSomeAnd told (λ now. Fed whole script before old buffer feed waiting rest now new))
 
-abbrev pub EndsBoth : Feed → List ℕ → Told → Clock → Result Bool Exit → Feed → List ℕ → Option (List ℕ) → Option Told → Clock → Type 0
-EndsBoth whole script before old result feed waiting left told new =
+abbrev pub FeedEndsBoth : Feed → List ℕ → Told → Clock → Result Bool Exit → Feed → List ℕ → Option (List ℕ) → Option Told → Clock → Type 0
+FeedEndsBoth whole script before old result feed waiting left told new =
     IsSomeAnd left (λ rest. IsSomeAnd told (λ now. FeedEnds whole script before old result feed waiting rest now new))
 
 -- whether a call of the source or the board failed, which is then the last one

@@ -5,7 +5,7 @@ use Rattle.ras_script.specs.declared.input.InputStep.{InputStep}
 use Rattle.ras_exit.specs.Causes.{BoardCause, SourceCause}
 use Rattle.ras_exit.specs.declared.exit.Exit.TheVariants.{NoMemory}
 use Rattle.ras_exit.proofs.DeviceLemmas.{device_goes_on, device_stays}
-use Rattle.line_filters.specs.Steps.Feeding.{EndsBoth, FedBoth, IsFeedStop}
+use Rattle.line_filters.specs.Steps.Feeding.{FedBoth, FeedEndsBoth, IsFeedStop}
 use Rattle.line_filters.proofs.FeedBothLemmas.{fed_start, stop_on, unprinted_on, wait_on, with_nil}
 use Rattle.line_filters.proofs.FeedRoomLemmas.{room, short_step}
 use Rattle.line_filters.proofs.FeedRoundLemmas.{ends_round, source_round, starved_round, step_round, unprinted_round}
@@ -143,7 +143,7 @@ returns-in_default-extend_from_slice g c =
     let left = g.S.Source.left in
     record {
       ends = λ script t given here.
-          subst (λ (w : List ℕ). EndsBoth (makes c.args.filter.now) script t (see c.args.board.now).clock (Err NoMemory) (makes c.take_step.new.filter) w (left c.advance.new.source) (see c.print_unless-in-loop-number.new.board).told (see c.print_unless-in-loop-number.new.board).clock) (sym c.in_default-extend_from_slice.ensures.items)
+          subst (λ (w : List ℕ). FeedEndsBoth (makes c.args.filter.now) script t (see c.args.board.now).clock (Err NoMemory) (makes c.take_step.new.filter) w (left c.advance.new.source) (see c.print_unless-in-loop-number.new.board).told (see c.print_unless-in-loop-number.new.board).clock) (sym c.in_default-extend_from_slice.ensures.items)
           (stop_on (makes c.args.filter.now) script t (see c.args.board.now).clock c.advance.new.self (makes c.take_step.new.filter) (makes c.take_step.new.filter) c.print_unless-in-loop-number.new.waiting.items c.take_step.new.text.items (left c.advance.new.source) (see c.print_unless-in-loop-number.new.board).told (see c.print_unless-in-loop-number.new.board).clock
           (wait_on (makes c.args.filter.now) script t (see c.args.board.now).clock c.advance.new.self (makes c.take_step.new.filter) see c.print_unless.new.waiting.items c.take_step.new.text.items
           c.print_unless-in-loop-number.new.waiting.items (c.fits.result ≡ true) c.print_unless.new.board c.print_unless-in-loop-number.new.board (left c.advance.new.source)
