@@ -5,3 +5,9 @@ pub mod EndLemmas
 pub mod BothLemmas
 pub mod CallLemmas
 pub mod PrintedLemmas
+pub mod PieceLemmas
+pub mod FedLemmas
+pub mod FeedBothLemmas
+pub mod FeedCallLemmas
+pub mod FeedRoomLemmas
+pub mod FeedRoundLemmas

@@ -51,7 +51,7 @@ module _ (line : List ℕ) (old new : Filter) (out text : List ℕ) (took : Took
 
 -- ---- what is said
 
-print-both : (one two : List ℕ) (t : Told) → after_print two (after_print one t) ≡ after_print (one ++ two) t
+pub print-both : (one two : List ℕ) (t : Told) → after_print two (after_print one t) ≡ after_print (one ++ two) t
 print-both one two t = ap (λ out. record t { here = record t.here { out = out } }) (append_assoc t.here.out one two)
 
 said_none : (text : List ℕ) (t : Told) (clock : Clock) → Said text t clock [] [] t clock

@@ -1,3 +1,4 @@
 -- What only proofs use: no public clause refers to it.
 pub mod Reading
 pub mod Filtering
+pub mod Feeding
