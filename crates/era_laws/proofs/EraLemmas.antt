@@ -42,7 +42,7 @@ one-account a b left of_a of_b = same-ok a b (sym of_a.is ∙ of_b.is)
 moved : (here : Left) (era : Era) (a : State) → BeginsOver here era → Recovers a here → Recovers a era.here
 moved here era a begins of = record { is = (λ i. recovered (begins.zero i) (begins.one i)) ∙ of.is }
 
--- the account at the start of an era is the one that was left
+-- the account at the start of an era is the account that the era before left
 start-account : (here : Left) (era : Era) (a : State) → BeginsOver here era → IsEra era → Recovers a here → a ≡ era.run.account
 start-account here era a begins is of = one-account a era.run.account era.here (moved here era a begins of) is.opens
 

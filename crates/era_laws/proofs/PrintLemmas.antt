@@ -148,7 +148,7 @@ prints-unread id why =
     prints-line (codes "unreadable record=" ++ encode_lower (to_be_bytes w64 id) ++ codes " reason=" ++ unreadable_word why)
     (simp (unbroken-append, hexadecimal_unbroken, word-unbroken)) refl
 
--- ---- an event: the new reports are those of the entries that are new at their places
+-- ---- an event: its new reports are the reports of the entries that are new at their places
 
 prints-along : (a : State) (pieces : List Piece) → HasPrints (text_along a pieces) (facts_of (fresh_entries_in a (entries_in pieces)))
 prints-along a [] = prints-none

@@ -81,7 +81,7 @@ module _ (script : List ℕ) (polls : PollsNothing script) (one : Start) (whole 
     abbrev TakeIt : List Era → Type 0
     TakeIt eras = AllByRecursion (TakesFirst script) eras
 
-    -- The account at the end is the one of all that is reported, as far as these are the same.
+    -- The account at the end is the account with everything reported, as far as `Same` compares accounts.
     module _ (Same : State → State → Type 0) (self : (a : State) → Same a a) (chain : (a b c : State) → Same a b → Same b c → Same a c)
         (again : (h : History) (xs ys : List Entry) → xs ++ ys ≡ all → Same (account_of (with_entries (with_entries h xs) all)) (account_of (with_entries h all))) where
       replayed : (eras : List Era) (history : History) (here : Left) (now : State) → Recovers (account_of history) here → AreEras here (eras ++ last ∷ []) → TakeIt eras → Recovers now last.left

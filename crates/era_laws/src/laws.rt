@@ -145,9 +145,9 @@ pub fn era_laws()
         Becomes (store_changed laid (puts r)) laid era.left.store }
 
     // If a script without polls, which may grow at its end, is run again from its first line after
-    // each crash, the account in the end is that of one uninterrupted run of all of it, except for
-    // the number of entries, because limits are set again. If the script reports only facts, that
-    // number is the same too.
+    // each crash, the account in the end is the account of one uninterrupted run of the whole
+    // script, except for the number of entries, because limits are set again. If the script reports
+    // only facts, that number is the same too.
     ensures replayed { (history : History) (undisturbed : Start) (script : List ℕ) (here : Left)
         (eras : List Era) (last : Era) (now : State)
         → IsReplayed history undisturbed script here eras last → Recovers now last.left

@@ -1,3 +1,4 @@
+pub mod CaseLemmas
 pub mod CauseLemmas
 pub mod FolderLemmas
 pub mod LeavesLemmas

@@ -3,12 +3,14 @@
 
 mod laws;
 mod over_folder;
+mod status;
 
 pub use laws::folder_eras;
 pub use over_folder::{Ended, rasd_over};
 use ras_base::NoMemory;
 use ras_daemon::{Exit, RasWord};
 use ras_host::{RealInput, RealSystem};
+use status::process_status;
 use std::env::{Env, FillError};
 use std::process::ExitCode;
 
@@ -23,7 +25,7 @@ fn main(rt: HostRuntime) -> ExitCode {
         }
         Err(NoMemory) => Exit::NoMemory,
     };
-    ExitCode::from(exit.status())
+    process_status(&exit)
 }
 
 // Returns the program's arguments without its name.

@@ -38,7 +38,7 @@ pub struct FileBoard<S: System + Drop, U: Use, B: Found> {
     disk_faults: u64,
     register_faults: u64,
     print_faults: u64,
-    refusals: Refusals,
+    refusals: Refusals<S, U>,
     disk_calls: Notes,
     accesses: Notes,
     used: PhantomData<U>,
@@ -115,7 +115,7 @@ impl<S: System + Drop, U: Use, B: Found> FileBoard<S, U, B> {
     }
 
     /// Returns the system that the board is over, and how often a call was refused.
-    pub fn into_parts(self) -> (S, Refusals)
+    pub fn into_parts(self) -> (S, Refusals<S, U>)
         ensures past { S.told result.0 ≡ self.past }
         ensures count { S.faults result.0 ≡ self.count }
         ensures refused { result.1 ≡ self.refused }

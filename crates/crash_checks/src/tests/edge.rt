@@ -9,9 +9,9 @@ use super::records::{ENTRIES, ERST, PANIC, POLL, PUT_5, RECORD};
 use super::{ANOTHER, EVERYDAY, MODULE, joined};
 use board_core::MemSource;
 use host_system::system_laws;
-use mem_system::{Effect, LeftFolder, MemSystem, NamePick, StopPick, WriteLeft};
+use mem_system::{Effect, LeftFolder, MemKernel, MemSystem, NamePick, StopPick, WriteLeft};
 use ras_daemon::{Exit, RasWord, rasd};
-use ras_host::{Alone, FileBoard, OnlyReading, Use};
+use ras_host::{Alone, FileBoard, OnlyReading, OverKernel, Use};
 use std::alloc::Global;
 use std::marker::Brand;
 use std::test::Fail;
@@ -176,6 +176,29 @@ fn nothing_is_lost_over_a_switch(rt: HostRuntime) -> Result<(), Fail> {
     let script: &[&[u8]] = &[MODULE, EVERYDAY, ANOTHER];
     let calls = calls_that_lose_nothing(alloc, script, &start, None)?;
     assert!(rt; matches!(calls, Some(calls) if calls > 20));
+    Ok(())
+}
+
+// The program's own calls over a kernel in memory: its checks of the names pass, and a run is done.
+#[test]
+fn run_over_a_kernel_is_done(rt: HostRuntime) -> Result<(), Fail> {
+    let alloc = rt.alloc();
+    let start = LeftFolder::empty(alloc);
+    if let Some(bytes) = &start.store {
+        are_bytes(bytes);
+    }
+    let mem_system = MemSystem::over(alloc, &start)?;
+    system_laws();
+    let system = OverKernel::over(MemKernel::over(mem_system));
+    let script = joined(
+        alloc,
+        &[ERST, ENTRIES, PUT_5, RECORD, PANIC, POLL, EVERYDAY],
+    )?;
+    let mut source = MemSource::new(script, 7, Vec::new(alloc));
+    let mut board: FileBoard<OverKernel<MemKernel>, Alone, Brand> = FileBoard::new(alloc, system);
+    let words = vec![in alloc; RasWord::new(alloc, b"run")?]?;
+    let exit = rasd(alloc, &words, &mut source, &mut board);
+    assert!(rt; exit == Exit::Done);
     Ok(())
 }
 

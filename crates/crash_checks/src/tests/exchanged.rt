@@ -20,7 +20,7 @@ const ROWS: [(Pieces, Exit, &[&[u8]]); 2] = [
             b"done 3\nend entries=1 names=1\n",
         ],
     ),
-    // A disk that is broken by then is told at its place.
+    // If somebody damaged the disk by then, the run says at which byte.
     (
         OLD_CUT,
         Exit::Damaged { file: 0, place: 73 },

@@ -7,7 +7,7 @@ pub const ERST: &[u8] = b"erst \
     00000000300000000000000012000000\
     0003000000400004000000f0000000000000000000000000ffffffffffffffff";
 
-/// The same of a table that has three idle entries before those of a read, and these.
+/// An `erst` line whose table has three idle entries before the entries of a read.
 pub const PADDED: &[u8] = b"erst \
     45525354d0020000001000000000000000000000000000000000000000000000\
     00000000300000000000000015000000\
