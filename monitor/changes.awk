@@ -15,7 +15,7 @@ function take(sums,   label, class) {
         sub(/^[^"]*"/, "", label)
         sub(/",class=.*/, "", label)
         class = value_of("class")
-        if (class ~ /^(SRAO|SRAR|UC|recoverable|fatal)$/) sums["uncorrected " label] += $NF
+        if (class ~ /^(UCNA|SRAO|SRAR|UC|recoverable|fatal)$/) sums["uncorrected " label] += $NF
         if (label == "-") sums["unlabelled -"] += $NF
     } else if ($0 ~ /^rasd_pages[{]state="(soft|hard)"/) sums["ordered -"] += $NF
 }
