@@ -6,9 +6,14 @@ from page import UNCORRECTED, element, grouped, joined, named
 PLACE = re.compile(r"S(\d+)\.M(\d+)\.C(\d+)\.D(\d+)")
 
 
+def names_of(label):
+    """The slots that a label may mean."""
+    return [part.partition("#")[0] for part in label.partition("~")[0].split("/")]
+
+
 def name_of(label):
     """The slot of a label, or the slots that it may mean."""
-    return " or ".join(part.partition("#")[0] for part in label.partition("~")[0].split("/"))
+    return " or ".join(names_of(label))
 
 
 def is_several(label):
@@ -52,31 +57,44 @@ class Board:
         return f"{it.name} ({it.serial})" if it and it.serial else name_of(label)
 
     def slots(self, counts, replaced):
-        """The pictures of the sockets: a slot is bad, has had errors, or nothing."""
-        sockets = {}
+        """The pictures of the sockets: a slot is bad, has had errors, may have had some (of a label of several), or nothing."""
+        sockets, maybe = {}, {}
+        for label in filter(is_several, counts):
+            for name in names_of(label):
+                maybe.setdefault(name, []).append(label)
         for it in self.dimms.values():
             if it.place:
                 sockets.setdefault(int(it.place[1]), {}).setdefault((int(it.place[2]), int(it.place[3])), []).append(it)
         for socket in sorted(sockets):
             channels = [
-                element("div", *(self.slot(it, counts, replaced) for it in sockets[socket][key]), class_="channel")
+                element("div", *(self.slot(it, maybe.get(it.name, ()), counts, replaced) for it in sockets[socket][key]), class_="channel")
                 for key in sorted(sockets[socket])
             ]
             yield element("div", element("h3", f"Socket {socket}"), element("div", *channels, class_="socket"), class_="frame board")
 
-    def slot(self, dimm, counts, replaced):
-        """The picture of a slot."""
-        of = counts.get(dimm.label, {})
-        bad = sum(count for name, count in of.items() if name in UNCORRECTED)
-        good = sum(of.values()) - bad
-        kind = "bad" if dimm.label in replaced or bad else "some" if good else ""
-        text = "replace" if dimm.label in replaced else f"{grouped(bad)} lost" if bad else grouped(good) if good else ""
+    def slot(self, dimm, maybe, counts, replaced):
+        """The picture of a slot: its own errors, or else those that may be its."""
+        kind, text, good, bad = state_of([dimm.label], counts, replaced)
         title = f"{self.said(dimm.label)}: {grouped(good)} corrected, {grouped(bad)} uncorrected"
+        if not kind:
+            kind, text, *_ = state_of(maybe, counts, replaced)
+            kind, text = (f"{kind} maybe", f"{text}?") if kind else ("", "")
         return element("div", element("strong", dimm.name), element("small", text), class_=f"slot {kind}".rstrip(), title=title)
+
+
+def state_of(labels, counts, replaced):
+    """How slots with these labels are: bad, some or nothing; that in few words; corrected and uncorrected errors."""
+    sums = [counts.get(label, {}) for label in labels]
+    bad = sum(count for of in sums for name, count in of.items() if name in UNCORRECTED)
+    good = sum(sum(of.values()) for of in sums) - bad
+    is_replaced = any(label in replaced for label in labels)
+    kind = "bad" if is_replaced or bad else "some" if good else ""
+    return kind, "replace" if is_replaced else f"{grouped(bad)} lost" if bad else grouped(good) if good else "", good, bad
 
 
 def unknown_which(counts):
     """Lines on labels that mean one of several DIMMs."""
     for label, of in counts.items():
-        if is_several(label) and sum(of.values()):
-            yield joined(named(name_of(label)), f": {grouped(sum(of.values()))} errors; the kernel didn’t say which")
+        if is_several(label) and (count := sum(of.values())):
+            errors = "1 error" if count == 1 else f"{grouped(count)} errors"
+            yield joined(named(name_of(label)), f": {errors}; the kernel didn’t say which")
