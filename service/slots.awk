@@ -36,10 +36,26 @@ function in_words(label,   count, of, i, text) {
     }
     return text
 }
-function mark(label) { return label in replace ? "[##]" : bad[label] ? "[!!]" : good[label] ? "[. ]" : "[  ]" }
+function sign(label) { return label in replace ? "#" : bad[label] ? "!" : good[label] ? "." : " " }
+# A slot's own errors, or else those of several slots that it is one of.
+function mark(label,   it) {
+    it = sign(label)
+    if (it != " ") return "[" it (it == "." ? " " : it) "]"
+    return name[label] in maybe ? "[" maybe[name[label]] "?]" : "[  ]"
+}
+# Notes for each slot of a label of several the worst that it may have.
+function take_several(label,   count, of, i) {
+    sub(/~.*/, "", label)
+    count = split(label, of, "/")
+    for (i = 1; i <= count; i++) {
+        sub(/#.*/, "", of[i])
+        if (index(" .!#", sign(whole)) > index(" .!#", maybe[of[i]])) maybe[of[i]] = sign(whole)
+    }
+}
 function is_several(label) { return !(label in name) && label ~ /[\/~]/ }
 
 END {
+    for (i = 1; i <= labels; i++) if (is_several(whole = order[i]) && errors(whole)) take_several(whole)
     for (i = 1; i <= labels; i++) if (order[i] in replace)
         print "REPLACE " in_words(order[i]) ": " errors(order[i]) (is_several(order[i]) ? ": the kernel didn't say which" : "")
     for (i = 1; i <= dimms; i++) {
@@ -56,5 +72,5 @@ END {
         else print "  " in_words(order[i]) ": " errors(order[i]) (is_several(order[i]) ? ": the kernel didn't say which" : "")
     }
     if (!dimms) print "no DIMM is known: rasd-doctor says what is missing"
-    print "[##] replace  [!!] uncorrected errors  [. ] corrected errors"
+    print "[##] replace  [!!] uncorrected errors  [. ] corrected errors  [.?] it, or another slot"
 }
