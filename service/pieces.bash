@@ -26,7 +26,7 @@ count_names() {
 marks=0
 # Waits until rasd has acknowledged all lines so far: it has once a line after a mark is done.
 await_all() {
-    local mark="# given $((++marks))" number told process acknowledged
+    local mark="# given $((++marks))" number told process acknowledged waits=0
     printf '%s\n' "$mark" "$no_error"
     while :; do
         number=0 told='' process='' acknowledged=0
@@ -34,6 +34,8 @@ await_all() {
         read -r process acknowledged 2>/dev/null <"$run/acknowledged"
         if [[ $told == "$mark" && $process == "$PPID" ]] && ((acknowledged > number)); then return; fi
         kill -0 "$numberer" 2>/dev/null || exit 1
+        # If quiet-lines was killed, no line will be acknowledged, and rasd notices that only once it prints: so it gets lines.
+        ((++waits % 250)) || printf '%s\n' "$no_error"
         read -rt 0.02 -u "$idle"
     done
 }
