@@ -29,3 +29,24 @@ says() {
         return 1
     }
 }
+# Runs a command in a root over this one, in memory, which goes away with it. `room` is a folder that has the folder root, `top`
+# the clone's.
+# shellcheck disable=SC2016,SC2154
+in_root() {
+    unshare --mount bash -eu -c '
+        mount -t tmpfs rasd "$1/root"
+        cd "$1/root"
+        mkdir upper work root
+        mount -t overlay rasd -o lowerdir=/,upperdir=upper,workdir=work root
+        for path in /dev /sys "$1" "$2"; do
+            mkdir -p "root$path"
+            mount --rbind "$path" "root$path"
+        done
+        mount -t proc proc root/proc
+        # The package asks nothing of the kernel of this machine.
+        for path in /sys/kernel/tracing /sys/devices/system/machinecheck; do
+            [ ! -d "root$path" ] || mount -t tmpfs rasd "root$path"
+        done
+        exec chroot root "${@:3}"
+    ' - "$room" "$top" "$@"
+}
