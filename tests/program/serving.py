@@ -22,7 +22,8 @@ SOON = 10.0
 PATIENCE = 60.0
 
 # It prints logs as journalctl's export form. The log of this boot goes on until the stub is ended, and its process and its
-# words are noted. Those of other boots are files, and come in two parts if they are to be slow.
+# words are noted. Those of other boots are files, and come in two parts if they are to be slow; with a file `volatile` there are
+# none.
 JOURNALCTL = r"""#!/usr/bin/perl
 use strict; use warnings; use Time::HiRes 'sleep';
 $| = 1;
@@ -66,6 +67,7 @@ sub print_log {{
 }}
 open my $calls, '>>', "$room/calls"; print $calls "$words\n"; close $calls;
 if ($words =~ /--list-boots/) {{ pass_on("$room/boots") if -e "$room/boots" }}
+elsif (-e "$room/volatile" && $words !~ / $boot | -f /) {{ print STDERR "No such boot ID in journal\n"; exit 1 }}
 elsif ($words =~ / -n 1 /) {{
     # The other boots began later than the one that tests call the earlier one.
     printf "__REALTIME_TIMESTAMP=%d000000\n__MONOTONIC_TIMESTAMP=5000000\n", $words =~ / {earlier} / ? 1400000005 : 1400001005;
