@@ -236,6 +236,13 @@ class Service:
             time.sleep(0.05)
         return is_whole
 
+    def awaits_lines(self, pattern, count):
+        """Whether so many lines that have the pattern are printed in time."""
+        end = time.monotonic() + PATIENCE
+        while len(re.findall(f"(?m){pattern}", self.text())) < count and time.monotonic() < end:
+            time.sleep(0.05)
+        return len(re.findall(f"(?m){pattern}", self.text())) >= count
+
     def awaits_no_boots_before(self):
         """Whether the errors of earlier boots are acknowledged in time, so that no boot is noted any more."""
         end = time.monotonic() + PATIENCE
