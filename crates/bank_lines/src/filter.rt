@@ -13,10 +13,11 @@ use ras_script::LineRefused;
 use std::alloc::Global;
 use std::marker::Model;
 
-/// Makes lines of script of the text of the kernel's trace.
+/// Converts the text of the kernel's trace to lines of script.
 ///
-/// Each line is told by the line of its report, by a comment, or by nothing. A report without a
-/// counter gets one that tells it from those alike before it. No line is refused.
+/// Each line of the trace gives the line of its report, a comment, or nothing. A report without a
+/// counter gets one, which distinguishes it from the reports with its key before it. No line is
+/// rejected.
 #[derive(Drop)]
 pub struct TraceFilter {
     boot: u64,
@@ -33,7 +34,7 @@ impl Model for TraceFilter {
 }
 
 impl TraceFilter {
-    /// Before the first line of a trace of this boot.
+    /// Returns the filter before the first line of a trace of this boot.
     pub fn new(alloc: Global, boot: u64) -> TraceFilter
         ensures makes { filter_after result ≡ trace_filter boot }
         ensures taken { result.taken ≡ 0 }

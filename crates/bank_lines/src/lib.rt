@@ -1,5 +1,5 @@
-//! Lines of script of the machine checks in what the kernel tells: what is found in each line, and
-//! the lines that are printed of it.
+//! Finds machine checks in the kernel's trace and log, line by line, and prints them as lines of
+//! script.
 #![tactic(auto)]
 
 mod edac_line;
