@@ -6,7 +6,7 @@ use Rattle.block_lines.specs.LogLines.{report_log_line}
 use Rattle.block_lines.specs.Reports.{Reporting, no_reports, reporting_after}
 use Rattle.block_lines.specs.Texts.{rest_text, blocks_text_at}
 
--- the text of each line, after this many lines; no line is refused
+-- the text of each line, after this many lines; no line is rejected
 abbrev pub block_answers : ℕ → Reporting → List (List ℕ) → List (Result (List ℕ) LineRefused)
 block_answers taken r [] = []
 block_answers taken r (line ∷ lines) =

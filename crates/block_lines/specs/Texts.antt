@@ -27,8 +27,8 @@ ghes_line r report =
     line_text (asks.Report (Block r.boot (r.began + report.begun / MICROSECONDS) report.source
     report.begun (block_bytes report.severity (r.errors ++ section_errors report.section))))
 
--- the comments: of a report that is cut, of a line that can't be read or is in no report, and of a section
--- that no block gets
+-- The comments: for a report that is cut, for a line that can't be read or is in no report, and for a section that no
+-- block gets.
 abbrev pub cut_report_line : ℕ → ℕ → List ℕ
 cut_report_line source number =
     codes "# partial source=" ++ decimal source ++ codes " number=" ++ decimal number
@@ -53,8 +53,8 @@ abbrev pub table_text : List ℕ → ℕ → List ℕ
 table_text sources source =
     if is_listed sources source then [] else hest_line (kept_sources sources ++ source ∷ []) ++ 10 ∷ []
 
--- the text of a block of any source, after its table if one is due; its number is its time stamp, and its time
--- is the boot's and the time stamp together
+-- the text of a block of any source, after its table if one is due; the block's number is its time stamp, and its
+-- time is the boot's second plus the time stamp
 abbrev pub source_block_text : Reporting → ℕ → ℕ → List ℕ → List ℕ
 source_block_text r source number block =
     table_text r.sources source
@@ -79,13 +79,13 @@ report_text r report = block_text r report ++ cut_text report
 abbrev pub end_text : Reporting → List ℕ
 end_text r = option_map_or (report_text r) r.work []
 
--- The text after all lines. The log may have less of the open report than the kernel printed, so no block is
--- made of it.
+-- The text after all lines. The log may have less of the open report than the kernel printed, so the report gets no
+-- block.
 abbrev pub rest_text : Reporting → List ℕ
 rest_text r =
     option_map_or (λ (report : OpenReport). cut_report_line report.source report.begun ++ 10 ∷ []) r.work []
 
--- the text of the line with this number: of the report that it ends, and about the line itself
+-- the text printed at the line with this number: of the report that the line ends, and about the line itself
 abbrev pub blocks_text_at : Reporting → ℕ → ReportLogLine → List ℕ
 blocks_text_at r number line =
     (if is_end r line then end_text r else []) ++ remark_text number (line_remark (ended_at r line) line)

@@ -27,7 +27,7 @@ use std::marker::Model;
 /// Comments are also printed for sections about anything but memory, for every error of a report
 /// after its twelfth, for a report that is cut, and for each line with a report's number and prefix
 /// that is in no report, or that the kernel itself didn't print. Only its own lines count. No line is
-/// refused.
+/// rejected.
 #[derive(Drop)]
 pub struct BlockFilter {
     reports: Reports,

@@ -69,8 +69,8 @@ impl Reports {
         }
     }
 
-    // Takes a line, and appends the text of the report that it ends and what is printed about the
-    // line.
+    // Takes a line, and appends the text of the report that the line ends, and the text about the
+    // line itself.
     pub(crate) fn take_line(
         &mut self,
         alloc: Global,
