@@ -19,7 +19,7 @@ use ras_script::LineRefused;
 use std::alloc::Global;
 use std::marker::Model;
 
-/// The source of all blocks that are made of trace events: the number by which ACPI says that there
+/// The source of all blocks that are made of trace events. ACPI uses this number to say that there
 /// is no source, so no source of the firmware has it.
 pub const TRACE_SOURCE: u16 = 65_535;
 
@@ -27,7 +27,7 @@ pub const TRACE_SOURCE: u16 = 65_535;
 ///
 /// A line of a trace that has the event of a hardware error becomes a line `ghes` at once, after a
 /// line `hest` if the last table lacks `TRACE_SOURCE`. If it can't be read, or has no time stamp, it
-/// becomes a comment. Every other line is taken as a line of the log. No line is refused.
+/// becomes a comment. Every other line is taken as a line of the log. No line is rejected.
 #[derive(Drop)]
 pub struct ReportFilter {
     log: BlockFilter,
@@ -143,7 +143,7 @@ impl ReportFilter {
 }
 
 // Returns the block of a section's event, if the section's bytes can be read, and a run can read
-// the block: of a section that its own type refuses a run ends.
+// the block: a run ends at a block whose section is invalid for its type.
 fn section_block(
     alloc: Global,
     found: FoundSection,

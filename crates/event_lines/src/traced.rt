@@ -24,7 +24,7 @@ pub(crate) struct FoundEvent {
     pub(crate) event: AerEvent,
 }
 
-/// An event that has a section whole, besides the section's bytes, and the time stamp of its line.
+/// An event with a whole section, without the section's bytes, and the time stamp of its line.
 #[derive(Clone, Copy, Debug, PartialEq, Eq)]
 pub(crate) struct FoundSection {
     pub(crate) stamp: u64,
@@ -71,7 +71,7 @@ pub(crate) fn line_event(line: &[u8]) -> LineEvent
     }
 }
 
-// Returns the event behind the first clock of a text.
+// Returns the event after the first clock of a text.
 fn clock_event(text: &[u8]) -> LineEvent
     ensures { result ≡ clock_event text.now }
 {
@@ -81,7 +81,7 @@ fn clock_event(text: &[u8]) -> LineEvent
     }
 }
 
-// Returns whether a text has an event's name behind a clock, wherever both stand.
+// Returns whether a text has an event's name after a clock, wherever both are.
 fn has_event(text: &[u8]) -> bool
     ensures { result ≡ has_event text.now }
 {
@@ -91,8 +91,8 @@ fn has_event(text: &[u8]) -> bool
     has_name(is_firmware(text), text)
 }
 
-// Returns whether a text has the name of the firmware's detail behind its last ` (mc:`, or no
-// ` (mc:`.
+// Returns whether a text has the name of the firmware's detail after its last ` (mc:`, or no `
+// (mc:`.
 fn is_firmware(text: &[u8]) -> bool
     ensures { result ≡ is_firmware text.now }
 {
@@ -127,8 +127,8 @@ fn shows_clock(word: &[u8]) -> bool
     }
 }
 
-// Returns whether a word is an event's name and its colon; `mc_event:` only if the firmware's driver
-// made that event.
+// Returns whether a word is an event's name and its colon; `mc_event:` only if the firmware's
+// driver made the event.
 fn is_event_name(by_firmware: bool, word: &[u8]) -> bool
     ensures { result ≡ is_event_name by_firmware word.now }
 {
@@ -139,7 +139,7 @@ fn is_event_name(by_firmware: bool, word: &[u8]) -> bool
         || by_firmware && name == b"mc_event:".as_slice()
 }
 
-// Returns the place of the first colon before a space, if the word before the colon is what a
+// Returns the index of the first colon before a space, if the word before the colon is what a
 // tracer's clock shows.
 fn clock_place(line: &[u8]) -> Option<usize>
     ensures place { result ≡ clock_place line.now }
@@ -153,7 +153,7 @@ fn clock_place(line: &[u8]) -> Option<usize>
     }
 }
 
-// Returns the time stamp that a clock with its colon at this place shows.
+// Returns the time stamp that a clock with its colon at this index shows.
 fn stamp_at(place: usize, line: &[u8]) -> Option<u64>
     requires { place + 2 ≤ length line.now }
     ensures { result ≡ stamp_at place line.now }
@@ -161,7 +161,7 @@ fn stamp_at(place: usize, line: &[u8]) -> Option<u64>
     stamp_of(last_word(&line[..place + 1]))
 }
 
-// Returns the text behind a clock with its colon at this place, from the event's name on.
+// Returns the text after a clock with its colon at this index, from the event's name on.
 fn named_text(place: usize, line: &[u8]) -> &[u8]
     requires { place + 2 ≤ length line.now }
     ensures { result.now ≡ named_text place line.now }
@@ -173,7 +173,7 @@ fn named_text(place: usize, line: &[u8]) -> &[u8]
     }
 }
 
-// Returns which event a text behind a clock has, from the event's name on.
+// Returns which event a text after a clock has, from the event's name on.
 fn event_behind(stamp: Option<u64>, text: &[u8]) -> LineEvent
     ensures { result ≡ event_behind stamp text.now }
 {
@@ -205,8 +205,8 @@ fn controller_event(stamp: Option<u64>, text: &[u8]) -> LineEvent
     }
 }
 
-// Returns which event has this in its parentheses, if the driver's detail doesn't begin with the
-// name of the firmware's.
+// Returns which event has this text in its parentheses, if the driver's detail doesn't begin with
+// the name of the firmware's detail.
 fn other_event(controller: &[u8]) -> LineEvent
     ensures { result ≡ other_event controller.now }
 {
