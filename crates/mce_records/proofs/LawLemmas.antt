@@ -1,4 +1,4 @@
--- A record tells what the trace and the log tell of the same registers.
+-- A record gives what the trace and the log give for the same registers.
 use Rattle.std.proofs.Common.{◌≡◌, ℕ, ◌==◌, Bool, true, false, [], refl, sym, ap, if◌then◌else◌}
 use Rattle.mca_status.specs.Registers.{valid}
 use Rattle.ras_facts.specs.Facts.{bank_name, status_in}
@@ -12,7 +12,7 @@ use Rattle.bank_lines.specs.declared.event.TraceEvent.{TraceEvent}
 use Rattle.bank_lines.specs.declared.found.Finding.TheVariants.{Firmware, Foreign, Nothing, Whole}
 use Rattle.mce_records.specs.Records.{record_found, saved_report}
 
--- what is found of the first report alike
+-- the finding of the first report with a key
 of_found : (r : BankReport) → found_of (named_first r) ≡ named_found [] (found_of r)
 of_found r = by (r.tsc == 0) refl
   where

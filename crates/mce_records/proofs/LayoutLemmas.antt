@@ -1,4 +1,4 @@
--- What the kernel lays out is read.
+-- The bytes that the kernel saves are read.
 use Rattle.std.proofs.Common.{◌≡◌, ℕ, ◌<◌, ◌^◌, true, [], length, refl, ap, ◌∙◌, arith, nat_le, Some}
 use Rattle.std.proofs.lemmas.Bool.Decides.{nat_tests}
 use Rattle.ras_base.specs.LittleEndian.{number_at, u32_bytes, u64_bytes}
@@ -6,7 +6,7 @@ use Rattle.ras_base.specs.Steps.LittleEndianLemmas.{number_at-u32_bytes, number_
 use Rattle.ras_klog.specs.Reading.{provided}
 use Rattle.mce_records.specs.Layout.{IsSaved, Saved, Version, event_by_members, is_length, saved_bytes, saved_event, to_ipid, to_kflags, to_mcgcap, to_microcode, to_ppin}
 
--- its length is that of a record
+-- their number is the length of a record
 abbrev size_of : Version → ℕ
 size_of to_mcgcap = 88
 size_of to_ipid = 104

@@ -1,4 +1,4 @@
--- What a call prints of a record, and how far it reads.
+-- What a call prints for a record, and how far it reads.
 use Rattle.std.proofs.Common.{◌≡◌, ℕ, List, [], ◌++◌, Option, None, Some, Err, Ok, Result, refl, sym, append-nil}
 use Rattle.board_core.specs.Cause.{print_call}
 use Rattle.board_core.specs.Doing.{Does, Seen, broke, went_well}

@@ -1,4 +1,4 @@
--- The bytes of an input in the front of a buffer, read by read.
+-- The front of a buffer contains an input's first bytes, read after read.
 use Rattle.std.proofs.Common.{◌≡◌, ℕ, ◌+◌, ◌-◌, ◌≤◌, List, [], ◌++◌, length, take, drop, Option, None, Some, Ok, Err, IfSome, IsSomeAnd, sym, ap, subst, ◌∙◌, arith, inl, inr, length-append, length-drop, length-take}
 use Rattle.std.specs.Prelude.{◌⊎◌}
 use Rattle.std.proofs.lemmas.List.{drop-drop, drop_all, length-take-le, take-append-drop, take_all}
@@ -19,7 +19,7 @@ use lib.Seq.{take-add}
 
 -- ---- one read more
 
--- a read behind the bytes that are held
+-- a read after the bytes that the buffer contains adds to them
 holds_more : (n k : ℕ) (old buffer input : List ℕ) (left new : Option (List ℕ)) → Holds n old input left → n + k ≤ 129 → take n buffer ≡ take n old → Takes k (drop n buffer) left new → Holds (n + k) buffer input new
 holds_more n k old buffer input left new holds room front takes =
     let rest : Takes k (drop n buffer) (Some (drop n input)) new = subst (λ (l : Option (List ℕ)). Takes k (drop n buffer) l new) holds.left takes in
@@ -40,7 +40,7 @@ pub long_on : (n m : ℕ) (old piece : List ℕ) → n ≤ length old → length
 long_on n m old piece inside size all =
     omega (arith, size, all, length-append (take n old) (piece ++ post_of n m old), length-append piece (post_of n m old), length-take-le n old inside, length-drop m (drop n old), length-drop n old)
 
--- a read of nothing: all is held
+-- a read of no bytes means that the buffer contains the whole input
 pub reads_all : (n k m : ℕ) (old piece : List ℕ) (first left new : Option (List ℕ)) → HoldsOf n old first left → n ≤ length old → k ≡ 0 → Takes k piece left new
     → ReadsFront (Ok n) (put_mid n m old piece) first new
 reads_all n k m old piece None left new holds inside none takes = tt

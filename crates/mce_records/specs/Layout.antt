@@ -1,4 +1,4 @@
--- The kernel's `struct mce` as bytes (arch/x86/include/uapi/asm/mce.h), which it saves of a machine check
+-- The bytes of the kernel's `struct mce` (arch/x86/include/uapi/asm/mce.h), which the kernel saves of a machine check
 -- that makes it panic.
 use Rattle.std.specs.Prelude.{ℕ, ◌^◌, ◌<◌, ◌==◌, Bool, List, [], ◌∷◌, ◌++◌, length, nat_le, slice_index, Option, Some}
 use Rattle.std.specs.List.{AllByRecursion, list_any}
@@ -8,7 +8,7 @@ use Rattle.bank_lines.specs.declared.event.TraceEvent.{TraceEvent}
 
 -- ---- what the kernel writes
 
--- what the kernel saves: what is read, and what is passed over
+-- all that the kernel saves: the numbers that are read (`event`), and those that are skipped
 pub record Saved : Type 0 where
   pub event : TraceEvent
   pub ip : ℕ
@@ -28,7 +28,7 @@ pub record Saved : Type 0 where
   pub gap : ℕ
   pub kflags : ℕ
 
--- The struct grew at its end: a kernel's ends with one of these members.
+-- The struct has grown at its end: in each kernel it ends with one of these members.
 pub data Version : Type 0 where
   to_mcgcap : Version
   to_ipid : Version
@@ -36,7 +36,7 @@ pub data Version : Type 0 where
   to_microcode : Version
   to_kflags : Version
 
--- the members that not all kernels have; a gap of four bytes follows the microcode's revision
+-- the members that only some kernels have; a gap of four bytes follows the microcode's revision
 abbrev pub later_members : Version → Saved → List ℕ
 later_members to_mcgcap s = []
 later_members to_ipid s = u64_bytes s.synd ++ u64_bytes s.ipid
@@ -47,9 +47,9 @@ later_members to_kflags s =
     u64_bytes s.synd ++ (u64_bytes s.ipid ++ (u64_bytes s.ppin ++ (u32_bytes s.microcode ++ (u32_bytes s.gap
     ++ u64_bytes s.kflags))))
 
--- The members in their order: __u64 status, misc, addr, mcgstatus, ip, tsc, time; __u8 cpuvendor,
--- inject_flags, severity, pad; __u32 cpuid; __u8 cs, bank, cpu, finished; __u32 extcpu, socketid, apicid;
--- __u64 mcgcap; and those that came later.
+-- The members in their order: __u64 status, misc, addr, mcgstatus, ip, tsc, time; __u8 cpuvendor, inject_flags,
+-- severity, pad; __u32 cpuid; __u8 cs, bank, cpu, finished; __u32 extcpu, socketid, apicid; __u64 mcgcap; and the
+-- later members.
 abbrev pub saved_bytes : Version → Saved → List ℕ
 saved_bytes version s =
     u64_bytes s.event.status ++ (u64_bytes s.event.misc ++ (u64_bytes s.event.addr
@@ -59,7 +59,7 @@ saved_bytes version s =
     ∷ (u32_bytes s.event.cpu ++ (u32_bytes s.socket ++ (u32_bytes s.apic
     ++ (u64_bytes s.event.cap ++ later_members version s)))))))))))))
 
--- The numbers that are read fit their members, and the CPU's number that of a report.
+-- The numbers that are read fit their members, and the CPU's number fits a report.
 pub record IsSaved (s : Saved) : Type 0 where
   pub cpu : s.event.cpu < 2 ^ 16
   pub numbers : AllByRecursion (λ n. n < 2 ^ 64) (
@@ -68,11 +68,11 @@ pub record IsSaved (s : Saved) : Type 0 where
 
 -- ---- what is read
 
--- how many bytes a record has, of one version of the struct or another
+-- whether a record of some version of the struct has this length
 abbrev pub is_length : ℕ → Bool
 is_length n = list_any (λ bytes. bytes == n) (88 ∷ 104 ∷ 112 ∷ 120 ∷ 128 ∷ [])
 
--- what the members tell: each is read at its place and in its width
+-- the event of a record: each member is read at its offset and in its width
 abbrev pub event_by_members : List ℕ → TraceEvent
 event_by_members bytes = record {
   vendor = slice_index bytes 56;
@@ -87,7 +87,7 @@ event_by_members bytes = record {
   misc = number_at 8 8 bytes;
 }
 
--- the same of bytes that are a record, of a CPU whose number a report has room for
+-- the event of a record, if the bytes have the length of a record, and the CPU's number fits a report
 abbrev pub saved_event : List ℕ → Option TraceEvent
 saved_event bytes =
     provided (is_length (length bytes))

@@ -1,4 +1,4 @@
--- The line that is printed of a record.
+-- The line that is printed for a record.
 use Rattle.std.specs.Prelude.{ℕ, ◌==◌, List, [], ◌∷◌, ◌++◌, codes, decimal, length, take, if◌then◌else◌}
 use Rattle.std.specs.Option.{option_map_or}
 use Rattle.ras_facts.specs.declared.bank.BankReport.{BankReport}
@@ -13,7 +13,8 @@ use Rattle.bank_lines.specs.declared.found.Finding.TheVariants.{Foreign, Nothing
 use Rattle.mce_records.specs.Layout.{saved_event}
 use Rattle.mce_records.specs.declared.printing.TheConstants.{MOST_BYTES}
 
--- Its report. An error without a counter gets that of the first one alike in a log or a trace.
+-- The report of a record. An error without a counter gets the counter that a log or a trace gives the first error
+-- with its key.
 abbrev pub saved_report : ℕ → TraceEvent → BankReport
 saved_report boot event = named_first (event_report boot event)
 
@@ -24,11 +25,11 @@ record_found boot event =
 
 -- ---- comments
 
--- of bytes that are no record
+-- the comment of bytes that aren't a record
 abbrev pub unread_record : ℕ → List ℕ
 unread_record bytes = codes "# unread mce bytes=" ++ decimal bytes
 
--- of a record of a bank that holds no error
+-- the comment of a record whose bank holds no error
 abbrev pub empty_record : TraceEvent → List ℕ
 empty_record event = codes "# no error cpu=" ++ decimal event.cpu ++ codes " bank=" ++ decimal event.bank
 
@@ -41,11 +42,11 @@ finding_text event found = found_text 0 found
 abbrev pub saved_text : ℕ → TraceEvent → List ℕ
 saved_text boot event = finding_text event (record_found boot event)
 
--- of these bytes
+-- the text printed for these bytes
 abbrev pub record_text : ℕ → List ℕ → List ℕ
 record_text boot bytes =
     option_map_or (saved_text boot) (saved_event bytes) (script_of (unread_record (length bytes) ∷ []))
 
--- Of an input, which is read up to one byte behind the longest record.
+-- the text printed for an input, which is read to at most one byte past the longest record
 abbrev pub record_output : ℕ → List ℕ → List ℕ
 record_output boot input = record_text boot (take MOST_BYTES input)

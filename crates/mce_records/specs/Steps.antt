@@ -1,2 +1,2 @@
--- What only proofs use: no public clause comes to it.
+-- What only proofs use: no public clause refers to it.
 pub mod Reading

@@ -1,4 +1,4 @@
-//! What Linux saves is read, and named as its trace and its log name it.
+//! A law: the records that Linux saves are read, and get the names that Linux's trace and log give.
 
 ghost use Rattle.std.specs.Prelude.{◌≡◌, ℕ, [], ◌++◌, List, replicate, true, Some};
 ghost use Rattle.bank_lines.specs.Counts.{named_found};
@@ -13,10 +13,9 @@ ghost use Rattle.mce_records.specs.Records.{record_found, saved_report};
 
 use bank_lines::printed_events_are_read;
 
-/// What the kernel saves of a machine check is read, in each version of the struct. Its record tells
-/// what the event tells that the kernel traces of the same registers, and its report has the name
-/// that the report of a log has, if each is the first one alike. Its clauses are what the function is
-/// for.
+/// Each version of the struct in which the kernel saves a machine check is read. The record gives
+/// the event that the kernel traces with the same registers. Its report has the name that a log's
+/// report has, if each is the first with its key. The clauses are the point of this function.
 pub fn records_are_read()
     ensures bytes { (version : Version) (s : Saved) → IsSaved s
         → saved_event (saved_bytes version s) ≡ Some s.event }

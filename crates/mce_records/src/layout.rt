@@ -1,4 +1,4 @@
-//! What the bytes of a record tell.
+//! Reads the bytes of a record.
 
 ghost use Rattle.std.specs.Prelude.{◌≡◌};
 ghost use Rattle.mce_records.specs.Layout.{is_length, saved_event};
@@ -6,9 +6,9 @@ ghost use Rattle.mce_records.specs.Layout.{is_length, saved_event};
 use bank_lines::TraceEvent;
 use ras_base::little_endian::{u32_at, u64_at};
 
-/// Returns what the bytes of the kernel's `struct mce` tell (arch/x86/include/uapi/asm/mce.h). None
-/// if there are not as many of them as the struct of some kernel has, 88, 104, 112, 120 or 128, or
-/// if the CPU's number is above 65,535. It takes no memory.
+/// Returns the event that the kernel saved as `struct mce` (arch/x86/include/uapi/asm/mce.h).
+/// Returns `None` if no kernel's struct has this length (88, 104, 112, 120 or 128 bytes), or if the
+/// CPU's number is above 65,535. Allocates nothing.
 pub fn saved_event(bytes: &[u8]) -> Option<TraceEvent>
     ensures { result ≡ saved_event bytes.now }
 {
@@ -33,7 +33,7 @@ pub fn saved_event(bytes: &[u8]) -> Option<TraceEvent>
     })
 }
 
-// Whether the struct of some kernel has so many bytes.
+// Returns whether the struct of some kernel has this length.
 fn is_length(length: usize) -> bool
     ensures { result ≡ is_length length }
 {

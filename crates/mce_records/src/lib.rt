@@ -1,5 +1,5 @@
-//! Lines of script of the records of machine checks that Linux saves when it panics: `struct mce`,
-//! as it stands in the firmware's record store and in the files of systemd-pstore.
+//! Converts the records of machine checks that Linux saves when it panics to lines of script:
+//! `struct mce`, as the firmware's record store and the files of systemd-pstore contain it.
 #![tactic(auto)]
 
 mod laws;

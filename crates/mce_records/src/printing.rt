@@ -1,4 +1,4 @@
-//! The record that a source gives, as a line of script.
+//! Prints the record from a source as a line of script.
 
 ghost use Rattle.std.specs.Prelude.{◌≤◌, IfOk, IfSome, IsSomeAnd};
 ghost use Rattle.board_core.specs.Cause.{HasCause};
@@ -17,11 +17,11 @@ use ras_base::NoMemory;
 use ras_exit::{Exit, print};
 use std::alloc::Global;
 
-/// How many bytes of an input are read at most: one more than the longest record has.
+/// The most bytes that are read from an input: one more than the longest record has.
 pub const MOST_BYTES: usize = 129;
 
-/// Prints the line of the record that a source gives, of an error in this boot, and returns how that
-/// ended. It reads the source to its end, or one byte behind the longest record.
+/// Prints the line of the record from a source, for an error in this boot, and returns how that
+/// ended. Reads the source to its end, but at most one byte more than the longest record has.
 pub fn print_record<S: Source, B: Board>(
     alloc: Global,
     boot: u64,
@@ -33,7 +33,7 @@ pub fn print_record<S: Source, B: Board>(
         (B.seen board.old).told (B.seen board.new).told) }
     ensures takes { IfSome (S.left source.old)
         (λ input. IsSomeAnd (S.left source.new) (TakesRecord result input)) }
-    // Also if a stop before might have left something else than the board tells.
+    // This holds even if a crash before might have left something other than the model says.
     ensures stops { StopsPrinting boot (S.left source.old) (B.seen board.old).clock
         (B.seen board.new).clock }
     ensures exits { IsRecordExit result }
@@ -49,7 +49,8 @@ pub fn print_record<S: Source, B: Board>(
     }
 }
 
-// Reads into the front of a buffer, until it is full or the source ends, and tells how many bytes.
+// Reads into the front of a buffer until it is full or the source ends, and returns the number of
+// bytes read.
 fn read_front<S: Source>(source: &mut S, buffer: &mut [u8; MOST_BYTES]) -> Result<usize, Failed>
     ensures within { IfOk result (λ count. count ≤ MOST_BYTES) }
     ensures reads { ReadsFront result buffer.new (S.left source.old) (S.left source.new) }

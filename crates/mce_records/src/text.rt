@@ -1,4 +1,4 @@
-//! The line that is printed of a record.
+//! The line that is printed for a record.
 
 ghost use Rattle.std.specs.Prelude.{◌≡◌, ◌++◌, OnOk};
 ghost use Rattle.ras_script.specs.SplittingLaws.{script_of};
@@ -9,12 +9,12 @@ use crate::layout::saved_event;
 use bank_lines::{Finding, TraceEvent, event_report, named_first, push_found};
 use ras_base::{NoMemory, push_number};
 
-/// Appends the line of a record, of an error in this boot: a line `bank` of an Intel processor's, a
-/// comment of any other, and of bytes that are no record.
+/// Appends the line of a record, for an error in this boot: a line `bank` for an Intel processor,
+/// and a comment for any other record or for bytes that aren't a record.
 ///
 /// # Errors
 ///
-/// `NoMemory` if memory runs out.
+/// `NoMemory`: only if memory runs out.
 pub fn push_record(text: &mut Vec<u8>, boot: u64, bytes: &[u8]) -> Result<(), NoMemory>
     ensures { OnOk result (text.new.items ≡ text.old.items ++ record_text boot bytes.now) }
 {
@@ -24,7 +24,7 @@ pub fn push_record(text: &mut Vec<u8>, boot: u64, bytes: &[u8]) -> Result<(), No
     }
 }
 
-// Adds the line of an event.
+// Appends the line of an event.
 fn push_event(text: &mut Vec<u8>, boot: u64, event: TraceEvent) -> Result<(), NoMemory>
     ensures { OnOk result (text.new.items ≡ text.old.items ++ saved_text boot event) }
 {
@@ -34,7 +34,7 @@ fn push_event(text: &mut Vec<u8>, boot: u64, event: TraceEvent) -> Result<(), No
     }
 }
 
-// What is found of an event: a report gets a counter if it has none.
+// Returns the finding of an event: a report gets a counter if it has none.
 fn record_found(boot: u64, event: TraceEvent) -> Finding
     ensures { result ≡ record_found boot event }
 {
@@ -48,7 +48,7 @@ fn record_found(boot: u64, event: TraceEvent) -> Finding
     Finding::of_report(named_first(event_report(boot, event)))
 }
 
-// Adds the comment of a record of a bank that holds no error.
+// Appends the comment of a record whose bank holds no error.
 fn push_empty(text: &mut Vec<u8>, event: TraceEvent) -> Result<(), NoMemory>
     ensures { OnOk result (text.new.items ≡ text.old.items ++ script_of (empty_record event ∷ [])) }
 {
@@ -60,7 +60,7 @@ fn push_empty(text: &mut Vec<u8>, event: TraceEvent) -> Result<(), NoMemory>
     Ok(())
 }
 
-// Adds the comment of so many bytes that are no record.
+// Appends the comment of bytes that aren't a record, with their number.
 fn push_unread(text: &mut Vec<u8>, bytes: usize) -> Result<(), NoMemory>
     ensures { OnOk result (text.new.items ≡ text.old.items ++ script_of (unread_record bytes ∷ [])) }
 {

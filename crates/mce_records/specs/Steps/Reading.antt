@@ -1,18 +1,18 @@
--- The bytes that were read of an input.
+-- The bytes that were read from an input.
 use Rattle.std.specs.Prelude.{◌≡◌, ℕ, ◌≤◌, ◌⊎◌, List, drop, length, take, Option, None, Some, Result, Ok, Err, ⊤}
 use Rattle.board_core.specs.declared.source.Failed.{Failed}
 use Rattle.ras_exit.specs.declared.exit.Exit.{Exit}
 use Rattle.ras_exit.specs.declared.exit.Exit.TheVariants.{Done, PrintFault, NoMemory}
 use Rattle.mce_records.specs.declared.printing.TheConstants.{MOST_BYTES}
 
--- the exits of a call that prints
+-- how a call that prints may end
 abbrev pub IsPrintExit : Exit → Type 0
 IsPrintExit Done = ⊤
 IsPrintExit PrintFault = ⊤
 IsPrintExit NoMemory = ⊤
 IsPrintExit exit = ⊥
 
--- The first n bytes of an input stand in the front of a buffer.
+-- The front of a buffer contains the first n bytes of an input.
 pub record Holds (n : ℕ) (buffer input : List ℕ) (rest : Option (List ℕ)) : Type 0 where
   pub few : n ≤ MOST_BYTES
   pub within : n ≤ length input
@@ -23,7 +23,7 @@ abbrev pub HoldsOf : ℕ → List ℕ → Option (List ℕ) → Option (List ℕ
 HoldsOf n buffer None left = ⊤
 HoldsOf n buffer (Some input) left = Holds n buffer input left
 
--- All of it, or as many bytes as there is room for; or the source failed.
+-- The front contains the whole input, or as many bytes as fit; or the source failed.
 abbrev pub ReadsFront : Result ℕ Failed → List ℕ → Option (List ℕ) → Option (List ℕ) → Type 0
 ReadsFront result buffer None left = ⊤
 ReadsFront (Ok n) buffer (Some input) left =

@@ -2,7 +2,7 @@ use Rattle.std.proofs.Common.{◌≡◌, ◌-◌, ◌≤◌, length}
 use Rattle.mce_records.specs.Steps.Reading.{HoldsOf}
 use Rattle.mce_records.proofs.printing.read_front.Given as goal
 
--- the first bytes of the source stand in the buffer's front
+-- the buffer's front contains the source's first bytes
 abbrev pub invariant-loop-count : goal.invariant-loop-count
 invariant-loop-count g l = record {
   room : l.count ≤ 129;
