@@ -5,7 +5,7 @@ use Rattle.line_filters.specs.declared.feeding.TheConstants.{MOST_AT_ONCE}
 use Rattle.line_filters.specs.Steps.Feeding.{FedBoth}
 use Rattle.line_filters.proofs.feeding.gather_inputs.Given as goal
 
--- The first inputs were taken, and the others are to come.
+-- The first inputs were taken, and the other inputs are to come.
 abbrev pub invariant-loop-number : goal.invariant-loop-number
 invariant-loop-number g l = record {
   fed : (script : List ℕ) (t : Told) → g.S.Source.left l.fn.source ≡ Some script → (g.B.Board.seen l.fn.board).told ≡ Some t
