@@ -33,9 +33,9 @@ pub record Leaves (Tells Stops : Type 0) (before now : Option Told) (old new : C
   pub stops : Stops
   pub device : LeavesDevice before now old new
 
--- What a command does, by what was left of its source and what the board's model said, before and now, and
--- what a crash leaves: only a beginning of its text is new. Runs have clauses of their own. Unrecognized
--- arguments print the usage line.
+-- What a command does, given what was left of its source and what the board's model said, before and now; and what a
+-- crash leaves: only a beginning of the command's text is new. Runs have separate clauses. Unrecognized arguments
+-- print the usage line.
 abbrev pub ByTask : Exit → Option Task
     → Option (List ℕ) → Option (List ℕ) → Option Told → Option Told → Clock → Clock → Type 0
 ByTask exit None script left before now old new =

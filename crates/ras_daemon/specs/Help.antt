@@ -59,11 +59,11 @@ exit_words TooLong = codes "the input or a journal file has more than 67,108,864
 abbrev pub status_column : ℕ → List ℕ
 status_column number = (if nat_lt number 10 then 32 ∷ decimal number else decimal number) ++ 32 ∷ []
 
--- the lines of the help that begin so
+-- the lines of the help that begin with this text
 unfoldable pub help_lines : List ℕ → List (List ℕ)
 help_lines front = filter (λ line. bytes_eq (take (length front) line) front) (lines_of help_text)
 
--- One line of the help begins so, and then has these words.
+-- Exactly one line of the help begins with this text, and these words follow the text.
 pub record HasOneLine (front words : List ℕ) : Type 0 where
   pub one : length (help_lines front) ≡ 1
   pub same : help_lines (front ++ words) ≡ help_lines front

@@ -1,4 +1,4 @@
--- What the arguments of the program ask for.
+-- What the program's arguments ask for.
 use Rattle.std.specs.Prelude.{ℕ, ◌-◌, ◌^◌, ◌==◌, ◌&&◌, ◌≤◌, List, [], ◌∷◌, codes, Option, None, Some, if◌then◌else◌, ⊤}
 use Rattle.std.specs.Option.{option_and_then, option_map}
 use Rattle.std.specs.Str.{bytes_eq}
@@ -81,8 +81,8 @@ IsTask (Load n) = n ≤ MOST_LINES
 IsTask (GhesLines boot began) = began ≤ LAST_SECOND
 IsTask task = ⊤
 
--- What a command does to its source: `Takes` if the command reads the source's lines, `Record` if it reads a
--- saved record, and `Same`, which says that the source is as it was, if it doesn't read the source.
+-- What a command does to its source: `Takes` if the command reads the source's lines, `Record` if it reads a saved
+-- record, and `Same`, which says that the source is unchanged, if it doesn't read the source.
 abbrev pub ReadsBy : Option Task → Type 0 → Type 0 → Type 0 → Type 0
 ReadsBy (Some Run) Takes Record Same = Takes
 ReadsBy (Some Pcie) Takes Record Same = Takes

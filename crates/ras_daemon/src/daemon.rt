@@ -1,4 +1,4 @@
-//! The program's call: runs one command.
+//! Runs one command: the program's call.
 
 ghost use Rattle.std.specs.Prelude.{◌≡◌, ◌≢◌, ◌⊎◌, ℕ, List, Option, Some, length};
 ghost use Rattle.board_core.specs.Cause.{Faults};
@@ -64,8 +64,8 @@ pub fn rasd<S: Source, B: Board>(
         (Refuses result (source.new ≡ source.old) (B.seen board.old).clock (B.seen board.new).clock)
         (task_of words.now) (B.seen board.old).told (B.seen board.new).told }
 
-    // What every other command prints, and unrecognized arguments too, by what the source and the
-    // files contain.
+    // What every other command prints, and unrecognized arguments too, given what the source and
+    // the files contain.
     ensures commands { ByTask result (task_of words.now) (S.left source.old) (S.left source.new)
         (B.seen board.old).told (B.seen board.new).told (B.seen board.old).clock
         (B.seen board.new).clock }
@@ -117,15 +117,15 @@ pub fn rasd<S: Source, B: Board>(
     }
 }
 
-/// What else follows of a run from the promises of `rasd`.
+/// Laws: what else follows from the promises of `rasd` for a run.
 pub fn promise_laws<S: Source, B: Board>()
     // If a run ends without a fault, its done lines number its events.
     ensures counted { (exit : Exit) (first last : S) (start : Start) (script left : List ℕ)
         (before now : Told) → Ran exit (last ≡ first) start script before left now
         → OnAnswer exit (done_count (run_output start script) ≡ length (events_of start script)) }
 
-    // A run's disk calls are the disk calls of its acts, or a beginning of them. If the run ends
-    // without a fault, its accesses to the device are those of its acts.
+    // A run's disk calls are the disk calls of its acts, or the first few of them. If the run ends
+    // without a fault, its accesses to the device are the accesses of its acts.
     ensures calls { (exit : Exit) (first last : S) (start : Start) (script left : List ℕ)
         (before now : Told) → Ran exit (last ≡ first) start script before left now
         → Makes (IsBeginning (AreRunCalls start script before)) before now }
@@ -146,7 +146,7 @@ pub fn promise_laws<S: Source, B: Board>()
         → Always (B.seen old).clock (B.seen old).clock.now HasFewLinks
         → Always (B.seen new).clock (B.seen old).clock.now HasFewLinks }
 
-    // If no count of faults rose, a run that refuses no line is done, unless memory ran out.
+    // If no count of faults rose and memory didn't run out, a run that rejects no line succeeds.
     ensures complete { (exit : Exit) (first last : S) (start : Start) (script left : List ℕ)
         (before now : Told) (count after : ℕ) (faults then : Faults)
         → Ran exit (last ≡ first) start script before left now

@@ -65,7 +65,7 @@ pub fn version_line() -> &'static [u8]
     b"rasd 0.1.0\n"
 }
 
-/// What holds of the text of `--help`.
+/// Laws on the text of `--help`.
 pub fn help_laws()
     // Each command has one line, which begins with how the command is written.
     ensures commands { (task : Task) → HasOneLine (form_of task) [] }

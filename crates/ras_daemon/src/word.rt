@@ -147,7 +147,8 @@ pub fn task_of(words: &[RasWord]) -> Option<Task>
     }
 }
 
-// Returns the run over this number of made-up reports, from 1 to the most there may be.
+// Returns the task for a run over this number of made-up reports, at least 1 and at most
+// `MOST_LINES`.
 fn load_of(count: &[u8]) -> Option<Task>
     ensures task { result ≡ load_of count.now }
     ensures range { IfSome result IsTask }

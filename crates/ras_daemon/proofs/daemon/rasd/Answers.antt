@@ -1,4 +1,4 @@
--- Each clause of a run from what it did.
+-- Each clause of a run follows from what the run did.
 use Rattle.std.proofs.Common.{◌≡◌, Some, ap, refl, sym, ◌∙◌}
 use Rattle.ras_exit.specs.StopLine.{stop_line}
 use Rattle.ras_exit.specs.declared.exit.Exit.TheVariants.{Done, Usage}

@@ -1,4 +1,4 @@
--- What the help says, by computation.
+-- The help's lines, by computation.
 use Rattle.std.proofs.Common.{[], refl}
 use Rattle.std.specs.Fmt.{digits}
 use Rattle.listing_texts.specs.declared.listing.Listing.TheVariants.{Counts, Pages, Names, Modules, Metrics}
