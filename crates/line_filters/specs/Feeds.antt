@@ -42,6 +42,12 @@ pub record Feeds (feed : Feed) (result : Exit) (input left : List ℕ) (before n
   -- If the source failed, the texts of all lines that were read are printed.
   pub read : result ≡ SourceFault → printed ≡ texts_joined (feed.texts (inputs_of taken).whole)
 
+-- What is read of an input, of which these bytes are left: a beginning of it, and all of it if the call is done.
+pub record TakesInput (result : Exit) (input left : List ℕ) : Type 0 where
+  pub taken : List ℕ
+  pub splits : taken ++ left ≡ input
+  pub all : result ≡ Done → left ≡ []
+
 -- A crash during a call leaves, as its only new text, a beginning of what is printed for the input. Says nothing of a
 -- source or a board that isn't modelled.
 abbrev pub StopsFeeding : Feed → Option (List ℕ) → Option Told → Clock → Clock → Type 0

@@ -1,16 +1,16 @@
 //! Filters the lines of an input of any length, and prints their texts before the source is read
 //! again.
 
-ghost use Rattle.std.specs.Prelude.{◌≡◌, ◌↔◌, ◌+◌, ◌≤◌, ◌<◌, ℕ, List, [], true, length, Err, IfErr, IsTrue, OnErr, OnOk, Some};
+ghost use Rattle.std.specs.Prelude.{◌≡◌, ◌↔◌, ◌+◌, ◌≤◌, ◌<◌, ℕ, List, [], true, length, Err, IfErr, IfSome, IsSomeAnd, IsTrue, OnErr, OnOk, Some};
 ghost use Rattle.std.specs.List.{AllByRecursion};
 ghost use Rattle.board_core.specs.Device.{LeavesDevice};
 ghost use Rattle.board_core.specs.Told.{Told};
 ghost use Rattle.ras_exit.specs.Causes.{BoardCause, Causes, SourceCause};
 ghost use Rattle.ras_script.specs.declared.reader.TheConstants.{LONGEST_LINE};
-ghost use Rattle.line_filters.specs.Feeds.{Feeds, IsFeedExit, StopsFeeding};
+ghost use Rattle.line_filters.specs.Feeds.{Feeds, IsFeedExit, StopsFeeding, TakesInput};
 ghost use Rattle.line_filters.specs.Filters.{OfBoth};
 ghost use Rattle.line_filters.specs.Pieces.{AreShort, pieces_of, texts_joined};
-ghost use Rattle.line_filters.specs.Steps.Feeding.{FeedEndsBoth, IsFeedStop, TakesStep, is_fault, no_inputs};
+ghost use Rattle.line_filters.specs.Steps.Feeding.{FeedEndsBoth, IsFeedStop, LeavesEnd, TakesStep, is_fault, no_inputs};
 ghost use Rattle.line_filters.specs.Steps.Filtering.{PrintsWaiting, Says};
 
 use crate::{InputFilter, InputLine};
@@ -51,6 +51,8 @@ pub fn feed_lines<S: Source, B: Board, F: InputFilter>(
     requires { F.taken filter.old ≡ 0 }
     ensures feeds { OfBoth (Feeds (F.makes filter.old) result) (S.left source.old)
         (S.left source.new) (B.seen board.old).told (B.seen board.new).told }
+    ensures takes { IfSome (S.left source.old)
+        (λ input. IsSomeAnd (S.left source.new) (TakesInput result input)) }
     // This holds even if a crash before might have left something other than the model says.
     ensures stops { StopsFeeding (F.makes filter.old) (S.left source.old) (B.seen board.old).told
         (B.seen board.old).clock (B.seen board.new).clock }
@@ -83,6 +85,8 @@ fn take_inputs<S: Source, B: Board, F: InputFilter>(
         → (B.seen board.old).told ≡ Some t → FeedEndsBoth (F.makes filter.old) script t
         (B.seen board.old).clock result (F.makes filter.new) [] (S.left source.new)
         (B.seen board.new).told (B.seen board.new).clock }
+    ensures takes { LeavesEnd (S.left source.old) (S.left source.new) }
+    ensures all { OnOk result (IfSome (S.left source.new) (λ left. left ≡ [])) }
     ensures few { OnOk result (F.taken filter.new < MOST_INPUTS) }
     ensures exits { IfErr result IsFeedStop }
     ensures causes { Causes SourceCause result (S.faults source.old) (S.faults source.new)
@@ -125,6 +129,8 @@ fn gather_inputs<S: Source, B: Board, F: InputFilter>(
         (B.seen board.old).clock result (F.makes filter.new) waiting.new.items
         (S.left source.new) (B.seen board.new).told (B.seen board.new).clock }
     ensures short { length waiting.new.items ≤ MOST_AT_ONCE }
+    ensures takes { LeavesEnd (S.left source.old) (S.left source.new) }
+    ensures all { OnOk result (IfSome (S.left source.new) (λ left. left ≡ [])) }
     ensures few { OnOk result (F.taken filter.new < MOST_INPUTS) }
     ensures exits { IfErr result IsFeedStop }
     ensures causes { Causes SourceCause result (S.faults source.old) (S.faults source.new)

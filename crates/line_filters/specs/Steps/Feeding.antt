@@ -1,5 +1,5 @@
 -- The steps of a filter's call over an input of any length.
-use Rattle.std.specs.Prelude.{◌≡◌, ℕ, Bool, true, false, List, [], ◌++◌, IsSomeAnd, Option, Result, Ok, Err, ⊤}
+use Rattle.std.specs.Prelude.{◌≡◌, ℕ, Bool, true, false, List, [], ◌++◌, IfSome, IsSomeAnd, Option, Result, Ok, Err, ⊤}
 use Rattle.board_core.specs.Clock.{Adds, Clock, Leads}
 use Rattle.board_core.specs.Stop.{Appends, InOut}
 use Rattle.board_core.specs.Told.{Told, after_print}
@@ -18,6 +18,10 @@ use Rattle.line_filters.specs.Pieces.{texts_joined}
 -- a reader before the first input
 abbrev pub no_inputs : InputBuffer
 no_inputs = record { line = []; held = []; dropping = false }
+
+-- What a source has left is an end of what it had, if it is modelled.
+abbrev pub LeavesEnd : Option (List ℕ) → Option (List ℕ) → Type 0
+LeavesEnd first now = IfSome first (λ input. IsSomeAnd now (λ left. (taken : List ℕ) × (taken ++ left ≡ input)))
 
 -- What a step of the reader makes a filter do: it takes the input that ended, and appends this text; or no input
 -- ended.
