@@ -57,7 +57,7 @@ no_report boot line (inr is) = ap report_in is
 -- ---- names
 
 -- the finding of a line by itself is never `Full`
-never_full : (boot : ℕ) (line : List ℕ) → is_full (trace_found boot line) ≡ false
+pub never_full : (boot : ℕ) (line : List ℕ) → is_full (trace_found boot line) ≡ false
 never_full boot line = by (last_mark line)
   where
     held : (r : BankReport) (holds firmware : Bool) → is_full (if holds then (if firmware then Firmware r.cpu else Whole r) else Nothing) ≡ false

@@ -5,11 +5,12 @@ use Rattle.ras_klog.specs.Stages.{at_start, has_place, out_at, out_at_end, stage
 use Rattle.ras_klog.specs.declared.line.KlogLine.{KlogLine}
 use Rattle.ras_klog.specs.declared.line.KlogLine.TheVariants.{Start}
 use Rattle.ras_script.specs.declared.line.LineRefused.{LineRefused}
-use Rattle.bank_lines.specs.EdacReports.{told_lines}
+use Rattle.bank_lines.specs.EdacReports.{edac_after, marked_told, no_edac, told_lines}
 use Rattle.bank_lines.specs.LogGroups.{found_told, judged, no_names, printers_after}
-use Rattle.bank_lines.specs.LogLines.{printed_plain}
+use Rattle.bank_lines.specs.LogLines.{log_line_of, printed_plain}
 use Rattle.bank_lines.specs.Texts.{found_text}
 use Rattle.bank_lines.specs.declared.found.Finding.{Finding}
+use Rattle.bank_lines.specs.declared.log_errors.LogErrors.{LogErrors}
 use Rattle.bank_lines.specs.declared.log_line.LogLine.{LogLine}
 use Rattle.bank_lines.specs.declared.edac_report.EdacReport.{EdacReport}
 use Rattle.bank_lines.specs.declared.log_line.LogLine.TheVariants.{Nothing, Unread, Part}
@@ -45,6 +46,22 @@ state_after boot cap state line = state
 -- the finding at the end of a log, where no report is whole
 abbrev pub found_at_end : LogState → Finding
 found_at_end state = judged 0 (out_at_end state.work)
+
+-- the same of a log of this boot and of processors with this IA32_MCG_CAP: before its first line, at a line, and
+-- after it
+abbrev pub log_begun : ℕ → ℕ → LogErrors
+log_begun boot cap = record { edac = no_edac; state = log_at_start; boot = boot; cap = cap }
+
+abbrev pub error_in : LogErrors → List ℕ → Finding
+error_in log line = log_found_at log.boot log.cap log.state (marked_told log.edac (log_line_of line))
+
+abbrev pub errors_after_line : LogErrors → List ℕ → LogErrors
+errors_after_line log line = record {
+  edac = edac_after log.edac (log_line_of line);
+  state = state_after log.boot log.cap log.state (marked_told log.edac (log_line_of line));
+  boot = log.boot;
+  cap = log.cap;
+}
 
 -- the state after lines
 abbrev pub state_over : ℕ → ℕ → LogState → List LogLine → LogState

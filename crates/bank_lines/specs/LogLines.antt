@@ -132,3 +132,7 @@ place_in (AtEdac place) = place
 -- whether a line has a prefix, and the text before the prefix shows the line to be the kernel's own
 abbrev pub is_own_line : List ℕ → Bool
 is_own_line line = option_map_or (λ mark. is_own (take (place_in mark) line)) (mark_of line) false
+
+-- when a line with a mark was printed, if what stands before its mark says so
+abbrev pub marked_stamp_of : List ℕ → Option ℕ
+marked_stamp_of line = read_then (mark_of line) (λ mark. log_stamp_of (take (place_in mark) line))

@@ -4,7 +4,7 @@ ghost use Rattle.std.specs.Prelude.{◌≡◌};
 ghost use Rattle.bank_lines.specs.Trace.{trace_found};
 ghost use Rattle.bank_lines.specs.Filter.{filter_after, trace_filter};
 
-use crate::naming::KeyCounts;
+use crate::naming::AlikeCounts;
 use crate::text::push_found;
 use crate::trace::trace_found;
 use line_filters::LineFilter;
@@ -21,7 +21,7 @@ use std::marker::Model;
 #[derive(Drop)]
 pub struct TraceFilter {
     boot: u64,
-    counts: KeyCounts,
+    counts: AlikeCounts,
     taken: u64,
 }
 
@@ -41,7 +41,7 @@ impl TraceFilter {
     {
         TraceFilter {
             boot,
-            counts: KeyCounts::new(alloc),
+            counts: AlikeCounts::new(alloc),
             taken: 0,
         }
     }

@@ -4,7 +4,7 @@ ghost use Rattle.std.specs.Prelude.{◌≡◌, ◌≤◌, ◌∷◌, ◌++◌, [
 ghost use Rattle.bank_lines.specs.LogHeads.{is_own};
 ghost use Rattle.bank_lines.specs.Steps.Times.{IsTime};
 ghost use Rattle.bank_lines.specs.LogLines.{bracket_stamp, is_cut, is_of_report, log_line_after};
-ghost use Rattle.bank_lines.specs.LogLines.{log_line_of, log_mark, log_stamp_of, micros_of};
+ghost use Rattle.bank_lines.specs.LogLines.{log_line_of, log_mark, log_stamp_of, marked_stamp_of, micros_of};
 ghost use Rattle.bank_lines.specs.EdacLines.{edac_mark};
 ghost use Rattle.bank_lines.specs.LogLines.{driver_told, edac_line_after, left_unread, line_told_by, vendor_of};
 
@@ -212,6 +212,17 @@ fn is_cut(text: &[u8]) -> bool
     let (_, rest) = cut(b' ', rest);
     let (_, rest) = cut(b' ', rest);
     is_joined(rest)
+}
+
+/// Returns when a line with the mark of a machine check was printed, in microseconds since the
+/// kernel's start, if its head says so.
+pub fn marked_stamp(line: &[u8]) -> Option<u64>
+    ensures { result ≡ marked_stamp_of line.now }
+{
+    match mark_of(line) {
+        Some(LogMark::AtPlain(place) | LogMark::AtEdac(place)) => log_stamp_of(&line[..place]),
+        None => None,
+    }
 }
 
 /// Returns when a line was printed, in microseconds since the kernel's start, if its head says so:

@@ -7,7 +7,7 @@ ghost use Rattle.bank_lines.specs.LogGroups.{judged, named_by, no_names, printer
 
 use crate::Finding;
 use crate::log_line::{LogLine, Print};
-use crate::naming::KeyCounts;
+use crate::naming::AlikeCounts;
 use ras_base::NoMemory;
 use ras_klog::{KlogLine, KlogOut, KlogState};
 use std::alloc::Global;
@@ -16,8 +16,8 @@ use std::alloc::Global;
 // a second time itself.
 #[derive(Drop)]
 pub(crate) struct Printers {
-    kernel: KeyCounts,
-    edac: KeyCounts,
+    kernel: AlikeCounts,
+    edac: AlikeCounts,
 }
 
 // The current report, how its first line was printed, and the reports before it.
@@ -34,8 +34,8 @@ impl Printers {
         ensures { result ≡ no_names }
     {
         Printers {
-            kernel: KeyCounts::new(alloc),
-            edac: KeyCounts::new(alloc),
+            kernel: AlikeCounts::new(alloc),
+            edac: AlikeCounts::new(alloc),
         }
     }
 

@@ -23,11 +23,11 @@ pub const CHECKS: u128 = 1_048_573;
 
 /// How many errors without a counter one printer reported so far, by their keys.
 #[derive(Drop)]
-pub struct KeyCounts {
+pub struct AlikeCounts {
     table: IndexMap<u128, u64>,
 }
 
-impl Model for KeyCounts {
+impl Model for AlikeCounts {
     ghost use Rattle.std.specs.Prelude.{ℕ, List};
 
     ghost Value = { List (ℕ × ℕ) };
@@ -35,12 +35,12 @@ impl Model for KeyCounts {
     ghost view = { λ c. c.table.entries };
 }
 
-impl KeyCounts {
+impl AlikeCounts {
     /// Returns the counts before a printer's first report.
-    pub fn new(alloc: Global) -> KeyCounts
+    pub fn new(alloc: Global) -> AlikeCounts
         ensures { result ≡ [] }
     {
-        KeyCounts {
+        AlikeCounts {
             table: IndexMap::new(alloc),
         }
     }

@@ -4,7 +4,7 @@ use Rattle.std.specs.Option.{option_map}
 use Rattle.board_core.specs.Told.{Told}
 use Rattle.ras_script.specs.declared.reader.TheConstants.{LONGEST_LINE}
 use Rattle.line_filters.specs.Filters.{TakesOf}
-use Rattle.mce_records.specs.Printing.{TakesRecord}
+use Rattle.bank_lines.specs.Saved.Printing.{TakesRecord}
 use Rattle.ras_script.specs.Line.{is_asking, line_of}
 use Rattle.ras_script.specs.Splitting.{lines_of}
 use Rattle.ras_events.specs.DoneLines.{done_count, ended_lines}

@@ -12,8 +12,8 @@ use Rattle.bank_lines.specs.Filter.{trace_filter}
 use Rattle.cper_pcie.specs.Filter.{pcie_filter}
 use Rattle.event_lines.specs.Filter.{report_filter}
 use Rattle.line_filters.specs.Filters.{Filters, IsFilterExit, OfBoth, StopsFiltering}
-use Rattle.mce_records.specs.Printing.{IsRecordExit, PrintsText, StopsPrinting}
-use Rattle.mce_records.specs.Records.{record_output}
+use Rattle.bank_lines.specs.Saved.Printing.{IsRecordExit, PrintsText, StopsPrinting}
+use Rattle.bank_lines.specs.Saved.Records.{record_output}
 use Rattle.ras_klog.specs.Klog.{klog_filter}
 use Rattle.ras_daemon.specs.Reporting.{IsReportExit, ReportMoment, Reports, report_output}
 use Rattle.ras_daemon.specs.Help.{help_text, version_line}

@@ -32,7 +32,7 @@ use board_core::{Board, Source};
 use cper_pcie::PcieFilter;
 use event_lines::ReportFilter;
 use line_filters::filter_lines;
-use mce_records::print_record;
+use bank_lines::print_record;
 use ras_exit::{Exit, usage_line};
 use ras_klog::KlogFilter;
 use std::alloc::Global;
