@@ -27,6 +27,13 @@ pub record BlockProgress : Type 0 where
   pub reports : Reporting
   pub taken : ℕ
 
+-- after a line, whatever of its text a trace has too
+abbrev pub progress_after : BlockProgress → List ℕ → BlockProgress
+progress_after log line = record {
+  reports = reporting_after log.reports (report_log_line line);
+  taken = log.taken + 1;
+}
+
 -- the filter that goes on from here
 abbrev pub blocks_make : BlockProgress → Filter
 blocks_make log = record {

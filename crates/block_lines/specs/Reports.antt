@@ -1,5 +1,5 @@
 -- A report while its lines are read, and what a line changes.
-use Rattle.std.specs.Prelude.{ℕ, ◌+◌, ◌-◌, ◌≤◌, ◌==◌, ◌||◌, Bool, true, false, not, List, [], ◌∷◌, ◌++◌, length, nat_lt, Option, None, Some, unwrap_or, if◌then◌else◌}
+use Rattle.std.specs.Prelude.{ℕ, ◌+◌, ◌-◌, ◌≤◌, ◌==◌, ◌&&◌, ◌||◌, Bool, true, false, not, List, [], ◌∷◌, ◌++◌, length, nat_lt, Option, None, Some, unwrap_or, if◌then◌else◌}
 use Rattle.std.specs.Option.{option_map_or}
 use Rattle.bank_lines.specs.declared.log_line.TheConstants.{LAST_SECOND}
 use Rattle.block_lines.specs.Sources.{sources_with}
@@ -120,6 +120,14 @@ abbrev pub is_ended_by : OpenReport → Option ℕ → Marking → Bool
 is_ended_by report stamp (Own own) = not (own.report == report.number) || is_start own.line
 is_ended_by report stamp marking = is_late report stamp
 
+-- ---- what a trace has too
+
+-- whether a trace that has the firmware's memory errors from this time stamp on has a report too: by a fatal one the
+-- kernel crashes, so no trace is kept of it
+abbrev pub left_to_trace : Option ℕ → OpenReport → Bool
+left_to_trace None report = false
+left_to_trace (Some border) report = not (nat_lt report.begun border) && not (report.severity == 1)
+
 -- ---- what is printed about a line
 
 -- the remark about a line that begins a section, if the section before it is cut
@@ -233,6 +241,10 @@ after_report r (Some report) =
 -- the state after a block of this source that no line of a report gives: the open report stays
 abbrev pub with_source : Reporting → ℕ → Reporting
 with_source r source = record r { sources = sources_with r.sources source }
+
+-- without the last table: the next block brings a table of its own source
+abbrev pub without_sources : Reporting → Reporting
+without_sources r = record r { sources = [] }
 
 -- whether a line ends the open report, if there is one
 abbrev pub is_end : Reporting → ReportLogLine → Bool

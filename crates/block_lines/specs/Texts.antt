@@ -1,5 +1,5 @@
 -- The lines printed of a report, and about lines that are in no report.
-use Rattle.std.specs.Prelude.{ℕ, ◌+◌, ◌/◌, List, [], ◌∷◌, ◌++◌, codes, decimal, if◌then◌else◌}
+use Rattle.std.specs.Prelude.{ℕ, ◌+◌, ◌/◌, List, [], ◌∷◌, ◌++◌, codes, decimal, Option, if◌then◌else◌}
 use Rattle.std.specs.Option.{option_map_or}
 use Rattle.ras_script.specs.LineLaws.{line_text}
 use Rattle.ras_script.specs.declared.line.ErrorReport.TheVariants.{Block}
@@ -7,7 +7,7 @@ use Rattle.ras_script.specs.declared.line.Line.TheVariants as asks
 use Rattle.ras_script.specs.declared.line.Table.TheVariants.{Hest}
 use Rattle.bank_lines.specs.declared.log_line.TheConstants.{MICROSECONDS}
 use Rattle.block_lines.specs.Blocks.{block_bytes}
-use Rattle.block_lines.specs.Reports.{Reporting, section_errors, has_error, ends_early, is_end, line_remark, ended_at}
+use Rattle.block_lines.specs.Reports.{Reporting, section_errors, has_error, ends_early, is_end, left_to_trace, line_remark, ended_at}
 use Rattle.block_lines.specs.Sources.{is_listed, kept_sources, table_bytes}
 use Rattle.block_lines.specs.declared.log_line.ReportLogLine.{ReportLogLine}
 use Rattle.block_lines.specs.declared.report.Remark.{Remark}
@@ -89,3 +89,19 @@ rest_text r =
 abbrev pub blocks_text_at : Reporting → ℕ → ReportLogLine → List ℕ
 blocks_text_at r number line =
     (if is_end r line then end_text r else []) ++ remark_text number (line_remark (ended_at r line) line)
+
+-- ---- beside a trace that has the firmware's memory errors from a time stamp on
+
+-- the text of a report that ends: without its block and its table, if the trace has it
+abbrev pub report_text_beside : Option ℕ → Reporting → OpenReport → List ℕ
+report_text_beside border r report =
+    if left_to_trace border report then cut_text report else report_text r report
+
+-- the same of the open report, if there is one
+abbrev pub end_text_beside : Option ℕ → Reporting → List ℕ
+end_text_beside border r = option_map_or (report_text_beside border r) r.work []
+
+-- the text of the line with this number
+abbrev pub blocks_text_beside : Option ℕ → Reporting → ℕ → ReportLogLine → List ℕ
+blocks_text_beside border r number line =
+    (if is_end r line then end_text_beside border r else []) ++ remark_text number (line_remark (ended_at r line) line)

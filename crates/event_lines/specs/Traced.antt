@@ -5,7 +5,7 @@ use Rattle.std.specs.Prelude.{ℕ, ◌+◌, ◌==◌, ◌&&◌, ◌||◌, Bool, 
 use Rattle.std.specs.Option.{option_map_or}
 use Rattle.std.specs.Str.{bytes_eq}
 use Rattle.ras_klog.specs.Reading.{provided, read_then}
-use Rattle.bank_lines.specs.LogHeads.{mark_place, without_spaces}
+use Rattle.bank_lines.specs.LogHeads.{begins, mark_place, without_spaces}
 use Rattle.bank_lines.specs.Parts.{cut_at, value_after}
 use Rattle.bank_lines.specs.Stamp.{stamp_of}
 use Rattle.bank_lines.specs.Trace.{behind_name, is_count, last_word}
@@ -116,3 +116,9 @@ event_or_unread text event = event
 -- which event a line has
 abbrev pub line_event_of : List ℕ → LineEvent
 line_event_of line = let text = behind_name line in event_or_unread text (clock_event text)
+
+-- whether a line has an event of an extended log, read or not
+abbrev pub is_extlog : List ℕ → Bool
+is_extlog line =
+    let text = behind_name line in
+    option_map_or (λ place. begins (named_text place text) (codes "extlog_mem_event: ")) (clock_place text) false

@@ -4,7 +4,7 @@ ghost use Rattle.std.specs.Prelude.{◌≡◌, ◌+◌, ◌≤◌, false, length
 ghost use Rattle.bank_lines.specs.Parts.{cut_at};
 ghost use Rattle.event_lines.specs.Traced.{clock_event, clock_place, controller_event, event_behind, found_event};
 ghost use Rattle.event_lines.specs.Traced.{found_memory, found_section, has_event, has_name, shows_clock, is_event_name};
-ghost use Rattle.event_lines.specs.Traced.{is_firmware, line_event_of, named_text, other_event, stamp_at};
+ghost use Rattle.event_lines.specs.Traced.{is_extlog, is_firmware, line_event_of, named_text, other_event, stamp_at};
 
 use crate::aer::{AerEvent, aer_event};
 use crate::memory_event::{
@@ -16,6 +16,9 @@ use bank_lines::{
     Parts, behind_name, is_count, last_word, mark_place, stamp_of, value_after, without_spaces,
 };
 use block_lines::MemoryError;
+
+// The name of the event of a memory error that a driver decoded.
+const EXTLOG_NAME: &[u8] = b"extlog_mem_event: ";
 
 /// An event, and the time stamp of its line in microseconds since the boot.
 #[derive(Clone, Copy, Debug, PartialEq, Eq)]
@@ -68,6 +71,17 @@ pub(crate) fn line_event(line: &[u8]) -> LineEvent
             }
         }
         event => event,
+    }
+}
+
+/// Returns whether a line has an `extlog_mem_event` where tracers print an event. Allocates nothing.
+pub fn is_extlog(line: &[u8]) -> bool
+    ensures { result ≡ is_extlog line.now }
+{
+    let behind = behind_name(line);
+    match clock_place(behind) {
+        Some(place) => named_text(place, behind).starts_with(EXTLOG_NAME),
+        None => false,
     }
 }
 
@@ -186,7 +200,7 @@ fn event_behind(stamp: Option<u64>, text: &[u8]) -> LineEvent
     if let Some(told) = value_after(b"mc_event: ", text) {
         return controller_event(stamp, without_spaces(told));
     }
-    match value_after(b"extlog_mem_event: ", text) {
+    match value_after(EXTLOG_NAME, text) {
         Some(told) => found_memory(stamp, extlog_error(without_spaces(told))),
         None => LineEvent::Absent,
     }
