@@ -18,7 +18,7 @@ use Rattle.ras_exit.proofs.EndingLemmas.{memory_ran_out}
 use Rattle.ras_events.specs.DoneLines.{done_count}
 use Rattle.ras_daemon.specs.Commands.{MayEnd}
 use Rattle.ras_daemon.specs.declared.word.Task.{Task}
-use Rattle.ras_daemon.specs.declared.word.Task.TheVariants.{Run, Report, Load, Pcie, Klog, TraceLines, KlogLines, GhesLines, MceLine, Help, Version}
+use Rattle.ras_daemon.specs.declared.word.Task.TheVariants.{Run, Report, Load, Pcie, Klog, TraceFeed, LogFeed, TraceLines, KlogLines, GhesLines, MceLine, Help, Version}
 use Rattle.ras_daemon.specs.Headline.{laid_with}
 use Rattle.ras_daemon.specs.Promises.{Caused, IsQuiet, IsQuietBoard, Ran, RunStops}
 use Rattle.ras_daemon.specs.RunActs.{DidAll, DidRun}
@@ -85,6 +85,8 @@ may_code task exit code may is = by task (subst (MayEnd task) is may)
     by (Some (Load n)) (inr (inr is)) = absurd cc
     by (Some Pcie) never = absurd never
     by (Some (Klog boot mask)) never = absurd never
+    by (Some (TraceFeed boot mask began)) never = absurd never
+    by (Some (LogFeed boot mask began borders)) never = absurd never
     by (Some (TraceLines boot)) never = absurd never
     by (Some (KlogLines boot mask)) never = absurd never
     by (Some (GhesLines boot began)) never = absurd never

@@ -3,6 +3,7 @@ use Rattle.std.specs.Prelude.{◌≡◌, ℕ, ◌+◌, ◌-◌, ◌≤◌, ◌==
 use Rattle.std.specs.Option.{option_map}
 use Rattle.board_core.specs.Told.{Told}
 use Rattle.ras_script.specs.declared.reader.TheConstants.{LONGEST_LINE}
+use Rattle.line_filters.specs.Feeds.{TakesInput}
 use Rattle.line_filters.specs.Filters.{TakesOf}
 use Rattle.bank_lines.specs.Saved.Printing.{TakesRecord}
 use Rattle.ras_script.specs.Line.{is_asking, line_of}
@@ -44,6 +45,11 @@ pub record TakesAhead (exit : Exit) (script left : List ℕ) (before now : Told)
 -- and the whole source if the command succeeds.
 abbrev pub TakesBy : Exit → Option (List ℕ) → Option (List ℕ) → Type 0
 TakesBy exit first now = IfSome first (λ script. IsSomeAnd now (TakesOf exit script))
+
+-- What a command that reads an input of any length takes of its source, if the source is modelled: a beginning of it, and
+-- if the command succeeds, the whole source.
+abbrev pub TakesInputBy : Exit → Option (List ℕ) → Option (List ℕ) → Type 0
+TakesInputBy exit first now = IfSome first (λ input. IsSomeAnd now (TakesInput exit input))
 
 -- What a command that reads a saved record takes of its source, if the source is modelled: at most 129 bytes, and if
 -- the command succeeds, the whole source or 129 bytes.

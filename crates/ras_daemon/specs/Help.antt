@@ -8,7 +8,7 @@ use Rattle.ras_script.specs.Splitting.{lines_of}
 use Rattle.ras_texts.specs.declared.version.TheConstants.{VERSION}
 use Rattle.ras_daemon.specs.declared.help.TheConstants.{HELP}
 use Rattle.ras_daemon.specs.declared.word.Task.{Task}
-use Rattle.ras_daemon.specs.declared.word.Task.TheVariants.{Run, Report, Load, Pcie, Klog, TraceLines, KlogLines, GhesLines, MceLine, Help, Version}
+use Rattle.ras_daemon.specs.declared.word.Task.TheVariants.{Run, Report, Load, Pcie, Klog, TraceFeed, LogFeed, TraceLines, KlogLines, GhesLines, MceLine, Help, Version}
 
 -- the text of `--help`, which is the constant of the code
 abbrev pub help_text : List ℕ
@@ -28,6 +28,8 @@ form_of (Report Pages) = codes "rasd report pages "
 form_of (Report Names) = codes "rasd report names "
 form_of (Report Modules) = codes "rasd report modules "
 form_of (Report Metrics) = codes "rasd report metrics "
+form_of (TraceFeed boot cap began) = codes "rasd lines trace BOOT CAP SEC < TRACE "
+form_of (LogFeed boot cap began borders) = codes "rasd lines log BOOT CAP SEC [CHECKS REPORTS] < LOG "
 form_of (TraceLines boot) = codes "rasd lines trace BOOT < TRACE "
 form_of (KlogLines boot cap) = codes "rasd lines klog BOOT CAP < LOG "
 form_of (GhesLines boot began) = codes "rasd lines ghes BOOT SEC < LOG "

@@ -10,7 +10,7 @@ ghost use Rattle.ras_recover.specs.DiskCalls.{IsBeginning, Makes};
 ghost use Rattle.ras_run.specs.Sites.{Start};
 ghost use Rattle.ras_daemon.specs.Script.{events_of};
 ghost use Rattle.ras_events.specs.DoneLines.{done_count};
-ghost use Rattle.ras_daemon.specs.Ahead.{TakesBy, TakesRecordBy};
+ghost use Rattle.ras_daemon.specs.Ahead.{TakesBy, TakesInputBy, TakesRecordBy};
 ghost use Rattle.ras_daemon.specs.Commands.{ByTask, MayEnd};
 ghost use Rattle.ras_daemon.specs.Headline.{OverRun, laid_with};
 ghost use Rattle.ras_daemon.specs.Promises.{Caused, IsQuiet, IsQuietBoard, OverRefused, Ran, Refuses};
@@ -27,12 +27,12 @@ use crate::load::load;
 use crate::reporting::report;
 use crate::running::run;
 use crate::{RasWord, Task, task_of};
-use bank_lines::{LogFilter, TraceFilter};
+use bank_lines::{LogFilter, TraceFilter, print_record};
 use board_core::{Board, Source};
 use cper_pcie::PcieFilter;
 use event_lines::ReportFilter;
-use line_filters::filter_lines;
-use bank_lines::print_record;
+use line_filters::{feed_lines, filter_lines};
+use log_lines::{LogFeed, TraceFeed};
 use ras_exit::{Exit, usage_line};
 use ras_klog::KlogFilter;
 use std::alloc::Global;
@@ -71,10 +71,12 @@ pub fn rasd<S: Source, B: Board>(
         (B.seen board.new).clock }
 
     // A command that reads the source takes at most 67,108,865 bytes of it, and all of them if it
-    // ends as done. The command that reads a saved record takes at most 129 bytes, and all of them
-    // or 129 if it ends as done. Every other command leaves the source alone.
+    // ends as done. A command that reads a source of any length takes all of it if it ends as done.
+    // The command that reads a saved record takes at most 129 bytes, and all of them or 129 if it
+    // ends as done. Every other command leaves the source alone.
     ensures reads { ReadsBy (task_of words.now)
         (TakesBy result (S.left source.old) (S.left source.new))
+        (TakesInputBy result (S.left source.old) (S.left source.new))
         (TakesRecordBy result (S.left source.old) (S.left source.new))
         (source.new ≡ source.old) }
 
@@ -97,6 +99,21 @@ pub fn rasd<S: Source, B: Board>(
         Some(Task::Klog { boot, cap }) => {
             let mut filter = KlogFilter::new(boot, cap);
             filter_lines(alloc, &mut filter, source, board)
+        }
+        Some(Task::TraceFeed { boot, cap, began }) => {
+            let mut filter = TraceFeed::new(alloc, boot, cap, began);
+            feed_lines(alloc, &mut filter, source, board)
+        }
+        Some(
+            Task::LogFeed {
+                boot,
+                cap,
+                began,
+                borders,
+            },
+        ) => {
+            let mut filter = LogFeed::new(alloc, boot, cap, began, borders);
+            feed_lines(alloc, &mut filter, source, board)
         }
         Some(Task::TraceLines { boot }) => {
             let mut filter = TraceFilter::new(alloc, boot);
