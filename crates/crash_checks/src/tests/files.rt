@@ -1,4 +1,5 @@
-//! What calls of the board do to files.
+//! What calls of the board do to real files, which no clause says. Each test has a folder of its
+//! own.
 
 mod store;
 
