@@ -1,17 +1,19 @@
 """Pages to read a promise on: its clauses, and every definition they use, each before those that use it.
 
 A definition stands on the first page that needs it, and later pages name that page. A type stands again where a later
-promise names other members of it.
+promise names other members of it. Of a name that two crates define each page says which crate's it means.
 """
 import collections
 import itertools
 import re
 
-from rattle import NO_TEXT, POINTS, TOP, USE, meanings, text_of
+from rattle import NO_TEXT, POINTS, TOP, USE, meaning, meanings, scope_of, text_of
 
 FOLDER = TOP / "docs" / "promises"
 # the most lines that a page may have, and all together
 MOST_LINES, MOST_IN_ALL = 600, 7_000
+# names that two crates define; a page writes the crate before them
+TOLD_APART = {"Input", "with_input"}
 # the lines of a page around its definitions, but for a first page's head
 NEXT_HEAD = 10
 COMMENT = re.compile(r" *(--|//)")
@@ -34,13 +36,27 @@ def comment_above(lines, place):
     return lines[start:place]
 
 
+def crate_of(item):
+    """The crate that has an item."""
+    return item.file.split("/")[1]
+
+
+def told_apart(file, line):
+    """A line of a file, with the crate before each name that two crates define."""
+    dot = "." if file.endswith(".antt") else "::"
+    for name in TOLD_APART & set(re.findall(r"\w+", line)):
+        found = meaning(file, scope_of(file).get(name))
+        line = re.sub(rf"(?<![\w.:]){name}\b", f"{crate_of(found)}{dot}{name}", line) if found else line
+    return line
+
+
 def written(item):
     """An item's lines as they stand in its file, with their comments."""
     bare, lines, place, text = bare_lines(item.file), text_of(item.file).split("\n"), 0, []
     for line in item.lines:
         if line.strip():
             place = bare.index(line, place) if line in bare[place:] else place
-            text += [*(comment_above(lines, place) if bare[place] == line else []), line]
+            text += [*(comment_above(lines, place) if bare[place] == line else []), told_apart(item.file, line)]
             place += bare[place] == line
     return text
 
@@ -104,7 +120,7 @@ def block(items):
 
 def named(items):
     """The names of items, in backticks."""
-    return ", ".join(f"`{item.name}`" for item in items)
+    return ", ".join(f"`{crate_of(item)}.{item.name}`" if item.name in TOLD_APART else f"`{item.name}`" for item in items)
 
 
 def boxes_line(met):

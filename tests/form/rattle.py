@@ -276,6 +276,11 @@ def specified_at(crate, parts):
     return None
 
 
+def meaning(file, found):
+    """The item that a file's scope means by a name, by what the scope has for it; None if it is no item of the repository."""
+    return item_at(re.sub(r"^crate\b", file.split("/")[1], found)) if isinstance(found, str) else found
+
+
 def meanings(item):
     """The items of the repository that the names in an item mean."""
     scope, crate = scope_of(item.file), item.file.split("/")[1]

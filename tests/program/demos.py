@@ -1,8 +1,9 @@
 """Checks of the filters in service/ and of monitor/write-metrics; tests/program/examples runs them.
 
 service/json gets every line that tests/program/rows.txt and the cases say is printed, `lines ghes` the reports of many
-sources, service/put-lines whole and truncated records, and the kernel's own. A parser of Prometheus' text format (version 0.0.4), which rejects
-everything that the format doesn't allow, reads what monitor/write-metrics writes.
+sources, `lines log` and `lines trace` long inputs, service/put-lines whole and truncated records, and the kernel's own.
+A parser of Prometheus' text format (version 0.0.4), which rejects everything that the format doesn't allow, reads what
+monitor/write-metrics writes.
 """
 import datetime
 import json
@@ -324,6 +325,18 @@ def checks_of_many_sources(program):
     yield holds(f"lines ghes: many sources: {ran.stdout[-99:]}", is_short and is_taken)
 
 
+def checks_of_long_inputs(program):
+    """A log and a trace longer than a script may be are read to their end, and a line of any length is one."""
+    front = 2_000 * (39_999 * b"x" + b"\n") + 100_000_000 * b"y" + b"\n"
+    for words, file in ("log 1 1000c14 60", "kernel.log"), ("trace 1 1000c14 60", "mce.trace"):
+        data = (DEMO / file).read_bytes()
+        alone, behind = (
+            subprocess.run([program, "lines", *words.split()], input=it, capture_output=True) for it in (data, front + data)
+        )
+        is_right = alone.stdout.startswith(b"bank ") and behind.stdout == b"# too long 2001\n" + alone.stdout
+        yield holds(f"lines {words}: a long input: {behind.stdout[-99:]}", is_right and behind.returncode == 0)
+
+
 # ---- service/put-lines
 
 
@@ -416,5 +429,6 @@ def checks(program):
     yield all([*checks_of_json()])
     yield all([*checks_of_metrics(program)])
     yield all([*checks_of_many_sources(program)])
+    yield all([*checks_of_long_inputs(program)])
     yield all([*checks_of_put_lines()])
     yield all([*checks_of_saved_records(program)])

@@ -256,7 +256,8 @@ def any_damage(chance):
 
 def any_words(chance):
     """Words that are a command, or none."""
-    forms = "report", "report names", "load 20", "klog 1 c14", "lines klog 1 c14", "lines trace 1", "lines ghes 1 60", "lines mce 1", "pcie", "run", "--help"
+    forms = "report", "report names", "load 20", "klog 1 c14", "lines klog 1 c14", "lines trace 1", "lines ghes 1 60", "lines mce 1", "lines log 1 c14 60", "lines log 1 c14 60 - 5", "lines trace 1 c14 60"
+    forms = *forms, "pcie", "run", "--help"
     words = chance.choice(forms).split()
     place = chance.randrange(len(words))
     words[place : place + chance.randrange(2)] = [chance.choice((*NUMBERS, "names", "report", ""))]
@@ -278,15 +279,24 @@ def any_report(chance):
 CAPS = (b"1000c14", b"c14", b"0")
 
 
+BORDERS = b"-", b"0", b"1000000", b"12500001", b"18446744073709551615"
+
+
 def of_kernel(chance, change):
     """What is made of a log or a trace of a boot: its log lines; or lines of a script, and a run over these."""
     boot, cap = b"%d" % chance.randint(0, 4), chance.choice(CAPS)
-    kind = chance.randrange(3)
-    if kind == 0:
-        yield Step([b"klog", boot, cap], change(chance, log(chance)))
+    words, made = chance.choice((
+        ([b"klog", boot, cap], log),
+        ([b"lines", b"klog", boot, cap], log),
+        ([b"lines", b"log", boot, cap, b"60"], log),
+        ([b"lines", b"log", boot, cap, b"60", chance.choice(BORDERS), chance.choice(BORDERS)], log),
+        ([b"lines", b"trace", boot], trace),
+        ([b"lines", b"trace", boot, cap, b"60"], trace),
+    ))  # fmt: skip
+    text = change(chance, made(chance))
+    if words[0] == b"klog":
+        yield Step(words, text)
         return
-    words = [b"lines", b"klog", boot, cap] if kind == 1 else [b"lines", b"trace", boot]
-    text = change(chance, (log if kind == 1 else trace)(chance))
     yield Step(words, text)
     yield Step([b"run"], model.command(words, text).printed)
 

@@ -1,4 +1,4 @@
--- A head as the console prints it, a time in brackets and a space, shows its line as the kernel's own.
+-- A head as the console prints it, a time in brackets and a space, shows its line to be the kernel's own.
 use Rattle.std.proofs.Common.{◌≡◌, ℕ, zero, suc, ◌+◌, ◌*◌, ◌-◌, ◌<◌, ◌==◌, ◌&&◌, ◌||◌, Bool, true, false, not, nat_eq, nat_lt, nat_le, List, [], ◌∷◌, ◌++◌, codes, drop, length, refl, sym, ap, subst, ◌∙◌, arith, append_assoc, length-append, inl, inr, Option, Some, None, if◌then◌else◌}
 use Rattle.std.proofs.lemmas.Bool.{cases_eq}
 use Rattle.std.proofs.lemmas.Bool.Decides.{nat_tests}
@@ -40,7 +40,7 @@ plain_lacks : (byte : ℕ) (text : List ℕ) → is_plain byte ≡ false → Are
 plain_lacks byte [] other plain = tt
 plain_lacks byte (b ∷ text) other plain = (plain_other b byte plain.0 other, plain_lacks byte text other plain.1)
 
--- a test that holds of each number below another, by computing
+-- whether a test holds of each number below another, by computing
 holds_below : (ℕ → Bool) → ℕ → Bool
 holds_below test zero = true
 holds_below test (suc n) = test n && holds_below test n
@@ -62,7 +62,7 @@ holds_at test (suc n) h b less =
 abbrev is_clock_sign : ℕ → Bool
 is_clock_sign b = is_name_sign b || list_any (λ sign. sign == b) (codes " :+<>")
 
--- a space or a digit may stand in a time, and a point
+-- a space, a digit or a point may be in a time
 plain_small : (b : ℕ) → IsPlain b → b < 58
 plain_small b plain = by (b == 32) refl plain
   where
@@ -111,14 +111,14 @@ digits_plain (b ∷ word) all =
     let parts = both_of (is_digit b 10) (list_all (λ c. is_digit c 10) word) all in
     (or_right (b == 32) (is_digit b 10) parts.0, digits_plain word parts.1)
 
--- a text without its first byte, if that is a space
+-- a text without its first byte, if this byte is a space
 spaces_step : (b : ℕ) (text : List ℕ) (space : Bool) → (b == 32) ≡ space → without_spaces (b ∷ text) ≡ (if space then without_spaces text else b ∷ text)
 spaces_step b text true is =
     let further : 1 + position_or_len (λ c. not (c == 32)) text ≡ suc (position_or_len (λ c. not (c == 32)) text) = omega arith in
     rw is (ap (λ (n : ℕ). drop n (b ∷ text)) further)
 spaces_step b text false is = rw is refl
 
--- spaces and digits behind them
+-- if only digits follow a text's spaces, the text consists of spaces and digits
 front_plain : (front : List ℕ) → list_all (λ b. is_digit b 10) (without_spaces front) ≡ true → ArePlain front
 front_plain [] all = tt
 front_plain (b ∷ front) all = by (b == 32) refl (front_plain front)
@@ -130,7 +130,7 @@ front_plain (b ∷ front) all = by (b == 32) refl (front_plain front)
     by false is ih =
         digits_plain (b ∷ front) (ap (λ (t : List ℕ). list_all (λ c. is_digit c 10) t) (sym (spaces_step b front false is)) ∙ all)
 
--- what stands behind a word that isn't of spaces alone
+-- text after a word doesn't change how the spaces before the word are dropped
 words_behind : (front rest : List ℕ) → 0 < length (without_spaces front) → without_spaces (front ++ rest) ≡ without_spaces front ++ rest
 words_behind [] rest some = absurd (omega (arith, some))
 words_behind (b ∷ front) rest some = by (b == 32) refl (words_behind front rest) some
@@ -161,7 +161,7 @@ digit_behind : (xs ys : List ℕ) → has_digit ys ≡ true → has_digit (xs ++
 digit_behind [] ys is = is
 digit_behind (x ∷ xs) ys is = or_right (is_digit x 10) (has_digit (xs ++ ys)) (digit_behind xs ys is)
 
--- no colon: nobody else is named
+-- without a colon the head names no device and no process
 no_mark : (text : List ℕ) → Lacks 58 text → mark_place (codes ": ") text ≡ None
 no_mark [] lacks = refl
 no_mark (b ∷ text) lacks =

@@ -1,4 +1,4 @@
--- How errors without a counter are counted, and what they are named by that.
+-- How errors without a counter are counted and named.
 use Rattle.std.proofs.Common.{◌≡◌, ℕ, zero, suc, ◌+◌, ◌*◌, ◌/◌, ◌%◌, ◌==◌, ◌≤◌, ◌<◌, Bool, true, false, cond, nat_eq, nat_lt, List, [], ◌∷◌, ◌++◌, length, map, refl, ap, subst, ◌∙◌, arith, if◌then◌else◌, sym, Option, None, Some, unwrap_or}
 use Rattle.std.specs.Prelude.{filter}
 use Rattle.std.specs.List.{AllByRecursion}
@@ -35,7 +35,7 @@ report_named_in counts report h = by (report.tsc == 0)
     by true = numbered_in (unwrap_or (number_in counts (key_of report)) 0) report h
     by false = h
 
--- what is found fits its types, also by its name
+-- a finding fits its types, also after it is named
 pub named_in : (counts : KeyCounts) (found : Finding) → IsInTypes found → IsInTypes (named_found counts found)
 named_in counts (Whole report) h = by (report.tsc == 0) (number_in counts (key_of report))
   where
@@ -53,12 +53,12 @@ named_in counts Unread h = h
 
 -- ---- the reports of what is found
 
--- Nothing is found full before it is named.
+-- No finding is `Full` before it is named.
 abbrev pub is_full : Finding → Bool
 is_full (Full report) = true
 is_full found = false
 
--- the reports of one more line, and of those behind it
+-- the reports of one more line, and of the lines after it
 pub names_on : (counts : KeyCounts) (found : Finding) (more : List BankReport) → is_full found ≡ false
     → report_in (named_found counts found) ++ named_after (counts_after counts found) more ≡ named_after counts (report_in found ++ more)
 names_on counts (Whole report) more none = by (report.tsc == 0) (number_in counts (key_of report))
@@ -79,7 +79,7 @@ names_on counts Unread more none = refl
 
 -- ---- entries
 
--- what a key has after one is inserted
+-- the number of a key, after one key was inserted
 lookup_insert : (entries : KeyCounts) (key k v : ℕ)
     → lookup (nat_eq k) (insert_entry nat_eq entries key v) ≡ (if k == key then Some v else lookup (nat_eq k) entries)
 lookup_insert [] key k v = by (nat_eq k key)
@@ -105,7 +105,7 @@ lookup_insert ((q, n) ∷ entries) key k v = by (nat_eq key q) refl (nat_eq k ke
     by false f false h true t on = rw (f, h, t) refl
     by false f false h false t on = rw (f, t) on
 
--- how many entries there are then
+-- how many keys there are after one was inserted
 length_insert : (entries : KeyCounts) (key v : ℕ)
     → length (insert_entry nat_eq entries key v) ≡ length entries + option_map_or (λ (n : ℕ). 0) (lookup (nat_eq key) entries) 1
 length_insert [] key v = refl
@@ -120,12 +120,12 @@ length_insert ((q, n) ∷ entries) key v = by (nat_eq key q) (length_insert entr
 
 -- ---- the entries of these keys
 
--- what an entry says of a key that came so often
+-- the number counted for a key that came this often
 abbrev by_count : ℕ → Option ℕ
 by_count zero = None
 by_count (suc n) = Some (capped (suc n))
 
--- these entries count those keys
+-- the counts say how often each of these keys came
 abbrev Counting : KeyCounts → List ℕ → Type 0
 Counting counts before = (key : ℕ) → lookup (nat_eq key) counts ≡ by_count (count_of key before)
 
@@ -146,7 +146,7 @@ next_is n = by (nat_lt n 4095) refl (nat_lt (suc n) 4095) refl
         absurd omega (arith, small, most)
     by false l false m = rw (l, m) refl
 
--- the number of the next one of a key
+-- the number of a key's next error
 number_is : (counts : KeyCounts) (before : List ℕ) (key : ℕ) → Counting counts before
     → (count_of key before ≡ 0 → length counts < 200000) → number_in counts key ≡ Some (capped (count_of key before))
 number_is counts before key counting room = ap (number_by counts) (counting key) ∙ by (count_of key before) room
@@ -226,7 +226,7 @@ name_is boot n report h =
     h.0 (cpu_of report.cpu report.bank (second_of report) (register_check report) b s c) (bank_of report.cpu report.bank (second_of report) (register_check report) b s c)
     (counter_of report.cpu report.bank (second_of report) (register_check report) (capped (capped n)) (capped n) b s c (capped_is (capped n) (capped_small n)))
 
--- A new key counts among the kinds.
+-- A new key counts as one more of the different keys.
 has_room : (counts : KeyCounts) (before keys : List ℕ) (key : ℕ) → length counts + kinds_after before (key ∷ keys) ≤ 200000
     → count_of key before ≡ 0 → length counts < 200000
 has_room counts before keys key few new =
@@ -255,7 +255,7 @@ names_are boot counts before (report ∷ reports) all counting few =
     ∙ ap (λ (names : List Name). name_at boot (key, count_of key before) ∷ names) (names_are boot (counted counts key) (key ∷ before) reports all.1 (counting_on counts before key counting room) rest)
     ∙ ap (λ (ks : List ℕ). map (name_at boot) (names_after before ks)) (sym keys_is)
 
--- before the first report
+-- the counts before the first report are empty
 none_counted : Counting [] []
 none_counted key = refl
 

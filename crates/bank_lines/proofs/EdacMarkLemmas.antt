@@ -1,4 +1,4 @@
--- The search for the marks of a line.
+-- The search for the prefixes of a line.
 use Rattle.std.proofs.Common.{◌≡◌, ℕ, ◌+◌, ◌-◌, ◌<◌, ◌≤◌, ◌==◌, false, List, length, take, drop, get_or, ap, ◌∙◌, subst, arith, Option, None, Some}
 use Rattle.memchr.specs.Find.{FindsNeedle, OccursAt}
 use Rattle.bank_lines.specs.EdacLines.{edac_mark}
@@ -10,13 +10,13 @@ use Rattle.bank_lines.proofs.LogHeadLemmas.{NoneBelow, none_at_all, none_passed,
 
 -- ---- EDAC's first mark
 
--- a search for its letter passes no mark
+-- a search for the letter E skips no prefix
 pub first_passed : (line : List ℕ) (from passed : ℕ) (below : Option ℕ) → from + passed ≤ length line → FirstBelow line from below
     → ((k : ℕ) → k < passed → (get_or (take (length line - from) (drop from line)) k 0 == 69) ≡ false) → FirstBelow line (from + passed) below
 first_passed line from passed None inside first other = none_passed 0 edac_mark line from passed (omega arith) inside first other
 first_passed line from passed (Some place) inside first other = first
 
--- nor does a step past a letter that no mark begins with
+-- a step past a letter that begins no prefix skips none
 pub first_round : (line : List ℕ) (place : ℕ) (below : Option ℕ) → FirstBelow line place below → ¬ ((0 ≤ place) × OccursAt line edac_mark (place - 0)) → FirstBelow line (place + 1) below
 first_round line place None first not = none_round 0 edac_mark line place first not
 first_round line place (Some p) first not = first
@@ -27,11 +27,11 @@ first_here line place first occurs =
     let here : OccursAt line edac_mark place = subst (OccursAt line edac_mark) same occurs in
     (record { low = omega arith; high = omega (arith, here.fits); before = λ k low high. first k (omega (arith, high)) }, here)
 
--- the same of one that was found before
+-- a prefix that was found stays the first one
 pub first_stays : (line : List ℕ) (place found : ℕ) → FirstBelow line place (Some found) → FirstBelow line (place + 1) (Some found)
 first_stays line place found first = first
 
--- all of a line was looked through
+-- the search is complete at the line's end
 pub first_finds : (line : List ℕ) (below : Option ℕ) → FirstBelow line (length line) below → FindsNeedle line edac_mark 0 below
 first_finds line None first = none_at_all 0 edac_mark line (omega arith) first
 first_finds line (Some place) first = first

@@ -1,4 +1,4 @@
--- What EDAC's drivers print of a machine check is read.
+-- The text that EDAC's drivers print of a machine check is read.
 use Rattle.std.proofs.Common.{◌≡◌, ℕ, ◌-◌, ◌^◌, ◌<◌, ◌≤◌, Bool, true, false, is_some, List, [], ◌∷◌, ◌++◌, codes, decimal, drop, length, refl, ap, ◌∙◌, arith, append_assoc, Option, Some, if◌then◌else◌}
 use Rattle.std.proofs.Math.Seq.{take-append_seam}
 use Rattle.std.proofs.lemmas.List.{drop_at}
@@ -24,7 +24,7 @@ use Rattle.bank_lines.proofs.LogMarkLemmas.{edac_marked}
 use Rattle.bank_lines.proofs.LogTextLemmas.{after_is, colon_lacks, colon_read, decimal_is_number, hex_lacks, hex_read, joined_lack, status_lacks, status_read, up_to_is, vendor_lacks, words_split}
 use Rattle.bank_lines.proofs.NumeralLemmas.{decimal_lacks, lack_both, literal_lacks}
 
--- ---- what stands before the words
+-- ---- the text before the words
 
 named_read : (controller : ℕ) (text : List ℕ) → controller < 2 ^ 64
     → provided (is_number (up_to 58 (decimal controller ++ 58 ∷ 32 ∷ text))) (value_after (codes " ") (after 58 (decimal controller ++ 58 ∷ 32 ∷ text))) ≡ Some text
@@ -62,7 +62,7 @@ behind_lacks driver controller text small lacks =
 
 -- ---- a line
 
--- words that a line of a report has
+-- the words of a line of a report
 record AreWords (words : List (List ℕ)) : Type 0 where
   some : 0 < length words
   spaces : AllByRecursion (Lacks 32) words
@@ -161,7 +161,7 @@ module _ (p : Printed) (h : IsPrinted p) (driver : Driver) (exception : Bool) wh
   bank_small : p.event.bank < 2 ^ 64
   bank_small = omega (arith, h.bank)
 
-  -- what they lack
+  -- the words lack this byte
   module _ (byte : ℕ) (high : 16 ≤ digit_value byte) (zero_not : ¬ (48 ≡ byte)) (x_not : ¬ (120 ≡ byte)) (colon : ¬ (58 ≡ byte)) (literals : Literals byte) where
     start_lacks : AllByRecursion (Lacks byte) start_words
     start_lacks =
@@ -174,7 +174,7 @@ module _ (p : Printed) (h : IsPrinted p) (driver : Driver) (exception : Bool) wh
     last_lacks =
         (literals.processor, (vendor_lacks byte high zero_not x_not driver p.event.vendor p.cpuid colon h.numbers.0 h.numbers.1.1.1.1.1.1.1.1.1.1.1.1.1.0, (literals.time, (decimal_lacks byte p.event.seconds high h.numbers.1.0, (literals.socket, (decimal_lacks byte p.socket high h.numbers.1.1.1.1.1.1.1.1.1.1.1.1.1.1.0, (literals.apic, (hex_lacks byte high zero_not x_not driver p.apic h.numbers.1.1.1.1.1.1.1.1.1.1.1.1.1.1.1.0, tt))))))))
 
-  -- they are words of a report
+  -- the words of each line are the words of a report's line
   start_are : AreWords start_words
   start_are = record {
     some = omega arith;
@@ -199,7 +199,7 @@ module _ (p : Printed) (h : IsPrinted p) (driver : Driver) (exception : Bool) wh
     of = refl;
   }
 
-  -- and are read
+  -- the lines are read
   status_read_whole : edac_register (edac_status driver p.event.status ∷ []) ≡ Some p.event.status
   unfolding edac_register
   status_read_whole = ap (λ (o : Option ℕ). read_then o (λ (r : ℕ). Some r)) (status_read driver p.event.status h.numbers.1.1.1.1.1.0)
@@ -252,7 +252,7 @@ module _ (p : Printed) (h : IsPrinted p) (driver : Driver) (exception : Bool) wh
       ap (λ (o : Option ℕ). read_then o (λ vendor. read_then (decimal_of (2 ^ 64 - 1) (decimal p.event.seconds)) (λ seconds. Some (Processor vendor seconds)))) vendor_read
       ∙ ap (λ (o : Option ℕ). read_then o (λ seconds. Some (Processor p.event.vendor seconds))) (decimal_read (2 ^ 64 - 1) p.event.seconds (omega (arith, h.numbers.1.0)) (omega arith))
 
-  -- the five lines, each behind a head
+  -- the five lines, each after a head
   module _ (controller : ℕ) (few : controller < 2 ^ 64) (head : List ℕ) (own : is_own head ≡ true) (plain : HasNo log_mark head) (edac : HasNo edac_mark head) where
     pub start_line : log_line_of (head ++ (driver_prefix driver controller ++ join_with_byte 32 start_words)) ≡ Edac (Start p.event.cpu p.event.mcg p.event.bank p.event.status)
     start_line = line_read driver controller head start_words (Start p.event.cpu p.event.mcg p.event.bank p.event.status) few own plain edac start_are start_read

@@ -1,4 +1,4 @@
--- The fields of a text, but for its last part.
+-- The fields of a text, without its last part.
 use Rattle.std.proofs.Common.{◌≡◌, ℕ, Bool, true, false, List, [], ◌∷◌, refl, sym, ap, ◌∙◌, Option, Some}
 use Rattle.ras_klog.specs.Reading.{read_then}
 use Rattle.ras_script.specs.Lines.{without_last}

@@ -28,7 +28,7 @@ spaces_passed : (n : ℕ) (text : List ℕ) → after_spaces (replicate n 32 ++ 
 spaces_passed zero text = refl
 spaces_passed (suc n) text = spaces_passed n text
 
--- ---- what fields don't hold
+-- ---- bytes that fields lack
 
 abbrev Lit : List ℕ → Type 0
 Lit name = list_all (λ b. not (b == 44)) name ≡ true
@@ -141,7 +141,7 @@ module _ (p : Printed) (h : IsPrinted p) where
       ∙ ap (λ (o : Option (ℕ × List ℕ)). option_map_or (status_told f2) o (Some f2)) (bank_is_named word value p.event.bank (decimal_lacks 58 p.event.bank (omega arith) bank_small) (decimal_read 255 p.event.bank (omega (arith, h.bank)) (omega arith)))
       ∙ ap (λ (o : Option ℕ). read_then o (λ status. Some (record f2 { bank = Some (record { number = p.event.bank; status = status }) }))) (register_read p.event.status status_small)
 
-  -- what all forms begin with, behind any number of spaces
+  -- the fields with which all forms begin, after any number of spaces, are read
   first_after : (spaces : ℕ) (more : List (List ℕ))
       → fields_after no_fields ((replicate spaces 32 ++ (codes "CPU: " ++ decimal p.event.cpu)) ∷ (codes " MCGc/s: " ++ (hexadecimal p.event.cap ++ 47 ∷ hexadecimal p.event.mcg)) ∷ (codes " MC" ++ (decimal p.event.bank ++ 58 ∷ 32 ∷ register p.event.status)) ∷ (codes " IPID: " ++ register p.ipid) ∷ more)
       ≡ fields_after f3 more
@@ -234,7 +234,7 @@ module _ (p : Printed) (h : IsPrinted p) where
       ∙ step f7 f7 (codes " APIC: " ++ hexadecimal p.apic) t11 refl
       ∙ rest
 
-  -- bytes of vendor data behind a part that isn't wanted, without the last one
+  -- the bytes of vendor data after a part that isn't read, without the last byte, change nothing
   bytes_after : (byte : ℕ) (bytes part : List ℕ) → took f7 part ≡ Some f7 → fields_after f7 (without_last (part ∷ data_from byte bytes)) ≡ Some f7
   bytes_after byte [] part is = step f7 f7 part [] is
   bytes_after byte (first ∷ bytes) part is =
@@ -247,7 +247,7 @@ module _ (p : Printed) (h : IsPrinted p) where
       step f7 f7 (codes " microcode: " ++ hexadecimal p.microcode) (without_last ((codes " vendor data: {0x" ++ hexadecimal first) ∷ data_from byte bytes)) refl
       ∙ bytes_after byte bytes (codes " vendor data: {0x" ++ hexadecimal first) refl
 
-  -- ---- no field holds a comma
+  -- ---- no field has a comma
 
   place_lacks : Lacks 44 (place_field p)
   place_lacks =
@@ -356,7 +356,7 @@ spaces_lack : (n : ℕ) → Lacks 44 (replicate n 32)
 spaces_lack zero = tt
 spaces_lack (suc n) = ((λ (e : ◌≡◌ {A = ℕ} 32 44). omega (arith, e)), spaces_lack n)
 
--- fields that are read, behind any number of spaces
+-- a text is read if its fields are, after any number of spaces
 read_fields : (e : TraceEvent) (g : Fields) (spaces : ℕ) (first second : List ℕ) (more : List (List ℕ))
     → AllByRecursion (Lacks 44) ((replicate spaces 32 ++ first) ∷ second ∷ more)
     → fields_after no_fields (without_last ((replicate spaces 32 ++ first) ∷ second ∷ more)) ≡ Some g → whole_event g ≡ Some e
@@ -367,7 +367,7 @@ read_fields e g spaces first second more lack after is =
     ∙ ap (λ (o : Option Fields). read_then o whole_event) after
     ∙ is
 
--- the fields behind the first two
+-- the fields after the first two
 abbrev others : Printed → List (List ℕ) → List (List ℕ)
 others p more = (codes " MC" ++ (decimal p.event.bank ++ 58 ∷ 32 ∷ register p.event.status)) ∷ (codes " IPID: " ++ register p.ipid) ∷ more
 
@@ -388,7 +388,7 @@ named_rest p more =
 abbrev pub named_more : Printed → List (List ℕ) → List (List ℕ)
 named_more p more = (codes " ADDR: " ++ register p.event.addr) ∷ named_rest p more
 
--- the fields behind the first four
+-- a text is read if the fields after its first four are
 with_more : (p : Printed) (h : IsPrinted p) (spaces : ℕ) (next : List ℕ) (more : List (List ℕ)) → AllByRecursion (Lacks 44) (next ∷ more)
     → fields_after (f3 p h) (without_last (next ∷ more)) ≡ Some (f7 p h)
     → event_in (replicate spaces 32 ++ join_with_byte 44 (first_fields p (next ∷ more))) ≡ Some p.event

@@ -1,4 +1,4 @@
--- What kernels print of an event is read.
+-- The text that kernels print of an event is read.
 use Rattle.std.proofs.Common.{◌≡◌, ℕ, zero, suc, ◌+◌, ◌-◌, ◌^◌, ◌<◌, ◌≤◌, ◌==◌, ◌&&◌, Bool, true, false, cond, nat_lt, nat_le, nat_eq, List, [], ◌∷◌, ◌++◌, codes, decimal, take, drop, length, refl, ap, ◌∙◌, arith, length-append, Option, Some, None, lit<}
 use Rattle.std.specs.Prelude.{replicate}
 use Rattle.std.proofs.Math.Seq.{take-append_seam}
@@ -20,7 +20,7 @@ use Rattle.bank_lines.proofs.NumeralLemmas.{decimal_lacks, hexadecimal_lacks, la
 
 -- ---- parts
 
--- fields with commas between them are these fields
+-- fields that are joined by commas are split into these fields
 pub fields_split : (fields : List (List ℕ)) → 0 < length fields → AllByRecursion (Lacks 44) fields → cut_at 44 (join_with_byte 44 fields) ≡ fields
 fields_split [] some all = absurd (omega arith)
 fields_split (field ∷ []) some all = split_lacking 44 field all.0
@@ -120,7 +120,7 @@ first_colon (b ∷ word) rest lacks =
     let one : 1 + length word ≡ suc (length word) = omega arith in
     rw other (ap (λ (n : ℕ). 1 + n) (first_colon word rest lacks.1) ∙ one)
 
--- a digit isn't the letter by which `MCGc/s` goes on
+-- a text that goes on after `MC` without a `G` isn't the field `MCGc/s`
 pub no_global : (word rest : List ℕ) → 0 < length word → Lacks 71 word → value_after (codes "MCGc/s: ") (77 ∷ 67 ∷ (word ++ rest)) ≡ None
 no_global [] rest some lacks = absurd (omega arith)
 no_global (d ∷ word) rest some lacks =

@@ -1,4 +1,4 @@
--- No form of the event's text holds an underscore, so the mark before it is the line's last.
+-- No form of the event's text holds an underscore, so the event name before it is the line's last.
 use Rattle.std.proofs.Common.{◌≡◌, ℕ, zero, suc, ◌+◌, ◌^◌, ◌<◌, ◌==◌, ◌&&◌, Bool, true, false, if◌then◌else◌, nat_eq, List, [], ◌∷◌, ◌++◌, codes, decimal, take, drop, length, refl, sym, ap, ◌∙◌, arith, append_assoc, length-append, Option, Some, None}
 use Rattle.std.specs.Prelude.{not, replicate}
 use Rattle.std.proofs.Math.Seq.{take-append_seam}
@@ -17,7 +17,7 @@ use Rattle.bank_lines.proofs.KernelLawLemmas.{event_read, named_more, slashed_mo
 use Rattle.bank_lines.proofs.KernelLemmas.{padded_lacks}
 use Rattle.bank_lines.proofs.NumeralLemmas.{decimal_lacks, hexadecimal_lacks, lack_both, literal_lacks}
 
--- ---- what fields don't hold
+-- ---- bytes that fields lack
 
 abbrev Lit : List ℕ → Type 0
 Lit name = list_all (λ b. not (b == 95)) name ≡ true
@@ -226,7 +226,7 @@ and_first : (t u : Bool) → t ≡ false → (t && u) ≡ false
 and_first true u is = absurd cc
 and_first false u is = refl
 
--- no mark stands where the fourth byte is no underscore
+-- no event name begins where the fourth byte isn't an underscore
 starts_none : (b : ℕ) (text : List ℕ) → Lacks 95 text → starts_with nat_eq (b ∷ text) event_mark ≡ false
 starts_none b [] lacks = fails (nat_eq 109 b) true true false refl
 starts_none b (c ∷ []) lacks = fails (nat_eq 109 b) (nat_eq 99 c) true false refl
@@ -251,7 +251,7 @@ mark_behind (b ∷ before) text lacks =
     let next : length before + 1 ≡ suc (length before) = omega arith in
     ap (λ (o : Option ℕ). one_on o (starts_with nat_eq (b ∷ (before ++ (event_mark ++ text))) event_mark)) (mark_behind before text lacks) ∙ ap Some next
 
--- what is found in a line whose text behind the mark is read, and holds no underscore
+-- the finding in a line whose text after the event name is read, and has no underscore
 found_behind : (boot : ℕ) (before text : List ℕ) (e : TraceEvent) → is_traced before ≡ true → Lacks 95 text → event_in text ≡ Some e → trace_found boot (before ++ (event_mark ++ text)) ≡ event_found boot e
 found_behind boot before text e traced lacks reads =
     let line : List ℕ = before ++ (event_mark ++ text) in

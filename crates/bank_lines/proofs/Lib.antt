@@ -1,6 +1,6 @@
 pub mod LogHeadLemmas
 mod LogGroupLemmas
-mod LogFilterLemmas
+pub mod LogFilterLemmas
 mod LogRangeLemmas
 mod LogFoundLemmas
 mod LogLawLemmas
@@ -10,7 +10,7 @@ mod PartsLemmas
 mod MarkLemmas
 mod TextLemmas
 mod RangeLemmas
-mod TraceLawLemmas
+pub mod TraceLawLemmas
 pub mod KernelLemmas
 mod KernelLawLemmas
 mod KernelMarkLemmas
@@ -22,7 +22,7 @@ mod EventLemmas
 mod EdacMarkLemmas
 mod TwiceLemmas
 mod NamingLemmas
-mod CountLemmas
+pub mod CountLemmas
 pub mod LogMarkLemmas
 pub mod LogTextLemmas
 mod EdacTextLemmas

@@ -1,4 +1,4 @@
--- What `lines` prints of its input.
+-- What `lines` prints for its input.
 use Rattle.std.proofs.Common.{◌≡◌, ℕ, suc, ◌+◌, ◌^◌, ◌<◌, ◌≤◌, Bool, true, false, List, [], ◌∷◌, ◌++◌, length, take, refl, sym, ap, ◌∙◌, arith, append_assoc, length-take, None, if◌then◌else◌}
 use Rattle.std.specs.Prelude.{not, nat_lt, take_while}
 use Rattle.std.proofs.Math.Seq.{take-length}

@@ -1,4 +1,4 @@
--- The filter by the report in work makes what the groups of the lines tell.
+-- The filter, which reads line by line, prints the text of the lines' groups.
 use Rattle.std.proofs.Common.{◌≡◌, ℕ, ◌+◌, ◌==◌, ◌&&◌, Bool, true, false, not, List, [], ◌∷◌, ◌++◌, length, drop, refl, sym, ap, ◌∙◌, arith, Ok, Option, None, Some, if◌then◌else◌}
 use Rattle.std.proofs.Math.Path.{fun_ext}
 use Rattle.std.proofs.lemmas.List.{append-nil, drop_at, length-append}
@@ -39,7 +39,7 @@ added_is begun more text is = ap (drop (length begun)) is ∙ drop_at begun more
 
 -- ---- one line
 
--- the number of its line doesn't matter to a whole report by its name
+-- the text of a whole report doesn't depend on its line's number, also after the report is named
 whole_text : (n : ℕ) (counts : KeyCounts) (report : BankReport)
     → found_text n (named_found counts (Finding.Whole report)) ≡ group_text (named_found counts (Finding.Whole report))
 whole_text n counts report = by (report.tsc == 0) (number_in counts (key_of report))
@@ -54,7 +54,7 @@ torn_text : (n : ℕ) (report : BankReport)
     → found_text n (Finding.Torn report) ≡ script_of (torn_line n ∷ []) ++ group_text (Finding.Torn report)
 torn_text n report = flat_map-append (λ (line : List ℕ). line ++ 10 ∷ []) (torn_line n ∷ []) (asking_line report ∷ [])
 
--- what is told of a report, by its comment and what is found in its group
+-- the text of a finding is its comment and its group's text
 told_text : (n : ℕ) (before : Printers) (print : Print) (vendor : ℕ) (out : KlogOut)
     → found_text n (found_told before print vendor out)
     ≡ (if tells_torn vendor out then script_of (torn_line n ∷ []) else []) ++ group_text (found_told before print vendor out)
@@ -78,7 +78,7 @@ told_text n before print vendor (Told.Whole r) = by (vendor == 0) (valid (status
     by true false firmware lacks = refl
     by false is_valid firmware lacks = refl
 
--- a line's text is its comment, and what is found in its group
+-- a line's text is its comment and its group's text
 one_line : (boot cap n : ℕ) (state : LogState) (line : LogLine)
     → found_text n (log_found_at boot cap state line)
     ≡ comment_at boot cap n state.work line ++ group_text (group_found boot cap state line)
@@ -125,7 +125,7 @@ edac-push : (report : EdacReport) (before : List (List ℕ)) (line : List ℕ)
 edac-push report [] line = refl
 edac-push report (b ∷ before) line = edac-push (edac_after report (log_line_of b)) before line
 
--- what the lines tell, and what the next one tells
+-- what the lines say, and what the next line says
 abbrev told : List (List ℕ) → List LogLine
 told lines = told_lines no_edac lines
 
@@ -162,7 +162,7 @@ module _ (boot cap : ℕ) where
   over-push before line =
       ap (state_over boot cap log_at_start) (told-push no_edac before line) ∙ state-push log_at_start (told before) (next before line)
 
-  -- the texts of what is found along lines, and of one more
+  -- the groups' text after lines, and after one more
   early_is : (lines : List (List ℕ)) → early_lines boot cap lines ≡ flat_map group_text (along boot cap log_at_start (told lines))
   early_is lines = sym (at_once boot cap group_text refl at_start printed_plain no_names (told lines))
 
@@ -184,7 +184,7 @@ module _ (boot cap : ℕ) where
       ∙ ap (λ (text : List ℕ). text ++ flat_map group_text (found ∷ [])) (sym (early_is before))
       ∙ ap (λ (text : List ℕ). early_lines boot cap before ++ text) (one_text found)
 
-  -- at the end no report is whole
+  -- no report is whole at the end
   end_text : (state : LogState) → group_text (found_at_end state) ≡ found_text 0 (found_at_end state)
   end_text state = by state.work
     where
@@ -202,7 +202,7 @@ module _ (boot cap : ℕ) where
       ∙ ap (λ (text : List ℕ). text ++ flat_map group_text (found ∷ [])) (sym (early_is lines))
       ∙ ap (λ (text : List ℕ). early_lines boot cap lines ++ text) (one_text found ∙ end_text (over lines))
 
-  -- a line's text is its comment, and what it adds
+  -- a line's text is its comment and what it adds to the groups' text
   line_is : (before : List (List ℕ)) (line : List ℕ)
       → found_text (length before + 1) (log_found_at boot cap (over before) (next before line))
       ≡ comment_text boot cap before line ++ added (early_lines boot cap before) (early_lines boot cap (before ++ line ∷ []))

@@ -1,4 +1,4 @@
--- The numbers of what is found along a log are those of their types.
+-- The numbers of a log's findings fit their types.
 use Rattle.std.proofs.Common.{ℕ, ◌+◌, ◌-◌, ◌^◌, ◌<◌, ◌==◌, Bool, true, false, List, [], ◌∷◌, length, arith, if◌then◌else◌}
 use Rattle.std.specs.Prelude.{⊤}
 use Rattle.std.specs.List.{AllByRecursion}
@@ -35,7 +35,7 @@ IsStageInRange (Timed head tsc addr misc) =
 abbrev pub IsStateInRange : LogState → Type 0
 IsStateInRange state = IsStageInRange state.work
 
--- what `klog` tells
+-- the numbers of what `klog` finds fit their types
 abbrev IsToldInRange : KlogOut → Type 0
 IsToldInRange Told.Nothing = ⊤
 IsToldInRange (Told.Partial cpu bank) = (cpu < 2 ^ 16) × (bank < 2 ^ 8)
@@ -71,7 +71,7 @@ told_found_in before print vendor out v h = named_in (counts_by before print) (j
 
 -- ---- steps
 
--- what is found at each line, with the numbers of the lines after so many, and at the end
+-- the finding at each line after `taken` lines, with the line's number, and the finding at the end
 abbrev pub numbered : ℕ → ℕ → LogState → ℕ → List LogLine → List Numbered
 numbered boot cap state taken [] = record { number = 0; found = found_at_end state } ∷ []
 numbered boot cap state taken (line ∷ lines) =

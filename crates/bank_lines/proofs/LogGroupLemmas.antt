@@ -1,4 +1,4 @@
--- What is found along the lines of a log is what is found in its groups.
+-- The findings along the lines of a log are the findings of its groups.
 use Rattle.std.proofs.Common.{◌≡◌, ℕ, ◌==◌, Bool, true, false, List, [], ◌∷◌, ◌++◌, map, refl, sym, ap, ◌∙◌, Option, None, Some, if◌then◌else◌}
 use Rattle.std.specs.List.{flat_map}
 use Rattle.mca_status.specs.Registers.{valid}
@@ -50,7 +50,7 @@ module _ (boot cap : ℕ) where
 
 -- ---- along the lines
 
--- what is found in the groups at a line: nothing if it is passed over
+-- the group's finding at a line: nothing if the line is skipped
 abbrev pub group_found : ℕ → ℕ → LogState → LogLine → Finding
 group_found boot cap state (Part line print vendor) =
     if has_place state.work line
@@ -79,7 +79,7 @@ goes (Finding.Foreign vendor cpu bank) founds none = refl
 goes (Finding.Firmware cpu) founds none = refl
 goes Finding.Unread founds none = refl
 
--- also by its name
+-- a finding that isn't partial isn't partial after it is named
 partial_named : (counts : KeyCounts) (found : Finding) → is_partial found ≡ false → is_partial (named_found counts found) ≡ false
 partial_named counts (Finding.Whole report) none = by (report.tsc == 0) (number_in counts (key_of report))
   where
@@ -114,7 +114,7 @@ whole_goes before print vendor report founds =
     partial_named (counts_by before print) (judged vendor (Told.Whole report)) (partial_judged vendor report))
 
 module _ (boot cap : ℕ) where
-  -- what is found in the groups of a report in work and of the lines after it
+  -- the findings of the current report's group and of the groups in the lines after it
   abbrev pub founds_in : Stage → Print → Printers → List LogLine → List Finding
   founds_in Idle print before lines = group_founds_from boot cap before (log_groups lines)
   founds_in (Begun head) print before lines =
@@ -126,12 +126,12 @@ module _ (boot cap : ℕ) where
       found_told before print (timed_vendor (log_up_to_start lines)) told
       ∷ group_founds_from boot cap (printers_after before print (timed_vendor (log_up_to_start lines)) told) (log_groups lines)
 
-  -- what is found at each line
+  -- the finding at each line
   abbrev pub along : LogState → List LogLine → List Finding
   along state [] = []
   along state (line ∷ lines) = group_found boot cap state line ∷ along (state_after boot cap state line) lines
 
-  -- and at the end
+  -- the finding at each line, and the finding at the end
   abbrev pub to_end : LogState → List LogLine → List Finding
   to_end state [] = found_at_end state ∷ []
   to_end state (line ∷ lines) = group_found boot cap state line ∷ to_end (state_after boot cap state line) lines

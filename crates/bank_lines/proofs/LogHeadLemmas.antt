@@ -1,4 +1,4 @@
--- Where a text stands within another.
+-- Where a text occurs in another.
 use Rattle.std.proofs.Common.{◌≡◌, ℕ, zero, suc, ◌+◌, ◌-◌, ◌<◌, ◌≤◌, ◌==◌, Bool, true, false, cond, not, if◌then◌else◌, nat_eq, nat_lt, List, [], ◌∷◌, length, take, drop, get_or, refl, sym, ap, subst, ◌∙◌, arith, inl, inr, Option, Some, None, length-drop, length-take}
 use Rattle.std.proofs.Math.Seq.{take-length}
 use Rattle.std.proofs.lemmas.Bool.Decides.{nat_tests}
@@ -22,7 +22,7 @@ module _ (text : List ℕ) where
   occurs-starts : (line : List ℕ) → OccursAt line text 0 → starts_with nat_eq line text ≡ true
   occurs-starts line occurs = (bytes_eq-Decides text (take (length text) line)).1 (sym (OccursAt-part line text 0 occurs))
 
-  -- a place in a line and the place in the line with a byte before it
+  -- if a text occurs at an index of a line, it occurs one further on with one more byte in front
   further : (b : ℕ) (line : List ℕ) (k : ℕ) → OccursAt line text k → OccursAt (b ∷ line) text (suc k)
   further b line k occurs = OccursAt-from_part (b ∷ line) text (suc k) (omega (arith, occurs.fits)) (OccursAt-part line text k occurs)
 
@@ -81,11 +81,11 @@ pub rest_size : (n : ℕ) (text : List ℕ) → length (take (length text - n) (
 rest_size n text = ap length (rest_is n text) ∙ length-drop n text
 
 module _ (pivot : ℕ) (text line : List ℕ) where
-  -- no text has its byte at `pivot` before a place
+  -- no occurrence has its byte at `pivot` before this index
   abbrev pub NoneBelow : ℕ → Type 0
   NoneBelow end = (k : ℕ) → k + pivot < end → ¬ OccursAt line text k
 
-  -- a search for that byte passes no text
+  -- a search for that byte skips no occurrence
   pub none_passed : (from passed : ℕ) → pivot < length text → from + passed ≤ length line → NoneBelow from
       → ((k : ℕ) → k < passed → (get_or (take (length line - from) (drop from line)) k 0 == get_or text pivot 0) ≡ false) → NoneBelow (from + passed)
   none_passed from passed within inside before other k below occurs = elim (cases_lt (k + pivot) from) [
@@ -97,7 +97,7 @@ module _ (pivot : ℕ) (text line : List ℕ) where
         false≢true (sym (other (k + pivot - from) (omega arith)) ∙ eq-eqb _ _ byte)
   ]
 
-  -- nor does a step past a byte that no text stands round
+  -- a step past such a byte that is in no occurrence skips none
   pub none_round : (place : ℕ) → NoneBelow place → ¬ ((pivot ≤ place) × OccursAt line text (place - pivot)) → NoneBelow (place + 1)
   none_round place before not k below occurs = elim (cases_lt (k + pivot) place) [
     | inl early ↦ before k early occurs
@@ -107,7 +107,7 @@ module _ (pivot : ℕ) (text line : List ℕ) where
   pub none_at_all : pivot < length text → NoneBelow (length line) → Nowhere (OccursAt line text) 0 (length line + 1)
   none_at_all within none k low high occurs = none k (omega (arith, occurs.fits, within)) occurs
 
-  -- a text at a place, by what stands from there on
+  -- a text occurs at an index if the rest from there on begins with it
   pub starts_at : (k : ℕ) → k ≤ length line → starts_with nat_eq (drop k line) text ≡ true → OccursAt line text k
   starts_at k inside is =
       let front : text ≡ take (length text) (drop k line) = (bytes_eq-Decides text (take (length text) (drop k line))).0 is in
@@ -116,7 +116,7 @@ module _ (pivot : ℕ) (text line : List ℕ) where
   pub at_starts : (k : ℕ) → OccursAt line text k → starts_with nat_eq (drop k line) text ≡ true
   at_starts k occurs = (bytes_eq-Decides text (take (length text) (drop k line))).1 (sym (OccursAt-part line text k occurs))
 
--- what a search for a byte passes
+-- a search for a byte returns its first index
 pub passed_at : (byte : ℕ) (text : List ℕ) (place : ℕ) → Some place ≡ position (λ b. b == byte) text → (place < length text) × ((k : ℕ) → k < place → (get_or text k 0 == byte) ≡ false)
 passed_at byte text place h =
     let is = position-Some (λ b. b == byte) text place 0 (sym h) in

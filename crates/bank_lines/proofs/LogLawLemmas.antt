@@ -1,4 +1,4 @@
--- What is printed of a log, and the reports that it has.
+-- What is printed of a log, and the reports in it.
 use Rattle.std.proofs.Common.{◌≡◌, ℕ, suc, ◌+◌, ◌==◌, ◌⊎◌, inl, inr, Bool, true, false, List, [], ◌∷◌, ◌++◌, length, take, drop, refl, sym, ap, ◌∙◌, append_assoc, Option, None, Some, if◌then◌else◌, Result, Ok}
 use Rattle.std.proofs.lemmas.List.{append-nil}
 use Rattle.std.specs.List.{flat_map}
@@ -67,7 +67,7 @@ took log line report told state found old new told_is report_is found_is state_i
 
 -- ---- all that is printed
 
--- each line tells one thing
+-- as many lines are read as there are
 pub as_many : (report : EdacReport) (lines : List (List ℕ)) → length (told_lines report lines) ≡ length lines
 as_many report [] = refl
 as_many report (line ∷ lines) = ap suc (as_many (edac_after report (log_line_of line)) lines)
@@ -92,7 +92,7 @@ module _ (boot cap : ℕ) where
       ∙ ap (λ (rest : List ℕ). joined (texts_in (answers_along boot cap log_at_start 0 (told_lines no_edac lines))) ++ rest) (sym (rest_is boot cap lines))
       ∙ told_is log_at_start 0 (told_lines no_edac lines)
 
-  -- a line that is passed over has no report
+  -- a line that is skipped has no report
   report_is : (state : LogState) (line : LogLine) → report_in (log_found_at boot cap state line) ≡ report_in (group_found boot cap state line)
   report_is state Nothing = refl
   report_is state Unread = refl
@@ -130,7 +130,7 @@ plain_is : (line : LogLine) → (line ≡ Nothing) ⊎ (line ≡ Unread) → (Pl
 plain_is line (inl is) = inl (ap (λ (l : LogLine). Plain l) is)
 plain_is line (inr is) = inr (ap (λ (l : LogLine). Plain l) is)
 
--- a head that isn't the kernel's own, before each mark
+-- a line whose head isn't the kernel's own says nothing or is unread, by either prefix
 after_plain : (head marked : List ℕ) (own : Bool) → own ≡ false
     → ((if own then line_told_by printed_plain (drop (length log_mark) marked) (klog_line_of marked) else left_unread (drop (length log_mark) marked)) ≡ Nothing)
     ⊎ ((if own then line_told_by printed_plain (drop (length log_mark) marked) (klog_line_of marked) else left_unread (drop (length log_mark) marked)) ≡ Unread)
@@ -160,13 +160,13 @@ not_own line = by (mark_of line)
 
 -- ---- without such a line
 
--- a line that tells nothing leaves what is in work
+-- a line that says nothing changes no report
 told_without : (report : EdacReport) (line : MarkedLine) → (line ≡ Plain Nothing) ⊎ (line ≡ Plain Unread)
     → ((marked_told report line ≡ Nothing) ⊎ (marked_told report line ≡ Unread)) × (edac_after report line ≡ report)
 told_without report line (inl is) = rw is (inl refl, refl)
 told_without report line (inr is) = rw is (inr refl, refl)
 
--- what lines tell, with one line more among them
+-- what lines say, with one more line among them that says nothing
 more_told : (report : EdacReport) (before after : List (List ℕ)) (line : List ℕ) → (log_line_of line ≡ Plain Nothing) ⊎ (log_line_of line ≡ Plain Unread)
     → (first rest : List LogLine) × (told : LogLine) × ((told ≡ Nothing) ⊎ (told ≡ Unread))
     × (told_lines report (before ++ line ∷ after) ≡ first ++ told ∷ rest) × (told_lines report (before ++ after) ≡ first ++ rest)
@@ -223,7 +223,7 @@ never_full vendor (Told.Whole r) = by (vendor == 0) (valid (status_in r)) (r.ban
     by true false firmware lacks = refl
     by false is_valid firmware lacks = refl
 
--- the errors of one printer
+-- the counts of one printer
 abbrev of_printer : Bool → Printers → KeyCounts
 of_printer by_edac before = if by_edac then before.edac else before.kernel
 
@@ -242,7 +242,7 @@ no_more true before false = refl
 no_more false before true = refl
 no_more false before false = refl
 
--- what is found of a report counts for its printer alone
+-- a finding changes only its own printer's counts
 counts_on : (by_edac : Bool) (before : Printers) (print : Print) (found : Finding)
     → of_printer by_edac (printers_with before print found)
     ≡ (if is_by by_edac print.by_edac then counts_after (of_printer by_edac before) found else of_printer by_edac before)

@@ -1,4 +1,4 @@
--- What a line tells, by its pieces as the code cuts them.
+-- What a line says, by its pieces as the code cuts them.
 use Rattle.std.proofs.Common.{◌≡◌, ℕ, suc, ◌+◌, ◌-◌, nat_eq, Bool, true, false, List, [], ◌∷◌, ◌++◌, length, take, drop, refl, sym, ap, ◌∙◌, arith, Option, None, Some, if◌then◌else◌}
 use Rattle.std.specs.Prelude.{unwrap_or}
 use Rattle.std.specs.List.{starts_with}
@@ -41,7 +41,7 @@ pub other_is : (head text : List ℕ) (told : LogLine)
 other_is head text told own told_is =
     told_is ∙ ap (λ (holds : Bool). if holds then line_told_by printed_plain text (klog_line_after text) else left_unread text) (sym own)
 
--- a mark stands at its place
+-- a prefix begins at its index
 at_mark : (line : List ℕ) (place : ℕ) → mark_place log_mark line ≡ Some place → starts_with nat_eq (drop place line) log_mark ≡ true
 at_mark [] place found = absurd cc
 at_mark (b ∷ line) place found = by (starts_with nat_eq (b ∷ line) log_mark) refl (mark_place log_mark line) refl (at_mark line) found
@@ -68,7 +68,7 @@ plain_place line place found = by (mark_place log_mark line) (mark_place edac_ma
     by None (Some k) is = absurd cc
     by None None is = absurd cc
 
--- a line from its mark on
+-- a line from its prefix on
 marked_is : (line : List ℕ) (place : ℕ) → Some (AtPlain place) ≡ mark_of line
     → drop place line ≡ log_mark ++ take (length line - (place + 23)) (drop (place + 23) line)
 marked_is line place found =

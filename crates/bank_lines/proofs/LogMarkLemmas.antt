@@ -1,4 +1,4 @@
--- The mark of a line that kernels print is the one behind its head.
+-- In a line that kernels print, the first prefix is the one right after the head.
 use Rattle.std.proofs.Common.{◌≡◌, ℕ, zero, suc, ◌+◌, ◌-◌, ◌<◌, ◌≤◌, List, [], ◌∷◌, ◌++◌, length, drop, get_or, refl, sym, ap, ◌∙◌, arith, inl, inr, length-append, Option, None, Some}
 use Rattle.std.proofs.lemmas.Bool.{cases_lt, false≢true}
 use Rattle.memchr.specs.Find.{OccursAt}
@@ -29,13 +29,13 @@ back_at (b ∷ front) back i =
     let next : length (b ∷ front) + i ≡ suc (length front + i) = omega arith in
     ap (λ (n : ℕ). get_or (b ∷ (front ++ back)) n 0) next ∙ back_at front back i
 
--- ---- a text behind a head that doesn't have it
+-- ---- a text after a head without the prefix
 
 module _ (mark head rest : List ℕ) (none : HasNo mark head) where
   abbrev line : List ℕ
   line = head ++ (mark ++ rest)
 
-  -- it doesn't stand in the head
+  -- the prefix isn't in the head
   not_within : (k : ℕ) → k + length mark ≤ length head → OccursAt line mark k → ⊥
   not_within k fits occurs =
       let here : OccursAt head mark k = record {
@@ -44,7 +44,7 @@ module _ (mark head rest : List ℕ) (none : HasNo mark head) where
       } in
       false≢true (sym (none k) ∙ at_starts 0 mark head k here)
 
-  -- nor does it begin in the head and go on behind it, if no later byte of it is its first one
+  -- the prefix doesn't begin in the head and end after it, if its first byte doesn't come again in it
   not_across : (k : ℕ) → 0 < length mark → Lacks (get_or mark 0 0) (drop 1 mark) → k < length head → length head < k + length mark → OccursAt line mark k → ⊥
   not_across k some others low high occurs =
       let i : ℕ = length head - k in
@@ -85,7 +85,8 @@ module _ (head text : List ℕ) (none : HasNo log_mark head) (lacks : Lacks 93 t
   edac_lacks : Lacks 93 edac
   edac_lacks = lack_both 93 edac_mark text (literal_lacks 93 edac_mark refl) lacks
 
-  -- its bracket would stand in the head, and what follows it too
+  -- the kernel's prefix isn't in a line of EDAC's: its bracket would be in the head, and so would what follows the
+  -- bracket
   nowhere : (k : ℕ) → OccursAt (head ++ edac) log_mark k → ⊥
   nowhere k occurs = elim (cases_lt (k + 20) (length head)) [
     | inr behind ↦

@@ -1,4 +1,4 @@
--- The numbers of the lines of `klog` are those of their types.
+-- The numbers of the lines of `klog` fit their types.
 use Rattle.std.proofs.Common.{◌≡◌, ℕ, ◌-◌, ◌^◌, ◌<◌, ◌≤◌, ◌&&◌, Bool, true, false, List, [], ◌∷◌, refl, arith, Option, None, Some, if◌then◌else◌, is_some, nat_eq, nat_le, nat_lt, unwrap_or, codes, drop, length, take}
 use Rattle.std.specs.Prelude.{⊤}
 use Rattle.std.proofs.lemmas.Bool.Decides.{nat_tests}
@@ -27,19 +27,19 @@ use Rattle.bank_lines.specs.declared.log_line.Print.{Print}
 use Rattle.bank_lines.specs.declared.mark.LogMark.{LogMark}
 use Rattle.bank_lines.specs.declared.mark.LogMark.TheVariants.{AtPlain, AtEdac}
 
--- something that holds of what an option has
+-- a statement holds of an option's value, if there is one
 abbrev pub Each : {A : Type 0} → (A → Type 0) → Option A → Type 0
 Each P None = ⊤
 Each P (Some x) = P x
 
--- the numbers of a line of `klog`
+-- the numbers of a line of `klog` fit their types
 abbrev pub IsLineInRange : KlogLine → Type 0
 IsLineInRange (Start cpu mcg bank status) = (cpu < 2 ^ 16) × (mcg < 2 ^ 64) × (bank < 2 ^ 8) × (status < 2 ^ 64)
 IsLineInRange (Tsc tsc addr misc) = (tsc < 2 ^ 64) × (addr < 2 ^ 64) × (misc < 2 ^ 64)
 IsLineInRange (Processor seconds) = seconds < 2 ^ 64
 IsLineInRange Other = ⊤
 
--- the numbers of a line of a log
+-- the numbers of a line of a log fit their types
 abbrev pub IsLogLineInRange : LogLine → Type 0
 IsLogLineInRange (Part line print vendor) = IsLineInRange line × (vendor < 2 ^ 64)
 IsLogLineInRange line = ⊤

@@ -1,4 +1,4 @@
--- What kernels print of a machine check in their log is read, word by word.
+-- The text that kernels print of a machine check in their log is read, word by word.
 use Rattle.std.proofs.Common.{◌≡◌, ℕ, zero, suc, ◌+◌, ◌-◌, ◌^◌, ◌<◌, ◌≤◌, ◌==◌, ◌&&◌, Bool, true, false, not, nat_eq, List, [], ◌∷◌, ◌++◌, codes, decimal, take, drop, length, refl, ap, subst, ◌∙◌, arith, length-append, Option, Some, None, if◌then◌else◌}
 use Rattle.std.proofs.Math.Seq.{take-append_seam}
 use Rattle.std.proofs.lemmas.Bool.Decides.{nat_tests}
@@ -28,7 +28,7 @@ use Rattle.bank_lines.proofs.NumeralLemmas.{decimal_lacks, hexadecimal_lacks, la
 
 -- ---- words
 
--- words with spaces between them are these words
+-- words that are joined by spaces are split into these words
 pub words_split : (words : List (List ℕ)) → 0 < length words → AllByRecursion (Lacks 32) words → cut_at 32 (join_with_byte 32 words) ≡ words
 words_split [] some all = absurd (omega arith)
 words_split (word ∷ []) some all = split_lacking 32 word all.0
@@ -37,7 +37,7 @@ words_split (word ∷ next ∷ words) some all =
     ∙ ap (λ (parts : List (List ℕ)). parts ++ cut_at 32 (join_with_byte 32 (next ∷ words))) (split_lacking 32 word all.0)
     ∙ ap (λ (parts : List (List ℕ)). word ∷ parts) (words_split (next ∷ words) (omega arith) all.1)
 
--- a text up to a byte that it lacks before, and what follows
+-- a text up to its first such byte, and the text after it
 place_is : (byte : ℕ) (word rest : List ℕ) → Lacks byte word → position_or_len (λ b. b == byte) (word ++ byte ∷ rest) ≡ length word
 place_is byte [] rest lacks = let same : (byte == byte) ≡ true = grind (arith, nat_tests) in rw same refl
 place_is byte (b ∷ word) rest lacks =
@@ -72,7 +72,7 @@ colon_read most n small fits =
     ap (λ (rest : List ℕ). if pointwise nat_eq (codes ":") rest then decimal_of most (take (length whole - 1) whole) else None) behind
     ∙ ap (decimal_of most) front ∙ decimal_read most n small fits
 
--- a text without its second byte doesn't begin with `0x`
+-- a beginning of a text lacks a byte that the text lacks
 take_lacks : (byte n : ℕ) (text : List ℕ) → Lacks byte text → Lacks byte (take n text)
 take_lacks byte zero text lacks = tt
 take_lacks byte (suc n) [] lacks = tt
@@ -105,7 +105,7 @@ status_read pnd2 n small = hex_read pnd2 n small
 
 -- ---- what words lack
 
--- a byte that is in no number, and is no `0`
+-- a byte that is neither a hexadecimal digit nor `x`
 module _ (byte : ℕ) (high : 16 ≤ digit_value byte) (zero_not : ¬ (48 ≡ byte)) (x_not : ¬ (120 ≡ byte)) where
   pub hex_lacks : (driver : Driver) (n : ℕ) → n < 2 ^ 64 → Lacks byte (edac_hex driver n)
   hex_lacks skx n small = (zero_not, (x_not, hexadecimal_lacks byte n high small))
@@ -133,7 +133,7 @@ decimal_is_number n small =
     let some : (length (decimal n) == 0) ≡ false = grind (arith, nat_tests, decimal_nonempty n small) in
     rw (some, digits_pass (decimal n) (decimal_is_IsNumeral n small).0.1) refl
 
--- a text with spaces has one
+-- a text with a space isn't joined
 pub not_joined : (word rest : List ℕ) → list_all (λ b. not (b == 32)) (word ++ 32 ∷ rest) ≡ false
 not_joined [] rest = refl
 not_joined (b ∷ word) rest = by (not (b == 32)) (not_joined word rest)

@@ -1,4 +1,4 @@
--- Where the last mark of a line stands.
+-- Where a line's last event name is.
 use Rattle.std.proofs.Common.{◌≡◌, ℕ, zero, suc, ◌+◌, Bool, true, false, nat_eq, List, [], ◌∷◌, length, take, refl, sym, ap, ◌∙◌, arith, Option, Some, None, length-take}
 use Rattle.std.specs.List.{starts_with}
 use Rattle.std.proofs.lemmas.Slice.Eq.{bytes_eq-Decides}
@@ -14,14 +14,14 @@ starts-occurs line is =
 occurs-starts : (line : List ℕ) → OccursAt line event_mark 0 → starts_with nat_eq line event_mark ≡ true
 occurs-starts line occurs = (bytes_eq-Decides event_mark (take (length event_mark) line)).1 (sym (OccursAt-part line event_mark 0 occurs))
 
--- a place in a line and the place in the line with a byte before it
+-- if an event name is at an index of a line, it is one further on with one more byte in front
 further : (b : ℕ) (line : List ℕ) (k : ℕ) → OccursAt line event_mark k → OccursAt (b ∷ line) event_mark (suc k)
 further b line k occurs = OccursAt-from_part (b ∷ line) event_mark (suc k) (omega (arith, occurs.fits)) (OccursAt-part line event_mark k occurs)
 
 nearer : (b : ℕ) (line : List ℕ) (k : ℕ) → OccursAt (b ∷ line) event_mark (suc k) → OccursAt line event_mark k
 nearer b line k occurs = OccursAt-from_part line event_mark k (omega (arith, occurs.fits)) (OccursAt-part (b ∷ line) event_mark (suc k) occurs)
 
--- a mark at a line's head, if there is none behind it
+-- an event name at a line's first byte, if there is none after it
 here : (b : ℕ) (line : List ℕ) (starts : Bool) → starts_with nat_eq (b ∷ line) event_mark ≡ starts → last_mark line ≡ None → last_mark (b ∷ line) ≡ one_on None starts
 here b line starts is none =
     ap (λ (place : Option ℕ). one_on place (starts_with nat_eq (b ∷ line) event_mark)) none ∙ ap (one_on None) is

@@ -9,7 +9,7 @@ use Rattle.ras_facts.specs.declared.name.Name.{Name}
 use Rattle.ras_facts.specs.declared.name.Name.TheVariants.{Bank}
 use Rattle.bank_lines.specs.Naming.{AreDistinct, IsNamed, Mixes, capped, register_check, check_with, count_of, key_of, keys_of, name_at, names_after, names_of, second_of}
 
--- a key counts itself, and no other
+-- a key counts itself, and no other key
 counts_itself : (key : ℕ) (keys : List ℕ) → count_of key (key ∷ keys) ≡ 1 + count_of key keys
 counts_itself key keys =
     let same : (key == key) ≡ true = grind (arith, nat_tests) in
@@ -27,7 +27,7 @@ counts_more k key keys = by (k == key)
     by true = omega arith
     by false = omega arith
 
--- A name that is given later has at least the number of those before.
+-- A later name's number is at least how often its key came before.
 pub at_least : (before keys : List ℕ) (key n : ℕ) → IsNamed key n (names_after before keys) → count_of key before ≤ n
 at_least before [] key n named = elim named [ ]
 at_least before (k ∷ keys) key n (inl is) =
@@ -41,7 +41,7 @@ are_distinct before [] = tt
 are_distinct before (k ∷ keys) =
     ((λ named. omega (arith, at_least (k ∷ before) keys k (count_of k before) named, counts_itself k before)), are_distinct (k ∷ before) keys)
 
--- how often a key comes in all doesn't change as the next is taken
+-- how often a key comes in all doesn't change when the next key is taken
 counts_on : (k key : ℕ) (before keys : List ℕ)
     → count_of key (k ∷ before) + count_of key keys ≡ count_of key before + count_of key (k ∷ keys)
 counts_on k key before keys = by (k == key)
@@ -51,7 +51,7 @@ counts_on k key before keys = by (k == key)
     by true = omega arith
     by false = omega arith
 
--- A key that comes more often has each number up to there.
+-- A key that comes more often than a number gets a name with this number.
 pub is_given : (before keys : List ℕ) (key n : ℕ) → count_of key before ≤ n
     → n < count_of key before + count_of key keys → IsNamed key n (names_after before keys)
 is_given before [] key n low high = let none : ⊥ = omega (arith, low, high) in elim none [ ]
@@ -83,7 +83,7 @@ is_few before (k ∷ keys) key n (inl is) =
 is_few before (k ∷ keys) key n (inr later) =
     omega (arith, is_few (k ∷ before) keys key n later, counts_on k key before keys)
 
--- how often a key comes in two lists, one behind the other
+-- how often a key comes in two lists together
 pub counts_both : (key : ℕ) (before after : List ℕ) → count_of key (before ++ after) ≡ count_of key before + count_of key after
 counts_both key [] after = omega arith
 counts_both key (k ∷ before) after = by (k == key) (counts_both key before after)
@@ -94,7 +94,7 @@ counts_both key (k ∷ before) after = by (k == key) (counts_both key before aft
     by true on = omega (arith, on)
     by false on = on
 
--- what is in a mixture
+-- a name in a merged list is in one of the two lists
 pub of_either : (one other given : List (ℕ × ℕ)) (key n : ℕ) → Mixes one other given → IsNamed key n given
     → IsNamed key n one ⊎ IsNamed key n other
 of_either one other [] key n mixed named = elim named [ ]
@@ -157,7 +157,7 @@ keys_both before after =
     ap (map key_of) (filter-append (λ (report : BankReport). report.tsc == 0) before after)
     ∙ map-append key_of (filter (λ (report : BankReport). report.tsc == 0) before) (filter (λ (report : BankReport). report.tsc == 0) after)
 
--- the check of three registers, one by one
+-- the check can be made one register at a time
 rest_goes : (n m : ℕ) → (n % 1048573 * 18446744073709551616 + m) % 1048573 ≡ (n * 18446744073709551616 + m) % 1048573
 rest_goes n m = omega arith
 
@@ -220,7 +220,7 @@ same_names boot key k other n small less same =
     same_parts key other k n small less (ap name_cpu same) (ap name_bank same)
     (ap (λ (c : ℕ). key % 4503599627370496 * 4096 + c) (sym one) ∙ ap name_counter same ∙ ap (λ (c : ℕ). other % 4503599627370496 * 4096 + c) two)
 
--- a key's parts
+-- two equal keys have equal parts
 key_parts : (cpu bank second check other_cpu other_bank other_second other_check : ℕ)
     → bank < 256 → other_bank < 256 → second < 4294967296 → other_second < 4294967296 → check < 1048573 → other_check < 1048573
     → ((cpu * 256 + bank) * 4294967296 + second) * 1048576 + check ≡ ((other_cpu * 256 + other_bank) * 4294967296 + other_second) * 1048576 + other_check

@@ -1,4 +1,4 @@
--- What numerals don't hold, and how long they are.
+-- Which bytes numerals lack, and how long they are.
 use Rattle.std.proofs.Common.{◌≡◌, ℕ, ◌+◌, ◌*◌, ◌/◌, ◌%◌, ◌^◌, ◌<◌, ◌≤◌, ◌==◌, ◌-◌, suc, zero, cond, drop, Bool, true, false, List, [], ◌∷◌, ◌++◌, length, refl, ap, ◌∙◌, subst, arith, eq-eqb, lit<, length-append}
 use Rattle.std.specs.Prelude.{not, ◌&&◌}
 use Rattle.std.proofs.Math.ListN.{set, length-set}
@@ -14,7 +14,7 @@ use Rattle.std.proofs.lemmas.Fmt.{decimal_is_IsNumeral, digits_is_IsNumeral}
 use Rattle.ras_script.specs.LineLaws.{hexadecimal}
 use Rattle.ras_script.specs.SplittingLaws.{Lacks}
 
--- a numeral holds no byte that is no digit
+-- a numeral lacks each byte that isn't a digit
 digits_lack : (byte radix : ℕ) (word : List ℕ) → radix ≤ digit_value byte → AllDigits radix word → Lacks byte word
 digits_lack byte radix [] high all = tt
 digits_lack byte radix (c ∷ cs) high all =
@@ -32,11 +32,11 @@ pub both : {X : Type 0} (P : X → Type 0) (xs ys : List X) → AllByRecursion P
 both P [] ys one other = other
 both P (x ∷ xs) ys one other = (one.0, both P xs ys one.1 other)
 
--- two texts that lack a byte
+-- two texts lack a byte together if each lacks it
 pub lack_both : (byte : ℕ) (xs ys : List ℕ) → Lacks byte xs → Lacks byte ys → Lacks byte (xs ++ ys)
 lack_both byte xs ys one other = both (λ b. ¬ (b ≡ byte)) xs ys one other
 
--- a literal, by a test that computes
+-- a literal lacks a byte, by computing
 pub literal_lacks : (byte : ℕ) (word : List ℕ) → list_all (λ b. not (b == byte)) word ≡ true → Lacks byte word
 literal_lacks byte [] all = tt
 literal_lacks byte (b ∷ bs) all = by (b == byte) refl all (λ rest. literal_lacks byte bs rest)
@@ -45,7 +45,7 @@ literal_lacks byte (b ∷ bs) all = by (b == byte) refl all (λ rest. literal_la
     by true is all rest = absurd cc
     by false is all rest = ((λ same. grind (arith, nat_tests, is, same)), rest all)
 
--- digits are at most as many as steps are allowed
+-- there are at most as many digits as steps
 few_last : (i d : ℕ) (acc rest : List ℕ) (last : Bool) → length rest ≤ length acc + 1 + i → length (cond last (d ∷ acc) rest) ≤ length acc + suc i
 few_last i d acc rest true more = omega arith
 few_last i d acc rest false more = omega arith
@@ -60,7 +60,7 @@ pub short_numeral : (radix n : ℕ) → length (digits radix false n) ≤ 64
 unfolding digits
 short_numeral radix n = few_digits 64 radix n []
 
--- a word of a script: it holds no line feed, and is short
+-- a word of a script has no line feed, and is short
 abbrev pub WordOk : List ℕ → Type 0
 WordOk word = Lacks 10 word × (length word ≤ 64)
 
@@ -70,7 +70,7 @@ decimal_ok n small = (decimal_lacks 10 n (omega arith) small, short_numeral 10 n
 pub hexadecimal_ok : (n : ℕ) → n < 2 ^ 64 → WordOk (hexadecimal n)
 hexadecimal_ok n small = (hexadecimal_lacks 10 n (omega arith) small, short_numeral 16 n)
 
--- words with spaces between them
+-- words joined by spaces have no line feed
 pub joined_lack : (words : List (List ℕ)) → AllByRecursion WordOk words → Lacks 10 (join_with_byte 32 words)
 joined_lack [] all = tt
 joined_lack (word ∷ []) all = all.0.0
@@ -111,7 +111,7 @@ drop-set_cons out (suc j) x g h k e =
     ap (λ (m : ℕ). drop m (set out m x)) {x = suc j - 1} {y = j} (omega arith) ∙ drop-cons (set out j x) j 0 (omega (arith, length-set out j x))
     ∙ (λ t. (get_or-set_same out j x 0 k ∙ e) t ∷ drop-set-lt (suc j) out j x (omega arith) t)
 
--- what is left of a number of few digits has one digit less, and is 0 where there is room for none
+-- a number without its last digit has one digit less
 pub few_left : (rest room : ℕ) → 0 < room → rest < 16 ^ room → rest / 16 < 16 ^ (room - 1)
 few_left rest zero some small = absurd (omega arith)
 few_left rest (suc room) some small =

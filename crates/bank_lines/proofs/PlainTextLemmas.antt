@@ -1,4 +1,4 @@
--- What the kernel prints of a machine check in its own lines is read.
+-- The text that the kernel prints of a machine check in its own lines is read.
 use Rattle.std.proofs.Common.{◌≡◌, ℕ, ◌-◌, ◌^◌, ◌<◌, ◌==◌, ◌&&◌, Bool, true, false, is_some, List, [], ◌∷◌, ◌++◌, codes, decimal, drop, length, refl, sym, ap, ◌∙◌, arith, append_assoc, eqb-true, Option, Some, None, unwrap_or, if◌then◌else◌}
 use Rattle.std.proofs.Math.Seq.{take-append_seam}
 use Rattle.std.proofs.lemmas.List.{drop_at}
@@ -25,7 +25,7 @@ use Rattle.bank_lines.proofs.NumeralLemmas.{decimal_lacks, hexadecimal_lacks, li
 
 -- ---- a line
 
--- what `klog` reads of words behind the mark
+-- what `klog` reads in the words after the prefix
 klog_reads : (words : List (List ℕ)) (line : KlogLine) → 0 < length words → AllByRecursion (Lacks 32) words → told_by_words words ≡ Some line
     → klog_line_of (log_mark ++ join_with_byte 32 words) ≡ line
 klog_reads words line some spaces reads =
@@ -119,7 +119,7 @@ module _ (p : Printed) (h : IsPrinted p) (exception : Bool) where
   registers_lack =
       (literal_lacks 32 (codes "TSC") refl, (hex_lacks p.event.tsc h.numbers.1.1.0, named_lacks (codes "ADDR") p.event.addr misc_words (literal_lacks 32 (codes "ADDR") refl) h.numbers.1.1.1.1.1.1.0 (named_lacks (codes "MISC") p.event.misc ppin_words (literal_lacks 32 (codes "MISC") refl) h.numbers.1.1.1.1.1.1.1.0 (named_lacks (codes "PPIN") p.ppin ([] ∷ []) (literal_lacks 32 (codes "PPIN") refl) h.numbers.1.1.1.1.1.1.1.1.1.1.1.1.0 (tt, tt)))))
 
-  -- no other register goes by the name of one that wasn't printed
+  -- no other register has the name of a register that wasn't printed
   misc_named : (named (codes "MISC") misc_words).0 ≡ p.event.misc
   unfolding named
   misc_named = by (p.event.misc == 0) refl (p.ppin == 0)
@@ -186,7 +186,7 @@ module _ (p : Printed) (h : IsPrinted p) (exception : Bool) where
       ap (λ (is : Bool). provided is (read_then (decimal_of (2 ^ 64 - 1) (decimal p.event.seconds)) (λ seconds. Some (Klog.Processor seconds)))) is_processor
       ∙ ap (λ (o : Option ℕ). read_then o (λ seconds. Some (Klog.Processor seconds))) (decimal_read (2 ^ 64 - 1) p.event.seconds (omega (arith, h.numbers.1.0)) (omega arith))
 
-  -- what stands behind the vendor
+  -- the text after the time
   abbrev behind_time : List ℕ
   behind_time = codes "SOCKET" ++ 32 ∷ (decimal p.socket ++ 32 ∷ (codes "APIC" ++ 32 ∷ (hexadecimal p.apic ++ 32 ∷ (codes "microcode" ++ 32 ∷ hexadecimal p.microcode))))
 
@@ -211,7 +211,7 @@ module _ (p : Printed) (h : IsPrinted p) (exception : Bool) where
       ∙ ap (decimal_of (2 ^ 64 - 1)) (up_to_is 58 vendor (id ++ 32 ∷ behind_vendor) vendor_no_colon)
       ∙ vendor_reads
 
-  -- ---- the three lines, each behind a head
+  -- ---- the three lines, each after a head
 
   module _ (head : List ℕ) (own : is_own head ≡ true) (none : HasNo log_mark head) where
     pub start_line : log_line_of (head ++ (log_mark ++ join_with_byte 32 (plain_start exception p))) ≡ Plain (Part (Klog.Start p.event.cpu p.event.mcg p.event.bank p.event.status) printed_plain 0)

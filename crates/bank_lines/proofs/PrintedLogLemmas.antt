@@ -30,7 +30,7 @@ step : (report : EdacReport) (line : List ℕ) (marked : MarkedLine) (lines : Li
 step report line marked lines is = ap (λ (m : MarkedLine). marked_told report m ∷ told_lines (edac_after report m) lines) is
 
 module _ (cpu mcg bank status tsc addr misc vendor seconds : ℕ) where
-  -- the told lines of a report of EDAC, and of the kernel's own
+  -- the lines of EDAC's report, and of the kernel's own, as they are read
   abbrev edac_told : Print → Print → Print → List LogLine → List LogLine
   edac_told first second third more =
       Part (Klog.Start cpu mcg bank status) first 0 ∷ Nothing ∷ Nothing ∷ Part (Klog.Tsc tsc addr misc) second 0 ∷ Part (Klog.Processor seconds) third vendor ∷ more
@@ -63,7 +63,7 @@ module _ (cpu mcg bank status tsc addr misc vendor seconds : ℕ) where
       step Stage.Idle l1 _ (l2 ∷ []) e1
       ∙ ap (λ (t : List LogLine). Part (Klog.Tsc tsc addr misc) printed_plain 0 ∷ t) (step Stage.Idle l2 _ [] e2))
 
-  -- their report
+  -- the report that these lines give
   module _ (boot cap : ℕ) where
     abbrev report : BankReport
     report = bank_of_group boot cap (record { cpu = cpu; mcg = mcg; bank = bank; status = status }) tsc addr misc seconds

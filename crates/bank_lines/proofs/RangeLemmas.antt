@@ -37,7 +37,7 @@ once_some : {A : Type 0} (P : A → Type 0) (told read : Option A) → IfSome re
 once_some P None read within = within
 once_some P (Some told) read within = tt
 
--- a part by its name, or what else it tells
+-- a part is read by its name, or else by the other names
 choice : {A B : Type 0} (P : A → Type 0) (Q : B → Type 0) (tell : A → Option B) (value : Option A) (rest : Option B)
     → IfSome value P → ((v : A) → P v → IfSome (tell v) Q) → IfSome rest Q → IfSome (option_map_or tell value rest) Q
 choice P Q tell None rest value told more = more

@@ -29,7 +29,7 @@ use Rattle.bank_lines.proofs.NumeralLemmas.{WordOk, both, decimal_ok, hexadecima
 pub bank_read : (report : BankReport) → IsBankInRange report → line_of (asking_line report) ≡ Ok (asks.Report (Bank report))
 bank_read report within = text_read (asks.Report (Bank report)) within
 
--- a line that begins with `#` and a space
+-- a line that begins with `#` and a space is a comment
 comment : (rest : List ℕ) → line_of (35 ∷ 32 ∷ rest) ≡ Ok asks.Nothing
 comment rest = ap line_of_words (words_separated (35 ∷ []) rest)
 
@@ -56,7 +56,7 @@ each_read numbered within = each_of numbered.number numbered.found within.1
 
 -- ---- the lines of the text
 
--- a line that is printed: it holds no line feed, and is short
+-- a printed line has no line feed, and is short
 abbrev LineOk : List ℕ → Type 0
 LineOk line = Lacks 10 line × (length line ≤ LONGEST_LINE)
 
@@ -68,13 +68,13 @@ bank_ok report within =
     let all : AllByRecursion WordOk words = (name, (decimal_ok report.boot n.0, (decimal_ok report.seconds n.1.0, (decimal_ok report.cpu (omega (arith, within.1)), (decimal_ok report.bank (omega (arith, within.2)), (decimal_ok report.tsc n.1.1.0, (hexadecimal_ok report.cap n.1.1.1.0, (hexadecimal_ok report.mcg n.1.1.1.1.0, (hexadecimal_ok report.status n.1.1.1.1.1.0, (hexadecimal_ok report.addr n.1.1.1.1.1.1.0, (hexadecimal_ok report.misc n.1.1.1.1.1.1.1.0, tt))))))))))) in
     (joined_lack words all, omega (arith, joined_short words all))
 
--- a text and a number after it
+-- a text with a number after it has no line feed, and is short
 number_after : (text : List ℕ) (n most : ℕ) → Lacks 10 text → length text ≤ most → n < 2 ^ 64 → Lacks 10 (text ++ decimal n) × (length (text ++ decimal n) ≤ most + 64)
 number_after text n most lacks short small =
     let ok : WordOk (decimal n) = decimal_ok n small in
     (lack_both 10 text (decimal n) lacks ok.0, omega (arith, ok.1, length-append text (decimal n)))
 
--- and a literal after it
+-- a text with a literal after it has no line feed, and is short
 literal_after : (text word : List ℕ) (most : ℕ) → Lacks 10 text × (length text ≤ most) → Lacks 10 word → length word ≤ 20 → Lacks 10 (text ++ word) × (length (text ++ word) ≤ most + 20)
 literal_after text word most ok lacks short =
     (lack_both 10 text word ok.0 lacks, omega (arith, ok.1, length-append text word))
@@ -147,7 +147,7 @@ lines_cut (line ∷ lines) all =
 pub lines_read : (founds : List Numbered) → AllByRecursion IsFoundInRange founds → lines_of (printed founds) ≡ printed_lines founds
 lines_read founds within = ap lines_of (printed_is founds) ∙ lines_cut (printed_lines founds) (all_ok founds within)
 
--- ---- what they ask for
+-- ---- what the lines ask for
 
 asks_both : (xs ys : List (List ℕ)) → asks_in (xs ++ ys) ≡ asks_in xs ++ asks_in ys
 asks_both xs ys = ap (filter is_asking) (map-append line_of xs ys) ∙ filter-append is_asking (map line_of xs) (map line_of ys)

@@ -1,4 +1,4 @@
--- A line that has no place in the report in work changes nothing.
+-- A line that has no place in the current report changes nothing.
 use Rattle.std.proofs.Common.{◌≡◌, ℕ, false, refl}
 use Rattle.ras_klog.specs.Stages.{has_place, out_at, stage_after}
 use Rattle.ras_klog.specs.declared.line.KlogLine.{KlogLine}

@@ -2,18 +2,18 @@
 use Rattle.std.proofs.Common.{◌≡◌, ℕ, List, [], ◌∷◌, ◌++◌, codes, refl, ap, ◌∙◌, append_assoc, Result, Ok, Err, OnOk}
 use Rattle.std.specs.List.{join_with_byte}
 
--- two pieces, one after the other, if the second was put there
+-- two pieces, one after the other, if the second is appended to the first
 pub two_pieces : {A E : Type 0} (old a b c d first second : List ℕ) (result : Result A E)
     → first ≡ old ++ a ++ b → OnOk result (second ≡ first ++ c ++ d) → OnOk result (second ≡ old ++ (a ++ b ++ c ++ d))
 two_pieces old a b c d first second (Ok done) one two =
     two ∙ ap (λ (t : List ℕ). t ++ c ++ d) one ∙ simp append_assoc refl
 two_pieces old a b c d first second (Err why) one two = tt
 
--- a text that ends with a rest, by the text before its last piece
+-- a text that ends with a rest, seen from before its last piece
 before_piece : (last text before piece rest : List ℕ) → last ≡ text ++ rest → text ≡ before ++ piece → last ≡ before ++ (piece ++ rest)
 before_piece last text before piece rest ends is = ends ∙ ap (λ (t : List ℕ). t ++ rest) is ∙ append_assoc before piece rest
 
--- the words of a report
+-- the words of a report's line
 pub report_pieces : {A E : Type 0} (old boot seconds cpu bank tsc cap mcg status addr misc : List ℕ)
     → (t1 t2 t3 t4 t5 t6 t7 t8 t9 last : List ℕ) (result : Result A E)
     → t1 ≡ old ++ codes "bank " ++ boot → t2 ≡ t1 ++ codes " " ++ seconds → t3 ≡ t2 ++ codes " " ++ cpu → t4 ≡ t3 ++ codes " " ++ bank → t5 ≡ t4 ++ codes " " ++ tsc

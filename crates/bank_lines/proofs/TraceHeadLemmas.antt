@@ -1,4 +1,4 @@
--- The heads that tracers print give their stamps.
+-- Text that tracers print before an event is recognized as theirs, and gives its time stamp.
 use Rattle.std.proofs.Common.{◌≡◌, ℕ, zero, suc, ◌+◌, ◌-◌, ◌*◌, ◌^◌, ◌<◌, ◌≤◌, ◌==◌, ◌&&◌, ◌||◌, Bool, true, false, not, nat_eq, nat_le, nat_lt, List, [], ◌∷◌, ◌++◌, codes, decimal, take, drop, length, get_or, refl, sym, ap, ◌∙◌, arith, append_assoc, length-append, Some}
 use Rattle.std.specs.Prelude.{replicate, slice_index, if◌then◌else◌}
 use Rattle.std.proofs.Math.Seq.{take-append_seam}
@@ -106,7 +106,7 @@ module _ (seconds micros : ℕ) (most : seconds ≤ 18446744073708) (low : micro
   stamp_is : stamp_word ≡ before ++ 46 ∷ (six_micros ++ 58 ∷ [])
   stamp_is = append_assoc before (46 ∷ six_micros) (58 ∷ [])
 
-  -- its pieces
+  -- the pieces of the stamp's word
   point_at : slice_index stamp_word (length before) ≡ 46
   point_at = ap (λ (text : List ℕ). get_or text (length before) 0) stamp_is ∙ at before (six_micros ++ 58 ∷ [])
     where
@@ -144,7 +144,7 @@ module _ (seconds micros : ℕ) (most : seconds ≤ 18446744073708) (low : micro
       ap (λ (i : ℕ). decimal_of 999999 (take 6 (drop (i + 1) stamp_word))) point ∙ ap (decimal_of 999999) micros_are ∙ six_read micros low in
       rw (enough, is_point, is_colon, seconds_read, micros_read) refl
 
-  -- it is what a clock shows
+  -- the clock's word is recognized
   has_some : (word rest : List ℕ) → 0 < length word → list_all (λ b. is_digit b 10) word ≡ true → has_digit (word ++ rest) ≡ true
   has_some [] rest some all = absurd (omega (arith, some))
   has_some (b ∷ word) rest some all = by (is_digit b 10) all
@@ -210,7 +210,7 @@ and_false false u is = refl
 
 -- ---- a name in columns
 
--- the bytes up to this place aren't `-`
+-- none of the first 16 bytes is `-`
 abbrev pub NoDash : List ℕ → Type 0
 NoDash text = (i : ℕ) → i < 16 → ¬ (slice_index text i ≡ 45)
 
@@ -246,7 +246,7 @@ module _ (front tail : List ℕ) (plain : NoDash tail) where
       let few : nat_lt 17 (length front) ≡ false = grind (arith, nat_tests, short) in
       rw few refl
 
-  -- the byte in the column of the `-`, of a front that doesn't reach it
+  -- the byte in the column of the `-`, after a front that doesn't reach it
   plain_there : length front ≤ 16 → ¬ (slice_index whole 16 ≡ 45)
   plain_there short is =
       let right : get_or whole 16 0 ≡ get_or (32 ∷ tail) (16 - length front) 0 = get_or-append_right front (32 ∷ tail) 16 0 short in
@@ -293,7 +293,7 @@ module _ (front tail : List ℕ) (plain : NoDash tail) where
       by true = drop-append-le 17 front (32 ∷ tail) (omega (arith, long))
       by false = refl
 
-  -- what is behind the name, of a text that goes on behind its front
+  -- the text after the name, if a text continues after its front
   pub named_front : behind_name whole ≡ behind_name front ++ 32 ∷ tail
   named_front = by (nat_le (length front) 17) refl
     where
@@ -313,7 +313,7 @@ system_lacks trace_pipe = tt
 system_lacks trace_cmd = tt
 system_lacks perf = literal_lacks 45 (codes "mce:") refl
 
--- a name in the 16 columns, and a number behind it
+-- a name in the 16 columns, followed by a number
 pub behind_columns : (name rest : List ℕ) → length name ≡ 16 → is_digit (slice_index rest 0) 10 ≡ true → behind_name (name ++ 45 ∷ rest) ≡ rest
 behind_columns name [] long digit = absurd cc
 behind_columns name (d ∷ rest) long digit =
@@ -344,11 +344,11 @@ module _ (tracer : Tracer) (front : List ℕ) (seconds micros spaces : ℕ) (is 
   abbrev head : List ℕ
   head = head_of tracer front seconds micros spaces
 
-  -- the clock and what follows it
+  -- the clock and the text after it
   abbrev tail : List ℕ
   tail = shows ++ (mark ++ behind)
 
-  -- the front behind a name in columns, up to the colon, and with what follows it
+  -- the front after a name in columns, up to the colon, and with the text after it
   abbrev unnamed : List ℕ
   unnamed = behind_name front
 
@@ -379,7 +379,7 @@ module _ (tracer : Tracer) (front : List ℕ) (seconds micros spaces : ℕ) (is 
   pub last_is : last_word [] (cut_at 32 timed) ≡ shows
   last_is = ap (last_word []) timed_words ∙ last_behind [] (cut_at 32 unnamed) shows
 
-  -- no colon with a space behind it stands before
+  -- no colon that a space follows comes before the clock's
   clock_no_colon : Lacks 58 shows
   clock_no_colon = clock_lacks seconds micros is.most is.six 58 (omega arith) (λ (e : ◌≡◌ {A = ℕ} 48 58). omega (arith, e)) (λ (e : ◌≡◌ {A = ℕ} 46 58). omega (arith, e))
 
@@ -435,7 +435,7 @@ module _ (name rest : List ℕ) (process seconds micros : ℕ) (short : length n
       by [] some all = absurd (omega (arith, some))
       by (c ∷ word) some all = both_true (is_digit c 10) (list_all (λ c. is_digit c 10) word) all
 
-  -- no colon with a space behind it is in a text that has no colon, or in a text behind it
+  -- a text without a colon in front adds no colon that a space follows
   none_joined : (text : List ℕ) → Lacks 58 text → HasNo (codes ": ") ((text ++ 32 ∷ rest) ++ 32 ∷ [])
   none_joined [] lacks zero = refl
   none_joined [] lacks (suc place) = none place

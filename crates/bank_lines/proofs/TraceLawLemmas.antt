@@ -1,4 +1,4 @@
--- What holds of the lines of a trace.
+-- Laws on the lines of a trace.
 use Rattle.std.proofs.Common.{◌≡◌, ℕ, ◌+◌, ◌^◌, ◌<◌, ◌≤◌, ◌==◌, ◌⊎◌, inl, inr, Bool, true, false, List, [], ◌∷◌, ◌++◌, length, map, take, drop, refl, sym, ap, ◌∙◌, arith, Option, Some, None, Result, Ok, if◌then◌else◌}
 use Rattle.std.specs.List.{AllByRecursion}
 use Rattle.std.specs.Option.{option_map_or}
@@ -56,8 +56,8 @@ no_report boot line (inr is) = ap report_in is
 
 -- ---- names
 
--- nothing is found full in a line by itself
-never_full : (boot : ℕ) (line : List ℕ) → is_full (trace_found boot line) ≡ false
+-- the finding of a line by itself is never `Full`
+pub never_full : (boot : ℕ) (line : List ℕ) → is_full (trace_found boot line) ≡ false
 never_full boot line = by (last_mark line)
   where
     held : (r : BankReport) (holds firmware : Bool) → is_full (if holds then (if firmware then Firmware r.cpu else Whole r) else Nothing) ≡ false

@@ -1,4 +1,4 @@
--- An error that EDAC prints, and then the kernel, is found twice under one name.
+-- An error that first EDAC prints, and then the kernel, is found twice under one name.
 use Rattle.std.proofs.Common.{◌≡◌, ℕ, Bool, true, false, List, ◌∷◌, refl, sym, ap, ◌∙◌, if◌then◌else◌}
 use Rattle.ras_facts.specs.declared.bank.BankReport.{BankReport}
 use Rattle.ras_klog.specs.declared.state.KlogOut.{KlogOut}
@@ -9,7 +9,7 @@ use Rattle.bank_lines.specs.declared.found.Finding.{Finding}
 use Rattle.bank_lines.specs.declared.log_line.Print.{Print}
 use Rattle.bank_lines.specs.declared.log_state.Printers.{Printers}
 
--- what EDAC printed counts for EDAC, and the kernel's for the kernel
+-- EDAC's reports count for EDAC, and the kernel's for the kernel
 edac_counts : (before : Printers) (print : Print) (found : Finding) → print.by_edac ≡ true
     → ((printers_with before print found).edac ≡ counts_after before.edac found) × ((printers_with before print found).kernel ≡ before.kernel)
 edac_counts before print (Finding.Whole report) is = rw is (refl, refl)
@@ -32,7 +32,7 @@ kernel_counts before print (Finding.Foreign vendor cpu bank) is = (refl, refl)
 kernel_counts before print (Finding.Firmware cpu) is = (refl, refl)
 kernel_counts before print Finding.Unread is = (refl, refl)
 
--- the second text's report is the first one's
+-- the second text's finding is the first text's
 pub found_again : (before : Printers) (edac plain : Print) (vendor : ℕ) (report : BankReport) → before.edac ≡ before.kernel
     → edac.by_edac ≡ true → plain.by_edac ≡ false
     → found_told (printers_after before edac vendor (Told.Whole report)) plain vendor (Told.Whole report) ≡ found_told before edac vendor (Told.Whole report)

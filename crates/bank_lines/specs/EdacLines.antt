@@ -1,6 +1,5 @@
--- What the drivers of EDAC for Intel's memory controllers print of a machine check: skx_edac and i10nm_edac
--- (drivers/edac/skx_common.c), sb_edac.c and pnd2_edac.c. The first two print `0x` before a number in
--- hexadecimal.
+-- The lines that EDAC's drivers for Intel's memory controllers print of a machine check: skx_edac and i10nm_edac
+-- (drivers/edac/skx_common.c), sb_edac.c and pnd2_edac.c. The first two print `0x` before a number in hexadecimal.
 use Rattle.std.specs.Prelude.{ℕ, ◌-◌, ◌^◌, ◌||◌, Bool, List, [], ◌∷◌, codes, drop, length, nat_lt, Option, Some, is_some, if◌then◌else◌}
 use Rattle.std.specs.List.{list_all, list_any}
 use Rattle.std.specs.Option.{option_map, option_map_or}
@@ -12,17 +11,17 @@ use Rattle.bank_lines.specs.Parts.{cut_at, value_after}
 use Rattle.bank_lines.specs.declared.edac_line.EdacLine.{EdacLine}
 use Rattle.bank_lines.specs.declared.edac_line.EdacLine.TheVariants.{Start, Tsc, Addr, Misc, Processor}
 
--- ---- what stands before a line's words
+-- ---- the text before a line's words
 
--- what begins a line of EDAC
+-- the prefix of EDAC's lines
 abbrev pub edac_mark : List ℕ
 edac_mark = codes "EDAC "
 
--- the drivers, as they name themselves; i10nm_edac prints as skx_edac does
+-- whether a driver prints this name; i10nm_edac prints the name that skx_edac prints
 abbrev pub is_driver : List ℕ → Bool
 is_driver name = bytes_eq name (codes "skx") || (bytes_eq name (codes "sbridge") || bytes_eq name (codes "pnd2"))
 
--- what follows `<driver> MC<number>: `
+-- the text after `<driver> MC<number>: `
 abbrev pub driver_text : List ℕ → Option (List ℕ)
 driver_text text =
     provided (is_driver (up_to 32 text)) (read_then (value_after (codes "MC") (after 32 text)) (λ named.
@@ -30,28 +29,28 @@ driver_text text =
 
 -- ---- words
 
--- a number in hexadecimal, behind `0x` or not
+-- a hexadecimal number, with or without `0x` before it
 unfoldable pub edac_number : List ℕ → Option ℕ
 edac_number word = hexadecimal_of (option_map_or (λ digits. digits) (value_after (codes "0x") word) word)
 
--- `Event:` or `Exception:`
+-- whether a word is `Event:` or `Exception:`
 abbrev pub is_check : List ℕ → Bool
 is_check word = bytes_eq word (codes "Event:") || bytes_eq word (codes "Exception:")
 
--- the vendor's number of `<vendor>:<id>`
+-- the vendor's number in `<vendor>:<id>`
 abbrev pub edac_vendor : List ℕ → Option ℕ
 edac_vendor word =
     provided (is_some (edac_number (after 58 word))) (decimal_of (2 ^ 64 - 1) (up_to 58 word))
 
--- ---- lines, behind their first word
+-- ---- lines, after their first word
 
--- `<register>`, and then nothing but spaces
+-- `<register>`, followed only by spaces
 unfoldable pub edac_register : List (List ℕ) → Option ℕ
 edac_register words =
     read_then (edac_number (word words 0)) (λ register.
     provided (list_all is_empty (drop 1 words)) (Some register))
 
--- `<mcg> Bank <bank>: <status>`, and then nothing but spaces
+-- `<mcg> Bank <bank>: <status>`, followed only by spaces
 unfoldable pub edac_bank : ℕ → List (List ℕ) → Option EdacLine
 edac_bank cpu words =
     read_then (edac_number (word words 0)) (λ mcg.
@@ -59,7 +58,7 @@ edac_bank cpu words =
     read_then (colon_number 255 (word words 2)) (λ bank.
     read_then (edac_register (drop 3 words)) (λ status. Some (Start cpu mcg bank status)))))
 
--- `<cpu>: Machine Check Event: ` or `<cpu>: Machine Check Exception: `, and then the bank
+-- `<cpu>: Machine Check Event: ` or `<cpu>: Machine Check Exception: `, followed by the bank
 unfoldable pub edac_start : List (List ℕ) → Option EdacLine
 edac_start words =
     read_then (colon_number 65535 (word words 0)) (λ cpu.
@@ -67,8 +66,8 @@ edac_start words =
     provided (bytes_eq (word words 2) (codes "Check")) (
     provided (is_check (word words 3)) (edac_bank cpu (drop 4 words)))))
 
--- `<vendor>:<id> TIME <seconds>`, and then at least a space: the kernel prints more, so a line that ends
--- with the time is cut
+-- `<vendor>:<id> TIME <seconds>`, followed by at least one space: the kernel prints more, so a line that ends with
+-- the time was cut off
 unfoldable pub edac_processor : List (List ℕ) → Option EdacLine
 edac_processor words =
     read_then (edac_vendor (word words 0)) (λ vendor.
@@ -78,13 +77,13 @@ edac_processor words =
 
 -- ---- a line
 
--- whether a text begins as a line of a report
+-- whether a text begins like a line of a report
 abbrev pub is_of_edac : List ℕ → Bool
 is_of_edac text =
     list_any (λ kind. bytes_eq (up_to 32 text) kind)
     (codes "CPU" ∷ codes "TSC" ∷ codes "ADDR" ∷ codes "MISC" ∷ codes "PROCESSOR" ∷ [])
 
--- a line by its words: the first says which kind it is
+-- the line that these words give; the first word is its kind
 abbrev pub edac_by_words : List (List ℕ) → Option EdacLine
 edac_by_words words =
     let kind = word words 0 in

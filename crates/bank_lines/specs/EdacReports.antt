@@ -1,4 +1,4 @@
--- The reports that EDAC prints, told as the kernel's own text of the same registers.
+-- EDAC's reports, converted to the lines that the kernel itself prints of the same registers.
 use Rattle.std.specs.Prelude.{ℕ, true, List, [], ◌∷◌}
 use Rattle.ras_klog.specs.declared.line.KlogLine.TheVariants as Klog
 use Rattle.bank_lines.specs.LogLines.{log_line_of}
@@ -12,16 +12,16 @@ use Rattle.bank_lines.specs.declared.log_line.MarkedLine.{MarkedLine}
 use Rattle.bank_lines.specs.declared.log_line.MarkedLine.TheVariants.{Plain, Edac}
 use Rattle.bank_lines.specs.declared.log_line.Print.{Print}
 
--- Before a log's first line no report of EDAC is in work.
+-- Before a log's first line EDAC has begun no report.
 abbrev pub no_edac : EdacReport
 no_edac = Idle
 
 abbrev pub printed_by_edac : Print
 printed_by_edac = record { by_edac = true }
 
--- What a line of EDAC's tells, by the report in work: a report begins; its counter, its address and its
--- other register come in this order, and are told as one line by the last; and then its time. A line that
--- comes otherwise can't be read.
+-- What a line of EDAC's says, given how far EDAC's current report has come. A report begins; its counter, its address
+-- and its other register follow in this order, and give one line once the last has come; then comes its time. A line
+-- out of this order can't be read.
 abbrev pub edac_told : EdacReport → EdacLine → LogLine
 edac_told report (Start cpu mcg bank status) = Part (Klog.Start cpu mcg bank status) printed_by_edac 0
 edac_told Begun (Tsc tsc) = Nothing
@@ -38,7 +38,7 @@ edac_next (Placed tsc addr) (Misc misc) = Told
 edac_next Told (Processor vendor seconds) = Idle
 edac_next report line = report
 
--- A line with the kernel's own text doesn't go on a report of EDAC. A report may begin with it.
+-- A line of the kernel's own text never continues a report of EDAC's. It may begin a report.
 abbrev pub plain_told : EdacReport → LogLine → LogLine
 plain_told report (Part (Klog.Start cpu mcg bank status) print vendor) = Part (Klog.Start cpu mcg bank status) print vendor
 plain_told Idle (Part line print vendor) = Part line print vendor
@@ -49,7 +49,7 @@ abbrev pub plain_next : EdacReport → LogLine → EdacReport
 plain_next report (Part (Klog.Start cpu mcg bank status) print vendor) = Idle
 plain_next report line = report
 
--- what a line tells, and what is in work after it
+-- what a line says, and EDAC's current report after it
 abbrev pub marked_told : EdacReport → MarkedLine → LogLine
 marked_told report (Plain line) = plain_told report line
 marked_told report (Edac line) = edac_told report line
@@ -58,7 +58,7 @@ abbrev pub edac_after : EdacReport → MarkedLine → EdacReport
 edac_after report (Plain line) = plain_next report line
 edac_after report (Edac line) = edac_next report line
 
--- what the lines of a log tell, in order, and what is in work after them
+-- what a log's lines say, in order, and EDAC's current report after them
 abbrev pub told_lines : EdacReport → List (List ℕ) → List LogLine
 told_lines report [] = []
 told_lines report (line ∷ lines) =

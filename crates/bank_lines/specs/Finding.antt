@@ -1,4 +1,4 @@
--- What is found in the input.
+-- What a filter finds in its input.
 use Rattle.std.specs.Prelude.{ℕ, ◌-◌, ◌<◌, ◌==◌, ◌&&◌, ◌^◌, Bool, true, false, List, [], ◌∷◌, if◌then◌else◌}
 use Rattle.std.specs.List.{flat_map}
 use Rattle.mca_status.specs.Registers.{address_valid, valid}
@@ -9,25 +9,24 @@ use Rattle.bank_lines.specs.declared.found.Finding.{Finding}
 use Rattle.bank_lines.specs.declared.found.Finding.TheVariants.{Nothing, Whole, Torn, Full, Partial, Foreign, Firmware, Unread}
 use Rattle.bank_lines.specs.declared.found.TheConstants.{FIRMWARE_BANK}
 
--- What is found of a whole report of an Intel processor, if this is what is found of an error: nothing if
--- its bank holds none. No processor has bank 255: Linux makes up a report of it for each memory error that
--- the firmware reports.
+-- The finding of a whole report of an Intel processor: `found` if its bank holds an error, else nothing. No processor
+-- has bank 255: Linux makes up a report of it for each memory error that the firmware reports.
 abbrev pub held : BankReport → Finding → Finding
 held report found =
     if valid (status_in report)
     then (if report.bank == FIRMWARE_BANK then Firmware report.cpu else found) else Nothing
 
--- what is found of a whole report of a trace
+-- the finding of a whole report of a trace
 abbrev pub found_of : BankReport → Finding
 found_of report = held report (Whole report)
 
 -- ---- a report of a log that lacks its address
 
--- its status says that there is an address, and none came
+-- whether the status says that there is an address, and no address came
 abbrev pub lacks_address : BankReport → Bool
 lacks_address report = address_valid (status_in report) && report.addr == 0
 
--- the report with ADDRV 0, bit 58 of its status
+-- the report with ADDRV, bit 58 of its status, set to 0
 abbrev pub without_address : BankReport → BankReport
 without_address report = record report { status = report.status - 2 ^ 58 }
 
@@ -38,29 +37,29 @@ abbrev pub is_torn : Finding → Bool
 is_torn (Torn report) = true
 is_torn found = false
 
--- what is found of a whole report of a log
+-- the finding of a whole report of a log
 abbrev pub log_found_of : BankReport → Finding
 log_found_of report = held report (torn_or_whole report)
 
 -- ---- all that was found
 
--- what was found, and the number of the line at which it was
+-- a finding, and the number of the line at which it was made
 pub record Numbered : Type 0 where
   pub number : ℕ
   pub found : Finding
 
--- a whole report, if this is one
+-- the whole report of a finding, if it has one
 abbrev pub report_in : Finding → List BankReport
 report_in (Whole report) = report ∷ []
 report_in (Torn report) = report ∷ []
 report_in (Full report) = report ∷ []
 report_in found = []
 
--- the whole reports, in order
+-- the whole reports of findings, in order
 abbrev pub reports_in : List Numbered → List BankReport
 reports_in founds = flat_map (λ (numbered : Numbered). report_in numbered.found) founds
 
--- the numbers fit their types
+-- whether the numbers of a finding fit their types
 abbrev pub IsInTypes : Finding → Type 0
 IsInTypes Nothing = Unit {0}
 IsInTypes (Whole report) = IsBankInRange report

@@ -4,7 +4,7 @@ use Rattle.std.specs.List.{AllByRecursion, join_with_byte}
 use Rattle.ras_script.specs.LineLaws.{hexadecimal}
 use Rattle.bank_lines.specs.declared.event.TraceEvent.{TraceEvent}
 
--- what the kernel prints of an event: what is read, and what is passed over
+-- all that the kernel prints of an event: the numbers that are read, and those that are skipped
 pub record Printed : Type 0 where
   pub event : TraceEvent
   pub ipid : ℕ
@@ -16,7 +16,7 @@ pub record Printed : Type 0 where
   pub socket : ℕ
   pub apic : ℕ
   pub microcode : ℕ
-  -- the last of the 16 bytes of vendor data, and those before it
+  -- the last of the 16 bytes of vendor data, and the bytes before it
   pub byte : ℕ
   pub bytes : List ℕ
 
@@ -33,9 +33,9 @@ padded width n = replicate (width - length (hexadecimal n)) 48 ++ hexadecimal n
 abbrev pub register : ℕ → List ℕ
 register n = padded 16 n
 
--- ---- fields, each without the comma that stands between two of them
+-- ---- fields, without the commas between them
 
--- what all forms begin with
+-- the fields with which each form begins, and `more` after them
 abbrev pub first_fields : Printed → List (List ℕ) → List (List ℕ)
 first_fields p more =
     (codes "CPU: " ++ decimal p.event.cpu)
@@ -59,7 +59,7 @@ slashed_fields p = first_fields p (
     ∷ (codes " APIC: " ++ hexadecimal p.apic)
     ∷ [])
 
--- the fields of the second form, and these after them
+-- the fields of the second form, and `more` after them
 abbrev pub named_fields : Printed → List (List ℕ) → List (List ℕ)
 named_fields p more = first_fields p (
     (codes " ADDR: " ++ register p.event.addr)
@@ -76,8 +76,7 @@ named_fields p more = first_fields p (
     ∷ (codes " microcode: " ++ hexadecimal p.microcode)
     ∷ more)
 
--- The bytes of vendor data. They stand in braces, and the commas between them are no other than
--- those between fields.
+-- The bytes of vendor data, in braces. Commas separate them, as they separate fields.
 abbrev pub data_from : ℕ → List ℕ → List (List ℕ)
 data_from byte [] = (codes "0x" ++ (hexadecimal byte ++ codes "}")) ∷ []
 data_from byte (first ∷ bytes) = (codes "0x" ++ hexadecimal first) ∷ data_from byte bytes
@@ -96,7 +95,7 @@ fields_of linux_7_2 p = named_fields p (data_fields p.byte p.bytes)
 abbrev pub event_text : Form → Printed → List ℕ
 event_text form p = join_with_byte 44 (fields_of form p)
 
--- the numbers fit their types
+-- the numbers of an event fit their types
 pub record IsPrinted (p : Printed) : Type 0 where
   pub cpu : p.event.cpu < 2 ^ 16
   pub bank : p.event.bank < 2 ^ 8

@@ -17,5 +17,6 @@ pub mod TraceEvent
 pub mod Stamp
 pub mod Trace
 pub mod Kernel
+pub mod Saved
 pub mod Steps
 pub mod Filter

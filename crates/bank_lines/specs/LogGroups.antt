@@ -1,4 +1,4 @@
--- The reports of a kernel log: the groups of `klog`, over the lines that are the kernel's own.
+-- The reports of a kernel log: the groups that `klog` makes of the kernel's own lines.
 use Rattle.std.specs.Prelude.{ℕ, ◌==◌, Bool, true, false, not, List, [], ◌∷◌, ◌++◌, map, if◌then◌else◌}
 use Rattle.ras_facts.specs.declared.bank.BankReport.{BankReport}
 use Rattle.ras_klog.specs.Groups.{told_of}
@@ -18,13 +18,12 @@ use Rattle.bank_lines.specs.declared.log_state.Printers.{Printers}
 
 -- ---- groups
 
--- what a line is for `klog`: one that isn't of a report is none of its lines
+-- what a line is for `klog`: `Other`, if it isn't a line of a report
 abbrev pub klog_part : LogLine → KlogLine
 klog_part (Part line print vendor) = line
 klog_part line = Other
 
--- what a line tells that begins a report, how it was printed, and the lines after it up to the next such
--- line
+-- what the first line of a report says, how it was printed, and the lines up to the next report's first line
 pub record LogGroup : Type 0 where
   pub head : Head
   pub print : Print
@@ -36,7 +35,7 @@ log_up_to_start [] = []
 log_up_to_start (Part (Start cpu mcg bank status) print vendor ∷ lines) = []
 log_up_to_start (line ∷ lines) = line ∷ log_up_to_start lines
 
--- the groups of lines; lines before the first group are left out
+-- the groups of lines, without the lines before the first group
 abbrev pub log_groups : List LogLine → List LogGroup
 log_groups [] = []
 log_groups (Part (Start cpu mcg bank status) print vendor ∷ lines) =
@@ -47,11 +46,11 @@ log_groups (Part (Start cpu mcg bank status) print vendor ∷ lines) =
     } ∷ log_groups lines
 log_groups (line ∷ lines) = log_groups lines
 
--- what `klog` tells of a group: its report, or that it isn't whole
+-- what `klog` finds in a group: its report, or that the report isn't whole
 abbrev pub told_in : ℕ → ℕ → LogGroup → KlogOut
 told_in boot cap group = told_of boot cap group.head (map klog_part group.rest)
 
--- the vendor of the first time of lines, and of the first time after their first counter
+-- the vendor in the first line of a time, and the vendor in the first such line after the first counter
 abbrev pub timed_vendor : List LogLine → ℕ
 timed_vendor [] = 0
 timed_vendor (Part (Processor seconds) print vendor ∷ lines) = vendor
@@ -64,7 +63,7 @@ group_vendor (line ∷ lines) = group_vendor lines
 
 -- ---- what is found
 
--- what is found of what `klog` tells, by its vendor and without a name
+-- the finding of what `klog` finds, given the vendor; its report isn't named yet
 abbrev pub judged : ℕ → KlogOut → Finding
 judged vendor Told.Nothing = Nothing
 judged vendor (Told.Partial cpu bank) = Partial cpu bank
@@ -73,32 +72,32 @@ judged vendor (Told.Whole report) =
 
 -- ---- names
 
--- Each printer, EDAC and the kernel, counts its errors without a counter by itself: so what both print of one
--- error has one name.
+-- The printers are EDAC and the kernel. Each counts its errors without a counter by itself, so an error that both
+-- print has one name.
 abbrev pub no_names : Printers
 no_names = record { kernel = []; edac = [] }
 
--- the errors of one of them
+-- the counts of a printer's errors
 abbrev pub counts_by : Printers → Print → KeyCounts
 counts_by before print = if print.by_edac then before.edac else before.kernel
 
--- and with one more report that it printed
+-- the counts with one more report of this printer
 abbrev pub counting : Printers → Print → BankReport → Printers
 counting before print report =
     if print.by_edac then record before { edac = counted_with before.edac report }
     else record before { kernel = counted_with before.kernel report }
 
--- what is found of a report that was printed so, after these, by its name
+-- a finding of this printer, with its report named
 abbrev pub named_by : Printers → Print → Finding → Finding
 named_by before print found = named_found (counts_by before print) found
 
--- and the reports with it
+-- the counts after a finding of this printer
 abbrev pub printers_with : Printers → Print → Finding → Printers
 printers_with before print (Whole report) = counting before print report
 printers_with before print (Torn report) = counting before print report
 printers_with before print found = before
 
--- what is found of what `klog` tells, after these reports, by how the group was printed and its vendor
+-- the finding of a group, given its printer, its vendor and what `klog` finds in it; and the counts after it
 abbrev pub found_told : Printers → Print → ℕ → KlogOut → Finding
 found_told before print vendor told = named_by before print (judged vendor told)
 
@@ -112,23 +111,23 @@ group_founds_from boot cap before (group ∷ groups) =
     found_told before group.print (group_vendor group.rest) told
     ∷ group_founds_from boot cap (printers_after before group.print (group_vendor group.rest) told) groups
 
--- what is found in the groups of a log, in order
+-- the findings of a log's groups, in order
 abbrev pub log_founds : ℕ → ℕ → List LogLine → List Finding
 log_founds boot cap lines = group_founds_from boot cap no_names (log_groups lines)
 
 -- ---- the reports of one printer
 
--- what is found of each group, without a name
+-- the finding of each group, not named yet
 abbrev pub groups_judged : ℕ → ℕ → List LogGroup → List Finding
 groups_judged boot cap groups =
     map (λ (group : LogGroup). judged (group_vendor group.rest) (told_in boot cap group)) groups
 
--- whether EDAC printed a group, or it didn't
+-- whether a group is of the wanted printer: EDAC (`true`) or the kernel (`false`)
 abbrev pub is_by : Bool → Bool → Bool
 is_by true by_edac = by_edac
 is_by false by_edac = not by_edac
 
--- the reports among what is found of groups that EDAC printed, or that it didn't
+-- the reports found in the groups of one printer
 abbrev pub printed_by : Bool → List LogGroup → List Finding → List BankReport
 printed_by by_edac [] founds = []
 printed_by by_edac (group ∷ groups) [] = []
@@ -137,7 +136,7 @@ printed_by by_edac (group ∷ groups) (found ∷ founds) =
 
 -- ---- before the end
 
--- what of it is told before the log is known to have ended: all but the last, and the last if it is whole
+-- the findings that are printed before the log is known to have ended: all, except a last one that is partial
 abbrev pub before_end : List Finding → List Finding
 before_end [] = []
 before_end (Partial cpu bank ∷ []) = []

@@ -1,4 +1,4 @@
--- The text of a machine check as kernels print it in their log: their own, and EDAC's.
+-- The text of a machine check in a kernel's log: the kernel's own text, and EDAC's.
 use Rattle.std.specs.Prelude.{ℕ, ◌+◌, ◌==◌, ◌≡◌, Bool, true, false, List, [], ◌∷◌, ◌++◌, codes, decimal, drop, if◌then◌else◌}
 use Rattle.std.specs.List.{join_with_byte}
 use Rattle.ras_facts.specs.declared.bank.BankReport.{BankReport}
@@ -11,7 +11,7 @@ use Rattle.bank_lines.specs.declared.event.TraceEvent.{TraceEvent}
 
 -- ---- words, between which a line has a space
 
--- what both texts end with
+-- the words with which both texts end
 abbrev pub time_words : (ℕ → List ℕ) → Printed → List (List ℕ) → List (List ℕ)
 time_words hex p more =
     codes "PROCESSOR" ∷ (decimal p.event.vendor ++ 58 ∷ hex p.cpuid) ∷ codes "TIME" ∷ decimal p.event.seconds
@@ -26,17 +26,17 @@ check_words p kind = codes "CPU" ∷ (decimal p.event.cpu ++ 58 ∷ []) ∷ code
 
 -- ---- the kernel's own text: `__print_mce` in arch/x86/kernel/cpu/mce/core.c
 
--- whether the machine check came as an exception
+-- the first line's words, whether the machine check came as an exception or not
 abbrev pub plain_start : Bool → Printed → List (List ℕ)
 plain_start true p =
     check_words p (codes "Check" ∷ codes "Exception:" ∷ status_words p (hexadecimal p.event.mcg) (register p.event.status))
 plain_start false p = check_words p (codes "Check:" ∷ status_words p (hexadecimal p.event.mcg) (register p.event.status))
 
--- a number behind its name, unless it is 0
+-- a number after its name, or nothing if the number is 0
 abbrev pub named_words : List ℕ → ℕ → List (List ℕ) → List (List ℕ)
 named_words name n more = if n == 0 then more else name ∷ hexadecimal n ∷ more
 
--- it ends with a space
+-- the words of the registers; the line ends with a space
 abbrev pub plain_registers : Printed → List (List ℕ)
 plain_registers p =
     codes "TSC" ∷ hexadecimal p.event.tsc ∷ named_words (codes "ADDR") p.event.addr (
@@ -75,7 +75,7 @@ abbrev pub edac_kind : Bool → List ℕ
 edac_kind true = codes "Exception:"
 edac_kind false = codes "Event:"
 
--- the words of its lines; those of the registers end with a space
+-- the words of EDAC's lines; the lines of registers end with a space
 abbrev pub edac_words : Driver → Bool → Printed → List (List (List ℕ))
 edac_words driver exception p =
     check_words p (codes "Check" ∷ edac_kind exception
@@ -87,11 +87,11 @@ edac_words driver exception p =
 
 -- ---- the lines of a log
 
--- what is printed before each line, by its place in the text; the kernel stamps each line by itself
+-- what is printed before each line of a text, by the line's index; the kernel stamps each line separately
 abbrev pub Heads : Type 0
 Heads = ℕ → List ℕ
 
--- lines of these words, each behind its head and this prefix
+-- lines of these words, each after its head and this prefix
 abbrev pub lines_behind : Heads → ℕ → List ℕ → List (List (List ℕ)) → List (List ℕ)
 lines_behind heads place prefix [] = []
 lines_behind heads place prefix (words ∷ lines) =
@@ -105,17 +105,17 @@ abbrev pub edac_log : Heads → Driver → ℕ → Bool → Printed → List (Li
 edac_log heads driver controller exception p =
     lines_behind heads 0 (driver_prefix driver controller) (edac_words driver exception p)
 
--- from no place on a text begins with a mark
+-- the prefix occurs nowhere in the text
 abbrev pub HasNo : List ℕ → List ℕ → Type 0
 HasNo mark text = (place : ℕ) → begins (drop place text) mark ≡ false
 
--- Each head shows a line as the kernel's own, and has no mark in it.
+-- Each head shows its line to be the kernel's own, and has no prefix in it.
 pub record AreHeads (heads : Heads) : Type 0 where
   pub own : (place : ℕ) → is_own (heads place) ≡ true
   pub plain : (place : ℕ) → HasNo log_mark (heads place)
   pub edac : (place : ℕ) → HasNo edac_mark (heads place)
 
--- the report that both tell, of this boot and IA32_MCG_CAP
+-- the report that both texts give, for this boot and IA32_MCG_CAP
 abbrev pub log_report : ℕ → ℕ → TraceEvent → BankReport
 log_report boot cap event = record {
   boot = boot;

@@ -1,11 +1,10 @@
--- The time that a line of the kernel is stamped with.
+-- The time stamp of a line of the kernel.
 use Rattle.std.specs.Prelude.{ℕ, ◌+◌, ◌-◌, ◌*◌, ◌==◌, ◌&&◌, List, drop, take, length, nat_lt, slice_index, Option, Some}
 use Rattle.ras_klog.specs.Reading.{provided, read_then}
 use Rattle.ras_script.specs.Number.{decimal_of}
 use Rattle.bank_lines.specs.declared.stamp.TheConstants.{MOST_SECONDS}
 
--- The microseconds of a stamp, `<seconds>.<microseconds>:`. Behind the seconds stand a point, six
--- digits and a colon.
+-- The microseconds of a stamp `<seconds>.<microseconds>:`. After the seconds come a point, six digits and a colon.
 abbrev pub stamp_of : List ℕ → Option ℕ
 stamp_of word =
     let point = length word - 8 in

@@ -1,3 +1,4 @@
--- What only proofs use: no public clause comes to it.
+-- What only proofs use: no public clause refers to it.
 pub mod Marks
 pub mod Times
+pub mod Reading

@@ -1,4 +1,4 @@
--- The lines that are printed of what was found, and what they ask for as lines of a script.
+-- The lines that are printed for findings, and what they ask for as lines of a script.
 use Rattle.std.specs.Prelude.{ℕ, List, [], ◌∷◌, ◌++◌, codes, decimal, filter, map, Result, Ok}
 use Rattle.std.specs.List.{flat_map}
 use Rattle.ras_facts.specs.declared.bank.BankReport.{BankReport}
@@ -19,9 +19,9 @@ use Rattle.bank_lines.specs.Finding.{Numbered, report_in}
 abbrev pub asking_line : BankReport → List ℕ
 asking_line report = line_text (asks.Report (Bank report))
 
--- the comments: of a report that isn't whole, of another vendor's, of one that Linux makes up of the
--- firmware's, of one whose address was torn off, of one whose like aren't counted, and of a line that can't
--- be read
+-- The comments: for a report that isn't whole, for another vendor's report, for a report that Linux makes up from the
+-- firmware's, for an address that was torn off, for a report whose key has no room, and for a line that can't be
+-- read.
 abbrev pub partial_comment : ℕ → ℕ → List ℕ
 partial_comment cpu bank = codes "# partial cpu=" ++ decimal cpu ++ codes " bank=" ++ decimal bank
 
@@ -41,7 +41,7 @@ full_line = codes "# full"
 abbrev pub unread_line : ℕ → List ℕ
 unread_line number = codes "# unread " ++ decimal number
 
--- the lines of what was found in the line of this number
+-- the lines for the finding in the line of this number
 abbrev pub lines_at : ℕ → Finding → List (List ℕ)
 lines_at number Nothing = []
 lines_at number (Whole report) = asking_line report ∷ []
@@ -54,26 +54,26 @@ lines_at number Unread = unread_line number ∷ []
 
 -- ---- texts
 
--- the text of it: a line feed ends each line
+-- the text of a finding: a line feed ends each line
 abbrev pub found_text : ℕ → Finding → List ℕ
 found_text number found = script_of (lines_at number found)
 
 abbrev pub found_lines : Numbered → List (List ℕ)
 found_lines numbered = lines_at numbered.number numbered.found
 
--- all lines and the whole text, of all that was found
+-- all lines, and the whole text, of all findings
 abbrev pub printed_lines : List Numbered → List (List ℕ)
 printed_lines founds = flat_map found_lines founds
 
 abbrev pub printed : List Numbered → List ℕ
 printed founds = flat_map (λ (numbered : Numbered). found_text numbered.number numbered.found) founds
 
--- ---- what they ask for
+-- ---- what the lines ask for
 
--- what the lines ask for that ask for something
+-- what the lines ask for, without the lines that ask for nothing
 abbrev pub asks_in : List (List ℕ) → List (Result Line LineRefused)
 asks_in lines = filter is_asking (map line_of lines)
 
--- what is asked for of what was found: its report, if it is a whole one
+-- what a finding asks for: its report, if it has a whole one
 abbrev pub asks_of : Numbered → List (Result Line LineRefused)
 asks_of numbered = map (λ (report : BankReport). Ok (asks.Report (Bank report))) (report_in numbered.found)

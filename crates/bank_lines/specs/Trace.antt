@@ -13,34 +13,34 @@ use Rattle.bank_lines.specs.Finding.{found_of}
 use Rattle.bank_lines.specs.LogHeads.{has_digit, mark_place, without_spaces}
 use Rattle.bank_lines.specs.Parts.{cut_at}
 
--- what stands before the text of an event
+-- the event name, which comes before the text of an event
 abbrev pub event_mark : List ℕ
 event_mark = codes "mce_record: "
 
--- a place behind one more byte, or the place of that byte
+-- an index with one more byte before it; without an index, 0 if the event name is `here`
 abbrev pub one_on : Option ℕ → Bool → Option ℕ
 one_on (Some place) here = Some (place + 1)
 one_on None here = if here then Some 0 else None
 
--- where the last mark of a line stands
+-- the index of a line's last event name
 abbrev pub last_mark : List ℕ → Option ℕ
 last_mark [] = None
 last_mark (b ∷ line) = one_on (last_mark line) (starts_with nat_eq (b ∷ line) event_mark)
 
 -- ---- where tracers print an event
 
--- Whether a line has the name of a process in columns: the kernel's own file has it in the first 16, and behind them
--- `-` and the number of the process (`trace_print_context` of kernel/trace/trace_output.c). A name has at most 15
--- bytes, so no name reaches the `-`, whatever its bytes are.
+-- Whether a line has the name of a process in columns: the kernel's own file prints it in the first 16, and after
+-- them `-` and the number of the process (`trace_print_context` of kernel/trace/trace_output.c). A name has at most
+-- 15 bytes, so no name reaches the `-`, whatever its bytes are.
 abbrev pub is_in_columns : List ℕ → Bool
 is_in_columns line =
     nat_lt 17 (length line) && (slice_index line 16 == 45 && is_digit (slice_index line 17) 10)
 
--- what follows the name, or the whole line
+-- the text after a name in columns, or the whole line
 abbrev pub behind_name : List ℕ → List ℕ
 behind_name line = if is_in_columns line then drop 17 line else line
 
--- the last of words, this one if there is none
+-- the last of these words, or `word` if there is none
 abbrev pub last_word : List ℕ → List (List ℕ) → List ℕ
 last_word word [] = word
 last_word word (next ∷ words) = last_word next words
@@ -48,12 +48,12 @@ last_word word (next ∷ words) = last_word next words
 abbrev pub are_count_signs : List ℕ → Bool
 are_count_signs word = list_all (λ b. b == 46 || is_digit b 10) word
 
--- What a tracer's clock shows: `12.500001`, or without microseconds. It has four signs at least: the name
--- of a process has at most 15 bytes, so none holds such a word with a colon and the mark behind it.
+-- What a tracer's clock shows: `12.500001`, or without microseconds. It has at least four characters: the name of a
+-- process has at most 15 bytes, so no name contains such a word, a colon and the event name.
 abbrev pub is_count : List ℕ → Bool
 is_count word = nat_lt 3 (length word) && (has_digit word && are_count_signs word)
 
--- what may stand between the clock's colon and the mark: spaces, and behind them `mce:`, as perf prints it
+-- what may come between the clock's colon and the event name: spaces, and after them `mce:`, as perf prints it
 abbrev pub is_system : List ℕ → Bool
 is_system text = let name = without_spaces text in length name == 0 || bytes_eq name (codes "mce:")
 
@@ -62,13 +62,13 @@ is_traced_by before None = false
 is_traced_by before (Some place) =
     is_count (last_word [] (cut_at 32 (take place before))) && is_system (drop (place + 1) before)
 
--- Whether a mark behind this text is where tracers print an event: behind a name in columns, the first
--- colon that a space follows stands behind the clock, and nothing but spaces and `mce:` behind it. In the
--- text of an event, which a process may have chosen, it is not.
+-- Whether tracers print this text before an event's name: after a name in columns, the first colon that a space
+-- follows comes right after the clock, and only spaces and `mce:` come after it. An event name in the text of another
+-- event, which a process may have chosen, has no such text before it.
 abbrev pub is_traced : List ℕ → Bool
 is_traced before = let head = behind_name before in is_traced_by head (mark_place (codes ": ") head)
 
--- whether a line has a mark, and the last one is there
+-- whether a line has an event name, and its last one is where tracers print it
 abbrev pub is_event_line : List ℕ → Bool
 is_event_line line = option_map_or (λ place. is_traced (take place line)) (last_mark line) false
 
@@ -89,19 +89,19 @@ event_report boot event = record {
   misc = event.misc;
 }
 
--- what is found of an event
+-- the finding of an event
 abbrev pub event_found : ℕ → TraceEvent → Finding
 event_found boot event =
     if event.vendor == 0 then found_of (event_report boot event)
     else Foreign event.vendor event.cpu event.bank
 
--- what is found in a line with its last mark at this place
+-- the finding in a line whose last event name is at this index
 abbrev pub found_at : ℕ → List ℕ → ℕ → Finding
 found_at boot line place =
     if is_traced (take place line)
     then option_map_or (event_found boot) (event_in (drop (place + 12) line)) Unread
     else Unread
 
--- what is found in a line
+-- the finding in a line
 abbrev pub trace_found : ℕ → List ℕ → Finding
 trace_found boot line = option_map_or (found_at boot line) (last_mark line) Nothing

@@ -1,4 +1,4 @@
--- What the text of the kernel's event of a machine check tells, by the names of its fields.
+-- What the text of a machine-check event in the kernel's trace says, by the names of its fields.
 use Rattle.std.specs.Prelude.{ℕ, ◌-◌, ◌^◌, ◌==◌, List, [], ◌∷◌, codes, drop, take, Option, None, Some}
 use Rattle.std.specs.List.{position_or_len}
 use Rattle.std.specs.Option.{option_map_or}
@@ -11,7 +11,7 @@ use Rattle.bank_lines.specs.declared.event.Global.{Global}
 use Rattle.bank_lines.specs.declared.event.Registers.{Registers}
 use Rattle.bank_lines.specs.Parts.{after_spaces, cut_at, value_after}
 
--- nothing is told yet
+-- no field has been read
 abbrev pub no_fields : Fields
 no_fields = record {
   cpu = None;
@@ -24,7 +24,7 @@ no_fields = record {
   seconds = None;
 }
 
--- what was read, if nothing was told before
+-- the value that was read, if there was none before
 abbrev pub once : {A : Type 0} → Option A → Option A → Option A
 once None read = read
 once (Some told) read = None
@@ -45,7 +45,7 @@ registers_of (addr ∷ misc ∷ synd ∷ []) =
     read_then (hexadecimal_of misc) (λ misc. Some (record { addr = addr; misc = misc })))
 registers_of parts = None
 
--- the vendor of `<vendor>:<model>`
+-- the vendor in `<vendor>:<model>`
 abbrev pub processor_vendor : List (List ℕ) → Option ℕ
 processor_vendor (vendor ∷ model ∷ []) = decimal_of (2 ^ 64 - 1) vendor
 processor_vendor parts = None
@@ -58,7 +58,7 @@ bank_named part =
     read_then (decimal_of 255 (take colon named)) (λ number.
     read_then (value_after (codes ": ") (drop colon named)) (λ value. Some (number, value))))
 
--- ---- what the fields tell with one more. None if it was told before, or can't be read.
+-- ---- the fields after one more; `None` if it came before or can't be read
 
 abbrev pub Telling : Type 0
 Telling = Fields → List ℕ → Option Fields
@@ -113,13 +113,13 @@ status_told fields named =
     read_then (once fields.bank (Some (record { number = named.0; status = status }))) (λ bank.
     Some (record fields { bank = Some bank })))
 
--- `MC<bank>: <status>`; every other part tells nothing
+-- `MC<bank>: <status>`; any other part changes nothing
 abbrev pub bank_told : Telling
 bank_told fields part = option_map_or (status_told fields) (bank_named part) (Some fields)
 
 -- ---- all fields
 
--- the names that are wanted, as kernels print them, each with what its value tells
+-- the names of the fields that are read, as kernels print them, each with what its value says
 abbrev pub tellings : List (List ℕ × Telling)
 tellings =
     (codes "CPU: ", cpu_told) ∷ (codes "MCGc/s: ", global_told)
@@ -128,22 +128,22 @@ tellings =
     ∷ (codes "PROCESSOR: ", processor_told) ∷ (codes "vendor: ", vendor_told)
     ∷ (codes "TIME: ", seconds_told) ∷ (codes "time: ", seconds_told) ∷ []
 
--- what a part tells by the first name that it begins with
+-- the fields after a part, by the first of these names that the part begins with
 abbrev pub part_told_by : List (List ℕ × Telling) → Telling
 part_told_by [] fields part = bank_told fields part
 part_told_by (telling ∷ more) fields part =
     option_map_or (telling.1 fields) (value_after telling.0 part) (part_told_by more fields part)
 
--- what the fields tell with one more part
+-- the fields after one more part
 abbrev pub took : Telling
 took fields part = part_told_by tellings fields (after_spaces part)
 
--- and with more of them
+-- the fields after more parts
 abbrev pub fields_after : Fields → List (List ℕ) → Option Fields
 fields_after fields [] = Some fields
 fields_after fields (part ∷ parts) = read_then (took fields part) (λ fields. fields_after fields parts)
 
--- what all fields tell, if none is missing
+-- the event, if no field is missing
 abbrev pub whole_event : Fields → Option TraceEvent
 whole_event fields =
     read_then fields.global (λ global.
@@ -166,7 +166,7 @@ whole_event fields =
       misc = misc;
     })))))))))
 
--- What the text of an event tells. It is cut at each comma, and spaces before a field don't count. Nor
--- does the last part: kernels print nothing there that is wanted, and a text that is cut ends within it.
+-- The event that a text gives. The text is cut at each comma, and spaces before a field don't count. Nor does the
+-- last part: kernels print no field there that is read, and a text that was cut off ends within it.
 abbrev pub event_in : List ℕ → Option TraceEvent
 event_in text = read_then (fields_after no_fields (without_last (cut_at 44 text))) whole_event

@@ -4,8 +4,8 @@ use Rattle.bank_lines.specs.LogKernel.{HasNo}
 use Rattle.bank_lines.specs.Trace.{behind_name}
 use Rattle.bank_lines.specs.declared.stamp.TheConstants.{MOST_SECONDS}
 
--- the file trace_pipe of the kernel and `trace-cmd report`, and `perf script`, which prints the event's
--- system before its name
+-- the kernel's file trace_pipe, `trace-cmd report`, and `perf script`, which prints the event's system before its
+-- name
 pub data Tracer : Type 0 where
   trace_pipe : Tracer
   trace_cmd : Tracer
@@ -15,7 +15,7 @@ abbrev pub system_of : Tracer → List ℕ
 system_of perf = codes "mce:"
 system_of tracer = []
 
--- a number of so many digits, with zeros before it
+-- a number with zeros before it, up to a width
 abbrev pub digits_of : ℕ → ℕ → List ℕ
 digits_of width n = replicate (width - length (decimal n)) 48 ++ decimal n
 
@@ -29,14 +29,13 @@ abbrev pub pipe_front : List ℕ → ℕ → List ℕ → List ℕ
 pipe_front name process rest =
     (replicate (16 - length name) 32 ++ name) ++ 45 ∷ (decimal process ++ 32 ∷ rest)
 
--- The process, the processor and flags come first, then a space, the clock, a colon, a space, and maybe
--- more of them before the system.
+-- The process, the processor and the flags come first, then a space, the clock, a colon and a space; more spaces may
+-- come before the system.
 abbrev pub head_of : Tracer → List ℕ → ℕ → ℕ → ℕ → List ℕ
 head_of tracer front seconds micros spaces =
     front ++ 32 ∷ (clock seconds micros ++ 58 ∷ 32 ∷ (replicate spaces 32 ++ system_of tracer))
 
--- The text before the clock has no colon with a space behind it, but for a name in columns, and the numbers
--- are those of a clock.
+-- The text before the clock has no colon that a space follows, except in a name in columns; the numbers fit a clock.
 pub record IsFront (front : List ℕ) (seconds micros : ℕ) : Type 0 where
   pub text : HasNo (codes ": ") (behind_name front ++ 32 ∷ [])
   pub most : seconds ≤ MOST_SECONDS

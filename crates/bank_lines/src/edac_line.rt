@@ -1,4 +1,4 @@
-//! What a line tells that a driver of EDAC prints of a machine check.
+//! Reads the lines that a driver of EDAC prints of a machine check.
 
 ghost use Rattle.std.specs.Prelude.{◌≡◌, ◌≤◌, drop, IfSome};
 ghost use Rattle.std.specs.List.{list_all};
@@ -12,7 +12,7 @@ use crate::log_heads::{cut, is_number};
 use crate::parts::{Parts, value_after};
 use ras_script::{decimal, hexadecimal};
 
-/// What a line of a report tells that a driver of EDAC prints.
+/// What a line of a report says that a driver of EDAC prints.
 #[derive(Clone, Copy, Debug, PartialEq, Eq)]
 pub(crate) enum EdacLine {
     // A report begins.
@@ -22,7 +22,7 @@ pub(crate) enum EdacLine {
         bank: u8,
         status: u64,
     },
-    // Its counter, its address and its other register.
+    // The counter, the address and the other register.
     Tsc(u64),
     Addr(u64),
     Misc(u64),
@@ -33,7 +33,7 @@ pub(crate) enum EdacLine {
     },
 }
 
-// What follows `<driver> MC<number>: `.
+// Returns the text after `<driver> MC<number>: `.
 pub(crate) fn driver_text(text: &[u8]) -> Option<&[u8]>
     ensures { option_map (λ rest. rest.now) result ≡ driver_text text.now }
 {
@@ -48,14 +48,14 @@ pub(crate) fn driver_text(text: &[u8]) -> Option<&[u8]>
     value_after(b" ", rest)
 }
 
-// Whether this is how a driver names itself.
+// Returns whether a driver prints this name.
 fn is_driver(name: &[u8]) -> bool
     ensures { result ≡ is_driver name.now }
 {
     name == b"skx".as_slice() || name == b"sbridge".as_slice() || name == b"pnd2".as_slice()
 }
 
-// Whether a driver's text begins as a line of a report.
+// Returns whether a driver's text begins like a line of a report.
 pub(crate) fn is_of_edac(text: &[u8]) -> bool
     ensures { result ≡ is_of_edac text.now }
 {
@@ -67,7 +67,7 @@ pub(crate) fn is_of_edac(text: &[u8]) -> bool
         || kind == b"PROCESSOR".as_slice()
 }
 
-// What a driver's text tells that begins as a line of a report.
+// Returns what a driver's text says that begins like a line of a report.
 pub(crate) fn edac_line(text: &[u8]) -> Option<EdacLine>
     ensures { result ≡ edac_line_of text.now }
 {
@@ -89,7 +89,7 @@ pub(crate) fn edac_line(text: &[u8]) -> Option<EdacLine>
     }
 }
 
-// The next word, an empty one after the last.
+// Returns the next word, or an empty one after the last.
 fn next_word<'a>(words: &mut Parts<'a>) -> &'a [u8]
     ensures word { result.now ≡ word (parts_in words.old) 0 }
     ensures rest { parts_in words.new ≡ drop 1 (parts_in words.old) }
@@ -100,7 +100,7 @@ fn next_word<'a>(words: &mut Parts<'a>) -> &'a [u8]
     }
 }
 
-// `<cpu>: Machine Check Event: ` or `<cpu>: Machine Check Exception: `, and then the bank.
+// `<cpu>: Machine Check Event: ` or `<cpu>: Machine Check Exception: `, followed by the bank.
 #[tactic(auto, unfolding(crate::specs::EdacLines::edac_start))]
 fn start_of(words: &mut Parts<'_>) -> Option<EdacLine>
     ensures { result ≡ edac_start (parts_in words.old) }
@@ -115,7 +115,7 @@ fn start_of(words: &mut Parts<'_>) -> Option<EdacLine>
     bank_of(cpu, words)
 }
 
-// `<mcg> Bank <bank>: <status>`, and then nothing but spaces.
+// `<mcg> Bank <bank>: <status>`, followed only by spaces.
 #[tactic(auto, unfolding(crate::specs::EdacLines::edac_bank))]
 fn bank_of(cpu: u16, words: &mut Parts<'_>) -> Option<EdacLine>
     ensures { result ≡ edac_bank cpu (parts_in words.old) }
@@ -134,7 +134,7 @@ fn bank_of(cpu: u16, words: &mut Parts<'_>) -> Option<EdacLine>
     })
 }
 
-// `<register>`, and then nothing but spaces.
+// `<register>`, followed only by spaces.
 #[tactic(auto, unfolding(crate::specs::EdacLines::edac_register))]
 fn edac_register(words: &mut Parts<'_>) -> Option<u64>
     ensures { result ≡ edac_register (parts_in words.old) }
@@ -147,7 +147,7 @@ fn edac_register(words: &mut Parts<'_>) -> Option<u64>
     }
 }
 
-// `<vendor>:<id> TIME <seconds>`, and then at least a space.
+// `<vendor>:<id> TIME <seconds>`, followed by at least one space.
 #[tactic(auto, unfolding(crate::specs::EdacLines::edac_processor))]
 fn processor_of(words: &mut Parts<'_>) -> Option<EdacLine>
     ensures { result ≡ edac_processor (parts_in words.old) }
@@ -163,7 +163,7 @@ fn processor_of(words: &mut Parts<'_>) -> Option<EdacLine>
     Some(EdacLine::Processor { vendor, seconds })
 }
 
-// A decimal number of at most `most` with a colon after it.
+// Returns a decimal number of at most `most` with a colon after it.
 fn colon_number(word: &[u8], most: u64) -> Option<u64>
     ensures value { result ≡ colon_number most word.now }
     ensures within { IfSome result (λ n. n ≤ most) }
@@ -171,7 +171,7 @@ fn colon_number(word: &[u8], most: u64) -> Option<u64>
     decimal(word.strip_suffix(b":")?, most)
 }
 
-// A number in hexadecimal, behind `0x` or not.
+// Returns a hexadecimal number, with or without `0x` before it.
 #[tactic(auto, unfolding(crate::specs::EdacLines::edac_number))]
 fn edac_number(word: &[u8]) -> Option<u64>
     ensures { result ≡ edac_number word.now }
@@ -182,7 +182,7 @@ fn edac_number(word: &[u8]) -> Option<u64>
     }
 }
 
-// The vendor's number of `<vendor>:<id>`.
+// Returns the vendor's number in `<vendor>:<id>`.
 fn edac_vendor(word: &[u8]) -> Option<u64>
     ensures { result ≡ edac_vendor word.now }
 {
@@ -191,14 +191,14 @@ fn edac_vendor(word: &[u8]) -> Option<u64>
     decimal(vendor, u64::MAX)
 }
 
-// Whether a word says that a machine check was found by polling or came as an exception.
+// Returns whether a word says that a machine check was found by polling or came as an exception.
 fn is_check(word: &[u8]) -> bool
     ensures { result ≡ is_check word.now }
 {
     word == b"Event:".as_slice() || word == b"Exception:".as_slice()
 }
 
-// Whether nothing is left but spaces.
+// Returns whether only spaces are left.
 fn are_empty(words: &mut Parts<'_>) -> bool
     ensures { result ≡ list_all is_empty (parts_in words.old) }
 {

@@ -1,4 +1,4 @@
-//! The reports that EDAC prints, told as the kernel's own text of the same registers.
+//! EDAC's reports, converted to the lines that the kernel itself prints of the same registers.
 
 ghost use Rattle.std.specs.Prelude.{◌≡◌};
 ghost use Rattle.bank_lines.specs.EdacReports.{edac_after, edac_next, edac_told, no_edac, plain_next, plain_told, printed_by_edac, marked_told};
@@ -7,30 +7,30 @@ use crate::edac_line::EdacLine;
 use crate::log_line::{LogLine, MarkedLine, Print};
 use ras_klog::KlogLine;
 
-// How far EDAC's report in work has come.
+// How far EDAC's current report has come.
 #[derive(Clone, Copy, Debug, PartialEq, Eq)]
 pub(crate) enum EdacReport {
-    // There is none.
+    // No report is open.
     Idle,
-    // It began.
+    // The report began.
     Begun,
     // Its counter came.
     Counted(u64),
-    // Its address came too.
+    // Its counter and its address came.
     Placed { tsc: u64, addr: u64 },
-    // All its registers came, and were told.
+    // All its registers came, as one line.
     Told,
 }
 
 impl EdacReport {
-    // Before a log's first line.
+    // Returns the state before a log's first line.
     pub(crate) fn new() -> EdacReport
         ensures { result ≡ no_edac }
     {
         EdacReport::Idle
     }
 
-    // Takes a line, and returns what it tells.
+    // Takes a line, and returns what it says.
     pub(crate) fn step(&mut self, line: MarkedLine) -> LogLine
         ensures told { result ≡ marked_told self.old line }
         ensures report { self.new ≡ edac_after self.old line }
@@ -50,7 +50,7 @@ impl EdacReport {
     }
 }
 
-// What a line with the kernel's own text tells: it goes on no report of EDAC.
+// Returns what a line of the kernel's own text says: it never continues a report of EDAC's.
 fn plain_told(report: EdacReport, line: LogLine) -> LogLine
     ensures { result ≡ plain_told report line }
 {
@@ -69,7 +69,7 @@ fn plain_told(report: EdacReport, line: LogLine) -> LogLine
     }
 }
 
-// EDAC's report in work after such a line.
+// Returns EDAC's current report after a line of the kernel's own text.
 fn plain_next(report: EdacReport, line: LogLine) -> EdacReport
     ensures { result ≡ plain_next report line }
 {
@@ -82,7 +82,7 @@ fn plain_next(report: EdacReport, line: LogLine) -> EdacReport
     }
 }
 
-// What a line of EDAC's tells: of the registers' lines the last tells all three.
+// Returns what a line of EDAC's says: the last of the registers' lines gives all three registers.
 fn edac_told(report: EdacReport, line: EdacLine) -> LogLine
     ensures { result ≡ edac_told report line }
 {
@@ -117,7 +117,7 @@ fn edac_told(report: EdacReport, line: EdacLine) -> LogLine
     }
 }
 
-// A line of a report that EDAC printed.
+// Returns a line of a report that EDAC printed.
 fn part(line: KlogLine, vendor: u64) -> LogLine
     ensures { result ≡ LogLine.Part line printed_by_edac vendor }
 {
@@ -128,7 +128,7 @@ fn part(line: KlogLine, vendor: u64) -> LogLine
     }
 }
 
-// EDAC's report in work after such a line.
+// Returns EDAC's current report after a line of EDAC's.
 fn edac_next(report: EdacReport, line: EdacLine) -> EdacReport
     ensures { result ≡ edac_next report line }
 {

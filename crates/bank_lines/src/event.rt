@@ -1,4 +1,4 @@
-//! What the text of the kernel's event of a machine check tells.
+//! Reads the text of a machine-check event in the kernel's trace.
 
 ghost use Rattle.std.specs.Prelude.{◌≡◌, MatchOption};
 ghost use Rattle.std.specs.Option.{option_map};
@@ -11,7 +11,7 @@ ghost use Rattle.bank_lines.specs.TraceEvent.{global_of, processor_vendor, regis
 use crate::parts::{Parts, after_spaces, value_after};
 use ras_script::{decimal, hexadecimal, position_of};
 
-/// What the kernel's event of a machine check tells.
+/// A machine-check event of the kernel's trace.
 #[derive(Clone, Copy, Debug, PartialEq, Eq)]
 pub struct TraceEvent {
     /// The kernel's number of the processor's vendor: 0 is Intel.
@@ -57,7 +57,7 @@ struct Registers {
     misc: u64,
 }
 
-// What the fields of an event tell so far.
+// What the fields of an event have said so far.
 #[derive(Clone, Copy)]
 struct Fields {
     cpu: Option<u16>,
@@ -70,12 +70,12 @@ struct Fields {
     seconds: Option<u64>,
 }
 
-/// What the text of an event tells. It takes no memory.
+/// Returns the event that a text gives. Allocates nothing.
 ///
-/// The text is cut at each comma, and a field is what begins with its name, behind any spaces. None
-/// if a field that is wanted is missing, is there twice, or holds no number in its range. What
-/// follows the last comma is passed over: kernels print nothing there that is wanted, and a text
-/// that is cut ends within it.
+/// The text is cut at each comma, and a field begins with its name, after any spaces. Returns
+/// `None` if a field that is read is missing, comes twice, or holds no number in its range. The
+/// text after the last comma is skipped: kernels print no field there that is read, and a text that
+/// was cut off ends within it.
 pub fn event_in(text: &[u8]) -> Option<TraceEvent>
     ensures { result ≡ event_in text.now }
 {
@@ -91,7 +91,7 @@ pub fn event_in(text: &[u8]) -> Option<TraceEvent>
 }
 
 impl Fields {
-    // Nothing is told yet.
+    // Returns the fields before any is read.
     fn none() -> Fields
         ensures { result ≡ no_fields }
     {
@@ -107,7 +107,7 @@ impl Fields {
         }
     }
 
-    // What all fields tell, if none is missing.
+    // Returns the event, if no field is missing.
     fn event(&self) -> Option<TraceEvent>
         ensures { result ≡ whole_event self.now }
     {
@@ -127,7 +127,7 @@ impl Fields {
         })
     }
 
-    // Takes a part of the text. None if it is a field that was told before or can't be read.
+    // Takes a part of the text. Returns `None` if it is a field that came before or can't be read.
     fn take(&mut self, part: &[u8]) -> Option<()>
         ensures { option_map (λ _. self.new) result ≡ took self.old part.now }
     {
@@ -250,7 +250,7 @@ impl Fields {
         Some(())
     }
 
-    // `MC<bank>: <status>`; every other part tells nothing.
+    // `MC<bank>: <status>`; any other part changes nothing.
     fn take_bank(&mut self, part: &[u8]) -> Option<()>
         ensures { option_map (λ _. self.new) result ≡ bank_told self.old part.now }
     {
@@ -264,7 +264,7 @@ impl Fields {
     }
 }
 
-// What was read, if nothing was told before.
+// Returns the value that was read, if there was none before.
 fn once<T: Copy>(told: Option<T>, read: Option<T>) -> Option<T>
     ensures { result ≡ once told read }
 {
@@ -305,7 +305,7 @@ fn registers_of(value: &[u8]) -> Option<Registers>
     })
 }
 
-// The vendor of `<vendor>:<model>`.
+// Returns the vendor in `<vendor>:<model>`.
 fn processor_vendor(value: &[u8]) -> Option<u64>
     ensures { result ≡ processor_vendor (cut_at 58 value.now) }
 {
@@ -316,7 +316,7 @@ fn processor_vendor(value: &[u8]) -> Option<u64>
     decimal(vendor, u64::MAX)
 }
 
-// The bank's number and the text of its status, if a part is `MC<bank>: <status>`.
+// Returns the bank's number and the text of its status, if a part is `MC<bank>: <status>`.
 fn bank_named(part: &[u8]) -> Option<(u8, &[u8])>
     ensures { MatchOption result (bank_named part.now ≡ None)
         (λ named. bank_named part.now ≡ Some (named.0, named.1.now)) }

@@ -4,7 +4,7 @@ ghost use Rattle.std.specs.Prelude.{◌≡◌};
 ghost use Rattle.bank_lines.specs.Trace.{trace_found};
 ghost use Rattle.bank_lines.specs.Filter.{filter_after, trace_filter};
 
-use crate::naming::KeyCounts;
+use crate::naming::AlikeCounts;
 use crate::text::push_found;
 use crate::trace::trace_found;
 use line_filters::LineFilter;
@@ -13,14 +13,15 @@ use ras_script::LineRefused;
 use std::alloc::Global;
 use std::marker::Model;
 
-/// Makes lines of script of the text of the kernel's trace.
+/// Converts the text of the kernel's trace to lines of script.
 ///
-/// Each line is told by the line of its report, by a comment, or by nothing. A report without a
-/// counter gets one that tells it from those alike before it. No line is refused.
+/// Each line of the trace gives the line of its report, a comment, or nothing. A report without a
+/// counter gets one, which distinguishes it from the reports with its key before it. No line is
+/// rejected.
 #[derive(Drop)]
 pub struct TraceFilter {
     boot: u64,
-    counts: KeyCounts,
+    counts: AlikeCounts,
     taken: u64,
 }
 
@@ -33,14 +34,14 @@ impl Model for TraceFilter {
 }
 
 impl TraceFilter {
-    /// Before the first line of a trace of this boot.
+    /// Returns the filter before the first line of a trace of this boot.
     pub fn new(alloc: Global, boot: u64) -> TraceFilter
         ensures makes { filter_after result ≡ trace_filter boot }
         ensures taken { result.taken ≡ 0 }
     {
         TraceFilter {
             boot,
-            counts: KeyCounts::new(alloc),
+            counts: AlikeCounts::new(alloc),
             taken: 0,
         }
     }

@@ -1,4 +1,4 @@
-//! What is found in the input.
+//! What a filter finds in its input.
 
 ghost use Rattle.std.specs.Prelude.{◌≡◌, true};
 ghost use Rattle.bank_lines.specs.Finding.{found_of, held, lacks_address, log_found_of};
@@ -7,44 +7,45 @@ ghost use Rattle.bank_lines.specs.Finding.{torn_or_whole, without_address};
 use mca_status::Status;
 use ras_facts::BankReport;
 
-/// The bank of the machine checks that Linux makes up of the memory errors that the firmware
+/// The bank of the machine checks that Linux makes up from the memory errors that the firmware
 /// reports.
 pub const FIRMWARE_BANK: u8 = 255;
 
 // ADDRV of IA32_MCi_STATUS.
 const ADDRESS_VALID: u64 = 1 << 58;
 
-/// What is found in the input.
+/// What a filter finds in its input.
 #[derive(Clone, Copy, Debug, PartialEq, Eq)]
 pub enum Finding {
-    /// Nothing of a machine check, or a report of a bank that holds no error.
+    /// No machine check, or a report of a bank that holds no error.
     Nothing,
     /// A whole report of an Intel processor's bank, which holds an error (VAL is 1).
     Whole(BankReport),
-    /// The same of a log that lost the address of which its status tells: here ADDRV is 0.
+    /// A whole report of a log that lacks the address that its status announces: here ADDRV is 0.
     Torn(BankReport),
-    /// A whole report of an error without a counter that is like none before it, when no more keys
-    /// are counted: those alike that follow have the same name.
+    /// A whole report of an error without a counter, whose key is new and has no room to be
+    /// counted: further errors with this key get the same name.
     Full(BankReport),
-    /// A report of a bank that began, and isn't whole.
+    /// A report that began and isn't whole.
     Partial { cpu: u16, bank: u8 },
     /// A report of another vendor's processor, by the kernel's number of the vendor: 0 is Intel.
     Foreign { vendor: u64, cpu: u16, bank: u8 },
-    /// What Linux makes up of a memory error that the firmware reports.
+    /// A report that Linux makes up from a memory error that the firmware reports.
     Firmware { cpu: u16 },
-    /// A line that has the mark of a machine check, and can't be read as one.
+    /// A line that has the prefix or the event name of a machine check, and can't be read as one.
     Unread,
 }
 
 impl Finding {
-    /// What is found of a whole report of an Intel processor: nothing if its bank holds no error.
+    /// Returns the finding of a whole report of an Intel processor: nothing if its bank holds no
+    /// error.
     pub fn of_report(report: BankReport) -> Finding
         ensures { result ≡ found_of report }
     {
         held(&report, Finding::Whole(report))
     }
 
-    /// The same of a report of a log, which may have lost its address.
+    /// Returns the finding of a whole report of a log, which may lack its address.
     pub fn of_log_report(report: BankReport) -> Finding
         ensures { result ≡ log_found_of report }
     {
@@ -52,7 +53,8 @@ impl Finding {
     }
 }
 
-// What is found of a report, if this is what is found of an error.
+// Returns `found` if the report's bank holds an error, nothing if it holds none, and `Firmware` for
+// an error that the firmware reported.
 fn held(report: &BankReport, found: Finding) -> Finding
     ensures { result ≡ held report.now found }
 {
@@ -65,7 +67,7 @@ fn held(report: &BankReport, found: Finding) -> Finding
     found
 }
 
-// A report, without the address that it lacks.
+// Returns the finding of a report, without the address that it lacks.
 fn torn_or_whole(report: BankReport) -> Finding
     ensures { result ≡ torn_or_whole report }
 {
@@ -76,14 +78,14 @@ fn torn_or_whole(report: BankReport) -> Finding
     }
 }
 
-// Whether a report's status says that there is an address, and none came.
+// Returns whether a report's status says that there is an address, and no address came.
 fn lacks_address(report: &BankReport) -> bool
     ensures { result ≡ lacks_address report.now }
 {
     Status(report.status).is_address_valid() && report.addr == 0
 }
 
-// A report with ADDRV 0.
+// Returns a report with ADDRV 0.
 fn without_address(report: BankReport) -> BankReport
     requires { lacks_address report ≡ true }
     ensures { result ≡ without_address report }

@@ -1,4 +1,4 @@
-//! What kernels print is read.
+//! Laws: what kernels print is read.
 
 ghost use Rattle.std.specs.Prelude.{◌≡◌, ℕ, ◌<◌, ◌≤◌, ◌^◌, ◌∷◌, ◌++◌, [], List, codes, length};
 ghost use Rattle.std.specs.Prelude.{replicate, slice_index, true, Some};
@@ -10,10 +10,10 @@ ghost use Rattle.bank_lines.specs.Trace.{event_found, event_mark, is_traced, tra
 ghost use Rattle.bank_lines.specs.TraceHeads.{IsFront, Tracer, head_of, pipe_front};
 ghost use Rattle.bank_lines.specs.declared.stamp.TheConstants.{MOST_SECONDS};
 
-/// The text of an event, in each form in which kernels print it and behind any number of spaces, is
-/// read as that event; and so is a line that has this text behind the mark, and before it what
-/// tracers print there.
-/// The function does nothing: its clauses are what it is for.
+/// The text of an event, in each form in which kernels print it and after any number of spaces, is
+/// read as that event. A line is read as the event too, if this text follows the event name, and
+/// the text that tracers print comes before the name.
+/// The body is empty: the clauses are the point.
 pub fn printed_events_are_read()
     ensures text { (form : Form) (p : Printed) (spaces : ℕ) → IsPrinted p
         → event_in (replicate spaces 32 ++ event_text form p) ≡ Some p.event }
@@ -23,21 +23,22 @@ pub fn printed_events_are_read()
         ≡ event_found boot p.event }
 {}
 
-/// What tracers print before the text of an event shows it as theirs.
-/// The function does nothing: its clauses are what it is for.
+/// The text that tracers print before an event's text is recognized as theirs.
+/// The body is empty: the clauses are the point.
 pub fn heads_are_traced()
     ensures traced { (tracer : Tracer) (front : List ℕ) (seconds micros spaces : ℕ)
         → IsFront front seconds micros
         → is_traced (head_of tracer front seconds micros spaces) ≡ true }
-    // What trace_pipe prints there, whatever the at most 15 bytes of a process's name are.
+    // The text that trace_pipe prints there is recognized, whatever the at most 15 bytes of a
+    // process's name are.
     ensures names { (name rest : List ℕ) (process seconds micros : ℕ) → length name ≤ 15
         → process < 2 ^ 64 → HasNo (codes ": ") (rest ++ 32 ∷ []) → seconds ≤ MOST_SECONDS
         → micros < 1000000 → IsFront (pipe_front name process rest) seconds micros }
 {}
 
-/// Whether tracers print an event behind a text doesn't depend on a name in its 16 columns. So no
-/// process makes an event by its name.
-/// The function does nothing: its clause is what it is for.
+/// Whether tracers print a text before an event doesn't depend on the name in its first 16 columns.
+/// So no process can pass for an event by its name.
+/// The body is empty: the clause is the point.
 pub fn names_make_no_event()
     ensures { (name other rest : List ℕ) → length name ≡ 16 → length other ≡ 16
         → is_digit (slice_index rest 0) 10 ≡ true

@@ -1,4 +1,4 @@
-//! What is printed is read back.
+//! A law: the printed lines are read back.
 
 ghost use Rattle.std.specs.Prelude.{◌≡◌, ◌≤◌, List, length, map};
 ghost use Rattle.std.specs.List.{AllByRecursion};
@@ -12,9 +12,9 @@ ghost use Rattle.ras_script.specs.declared.reader.TheConstants.{LONGEST_LINE};
 ghost use Rattle.bank_lines.specs.Finding.{IsFoundInRange, Numbered, reports_in};
 ghost use Rattle.bank_lines.specs.Texts.{asks_in, asks_of, asking_line, found_lines, printed, printed_lines};
 
-/// What is printed is read back as a script: the line of a report asks for that report, and every
-/// other line is a comment. So of all that was found, what the printed lines ask for is the whole
-/// reports, in order. The function does nothing: its clauses are what it is for.
+/// The printed text is read back as a script: the line of a report asks for that report, and every
+/// other line is a comment. So the lines printed for all findings ask for exactly the whole
+/// reports, in order. The body is empty: the clauses are the point.
 pub fn printed_lines_are_read_back()
     ensures bank { (report : BankReport) → IsBankInRange report
         → line_of (asking_line report) ≡ Ok (Report (Bank report)) }

@@ -14,14 +14,15 @@ use ras_script::LineRefused;
 use std::alloc::Global;
 use std::marker::Model;
 
-/// Makes of the lines of a kernel log lines of script: one of each machine check of an Intel
+/// Converts the lines of a kernel log to lines of script: one for each machine check of an Intel
 /// processor whose bank holds an error.
 ///
-/// A report that isn't whole, one of another vendor's processor, and each line that begins as one of
-/// a report and is in none, is told by a comment. A report is told at the line that makes it whole,
-/// and one that isn't whole at the line that begins the next one, or after all lines. Only lines
-/// that are the kernel's own count. A report without a counter gets one that tells it from those
-/// alike that the same printer, EDAC or the kernel, told before. No line is refused.
+/// Comments are printed for a report that isn't whole, for a report of another vendor's processor,
+/// and for each line that begins like a line of a report and is in none. A report is printed at the
+/// line that completes it; one that isn't whole at the line that begins the next report, or after
+/// all lines. Only the kernel's own lines count. A report without a counter gets one, which
+/// distinguishes it from the earlier reports with its key by the same printer, EDAC or the kernel.
+/// No line is rejected.
 #[derive(Drop)]
 pub struct LogFilter {
     edac: EdacReport,
@@ -40,7 +41,8 @@ impl Model for LogFilter {
 }
 
 impl LogFilter {
-    /// Before the first line of a log of this boot and of processors with this IA32_MCG_CAP.
+    /// Returns the filter before the first line of a log of this boot, of processors with this
+    /// IA32_MCG_CAP.
     pub fn new(alloc: Global, boot: u64, cap: u64) -> LogFilter
         ensures makes { log_makes result ≡ log_filter boot cap }
         ensures taken { result.taken ≡ 0 }

@@ -1,4 +1,4 @@
-//! Which lines of a kernel log are the kernel's own, by what stands before their mark.
+//! Which lines of a kernel log are the kernel's own, by the text before their prefix.
 
 ghost use Rattle.std.specs.Prelude.{◌≡◌, ◌+◌, ◌-◌, ◌<◌, ◌≤◌, ◌==◌, ◌↔◌, codes, drop, length, not, IfSome, IsTrue};
 ghost use Rattle.std.specs.List.{list_any, position};
@@ -7,9 +7,9 @@ ghost use Rattle.bank_lines.specs.LogHeads.{after, are_digits, are_signs, has_di
 
 use ras_script::position_of;
 
-/// Returns the first place of a text within another. Requires a text of at least one byte. The text
-/// is looked for by one of its bytes: a search for the whole of it costs more to set up than a line
-/// to look through.
+/// Returns the index of the first occurrence of a text in another. Requires a text of at least one
+/// byte. Searches for one byte of the text, because a search for the whole text costs more to set
+/// up than to look through a line.
 pub fn mark_place(text: &[u8], within: &[u8]) -> Option<usize>
     requires { 0 < length text.now }
     ensures place { result ≡ mark_place text.now within.now }
@@ -18,7 +18,7 @@ pub fn mark_place(text: &[u8], within: &[u8]) -> Option<usize>
     place_by(pivot_of(text), text, within)
 }
 
-// The place of the byte by which a text is looked for: its first capital letter, which few lines
+// The index of the byte that is searched for: the text's first capital letter, which few lines
 // without the text have, or its first byte.
 fn pivot_of(text: &[u8]) -> usize
     requires { 0 < length text.now }
@@ -30,7 +30,7 @@ fn pivot_of(text: &[u8]) -> usize
     }
 }
 
-// The first place of a text within another, looked for by its byte at `pivot`.
+// Returns the index of the first occurrence of a text, searching for its byte at `pivot`.
 fn place_by(pivot: usize, text: &[u8], within: &[u8]) -> Option<usize>
     requires { pivot < length text.now }
     ensures { FindsNeedle within.now text.now 0 result }
@@ -46,7 +46,7 @@ fn place_by(pivot: usize, text: &[u8], within: &[u8]) -> Option<usize>
     None
 }
 
-// Whether a text stands within another so that its byte at `pivot` has a place there.
+// Returns whether a text occurs with its byte at `pivot` at this index.
 pub(crate) fn stands_round(place: usize, pivot: usize, text: &[u8], within: &[u8]) -> bool
     requires { place ≤ length within.now }
     ensures { IsTrue result ↔ ((pivot ≤ place) × OccursAt within.now text.now (place - pivot)) }
@@ -54,7 +54,8 @@ pub(crate) fn stands_round(place: usize, pivot: usize, text: &[u8], within: &[u8
     place >= pivot && within[place - pivot..].starts_with(text)
 }
 
-/// A text up to the first of these bytes, the whole if there is none, and what follows that byte.
+/// Returns a text up to the first such byte, or all of it if there is none, and the text after that
+/// byte.
 #[tactic(auto, using(crate::proofs::LogHeadLemmas::found_front, crate::proofs::LogHeadLemmas::found_rest, crate::proofs::LogHeadLemmas::whole_front, crate::proofs::LogHeadLemmas::whole_rest))]
 pub fn cut(byte: u8, text: &[u8]) -> (&[u8], &[u8])
     ensures front { result.0.now ≡ up_to byte text.now }
@@ -66,7 +67,7 @@ pub fn cut(byte: u8, text: &[u8]) -> (&[u8], &[u8])
     }
 }
 
-// The first place of a byte that is no space.
+// Returns the index of the first byte that isn't a space.
 fn word_start(text: &[u8]) -> Option<usize>
     ensures place { result ≡ position (λ b. not (b == 32)) text.now }
     ensures within { IfSome result (λ place. place < length text.now) }
@@ -74,7 +75,7 @@ fn word_start(text: &[u8]) -> Option<usize>
     text.iter().position(|b| *b != b' ')
 }
 
-/// A text without the spaces before it.
+/// Returns a text without the spaces before it.
 #[tactic(auto, using(crate::proofs::LogHeadLemmas::found_text, crate::proofs::LogHeadLemmas::only_spaces))]
 pub fn without_spaces(text: &[u8]) -> &[u8]
     ensures { result.now ≡ without_spaces text.now }
@@ -85,7 +86,7 @@ pub fn without_spaces(text: &[u8]) -> &[u8]
     }
 }
 
-// A text without its first byte.
+// Returns a text without its first byte.
 fn without_first(text: &[u8]) -> &[u8]
     ensures { result.now ≡ drop 1 text.now }
 {
@@ -95,63 +96,63 @@ fn without_first(text: &[u8]) -> &[u8]
     }
 }
 
-// Whether a text is of digits alone.
+// Returns whether a text consists of digits.
 fn are_digits(text: &[u8]) -> bool
     ensures { result ≡ are_digits text.now }
 {
     text.iter().all(|b| b.is_ascii_digit())
 }
 
-// Whether a text has a digit.
+// Returns whether a text has a digit.
 pub(crate) fn has_digit(text: &[u8]) -> bool
     ensures { result ≡ has_digit text.now }
 {
     text.iter().any(|b| b.is_ascii_digit())
 }
 
-// Whether a text is a number.
+// Returns whether a text is a number.
 pub(crate) fn is_number(text: &[u8]) -> bool
     ensures { result ≡ is_number text.now }
 {
     !text.is_empty() && are_digits(text)
 }
 
-// Whether a byte is a sign of a host's name.
+// Returns whether a byte is a character of a host's name.
 fn is_name_sign(byte: u8) -> bool
     ensures { result ≡ is_name_sign byte }
 {
     matches!(byte, b'a'..=b'z' | b'A'..=b'Z' | b'0'..=b'9' | b'.' | b'-' | b'_')
 }
 
-// Whether a word is a host's name.
+// Returns whether a word is a host's name.
 fn is_name(word: &[u8]) -> bool
     ensures { result ≡ is_name word.now }
 {
     !word.is_empty() && are_name_signs(word)
 }
 
-// Whether a text is of the signs of names alone.
+// Returns whether a text consists of characters of names.
 fn are_name_signs(text: &[u8]) -> bool
     ensures { result ≡ are_name_signs text.now }
 {
     text.iter().all(|b| is_name_sign(*b))
 }
 
-// Whether a text is of names, and spaces between.
+// Returns whether a text consists of names and spaces.
 fn are_names(text: &[u8]) -> bool
     ensures { result ≡ are_names text.now }
 {
     text.iter().all(|b| *b == b' ' || is_name_sign(*b))
 }
 
-// Whether a text is the host's name and a space before it, or nothing.
+// Returns whether a text is a space and the host's name, or nothing.
 fn is_host(text: &[u8]) -> bool
     ensures { result ≡ is_host text.now }
 {
     text.is_empty() || text.starts_with(b" ") && is_name(without_first(text))
 }
 
-// Whether a byte is a sign of a time.
+// Returns whether a byte is a character of a time.
 fn is_sign(byte: u8) -> bool
     ensures { result ≡ list_any (λ sign. sign == byte) (codes "0123456789:.,+-TZ") }
 {
@@ -161,21 +162,22 @@ fn is_sign(byte: u8) -> bool
     )
 }
 
-// Whether a text is of the signs of times alone.
+// Returns whether a text consists of characters of times.
 fn are_signs(text: &[u8]) -> bool
     ensures { result ≡ are_signs text.now }
 {
     text.iter().all(|b| is_sign(*b))
 }
 
-// Whether a text has no space.
+// Returns whether a text has no space.
 pub(crate) fn is_joined(text: &[u8]) -> bool
     ensures { result ≡ is_joined text.now }
 {
     text.iter().all(|b| *b != b' ')
 }
 
-/// Whether a line of a kernel log is the kernel's own whose head this is: what stands before the mark.
+/// Returns whether a line's head, the text before its prefix, shows the line to be the kernel's
+/// own.
 pub fn is_own(head: &[u8]) -> bool
     ensures { result ≡ is_own head.now }
 {
@@ -185,14 +187,14 @@ pub fn is_own(head: &[u8]) -> bool
     }
 }
 
-// Whether a text may stand before the first colon that a space follows.
+// Returns whether a text may come before the first colon that a space follows.
 fn is_logger(text: &[u8]) -> bool
     ensures { result ≡ is_logger text.now }
 {
     is_facility(text) || is_kernel(text)
 }
 
-// Whether a text is the kernel's facility and a level.
+// Returns whether a text is the kernel's facility and a level.
 fn is_facility(text: &[u8]) -> bool
     ensures { result ≡ is_facility text.now }
 {
@@ -200,7 +202,7 @@ fn is_facility(text: &[u8]) -> bool
     text.starts_with(b"kern  :") && are_names(level)
 }
 
-// Whether a text is a time, perhaps the host's name, and the kernel's.
+// Returns whether a text is a time, perhaps the host's name, and the kernel's name.
 fn is_kernel(text: &[u8]) -> bool
     ensures { result ≡ is_kernel text.now }
 {
@@ -210,7 +212,7 @@ fn is_kernel(text: &[u8]) -> bool
     }
 }
 
-// Whether a text may stand before ` kernel: `.
+// Returns whether a text may come before ` kernel: `.
 fn is_dated(text: &[u8]) -> bool
     ensures { result ≡ is_dated text.now }
 {
@@ -221,7 +223,7 @@ fn is_dated(text: &[u8]) -> bool
     is_timed(text)
 }
 
-// Whether a text is of words of a time and names behind them.
+// Returns whether a text is words of a time, followed by names.
 fn is_timed(text: &[u8]) -> bool
     ensures { result ≡ is_timed text.now }
 {
@@ -232,14 +234,14 @@ fn is_timed(text: &[u8]) -> bool
         || is_name(first) && is_time(second) && is_time(third) && are_names(more)
 }
 
-// Whether a text may stand right before a message of the kernel.
+// Returns whether a text may come right before a message of the kernel.
 fn is_stamp(text: &[u8]) -> bool
     ensures { result ≡ is_stamp text.now }
 {
     text.is_empty() || is_bracketed(text) || is_leveled(text) || is_iso_time(text)
 }
 
-// Whether a text is a level and a time in brackets.
+// Returns whether a text is a level and a time in brackets.
 fn is_leveled(text: &[u8]) -> bool
     ensures { result ≡ is_leveled text.now }
 {
@@ -247,7 +249,7 @@ fn is_leveled(text: &[u8]) -> bool
     text.starts_with(b"<") && is_number(without_first(level)) && is_bracketed(rest)
 }
 
-// Whether a text is a time in brackets, with a caller after it or not, and a space.
+// Returns whether a text is a time in brackets, perhaps a caller, and a space.
 fn is_bracketed(text: &[u8]) -> bool
     ensures { result ≡ is_bracketed text.now }
 {
@@ -255,7 +257,7 @@ fn is_bracketed(text: &[u8]) -> bool
     text.starts_with(b"[") && is_clock(without_first(time)) && is_after_brackets(rest)
 }
 
-// Whether a text may follow brackets: a space, after a caller or not.
+// Returns whether a text may follow a time in brackets: a space, a caller, or both.
 fn is_after_brackets(text: &[u8]) -> bool
     ensures { result ≡ is_after_brackets text.now }
 {
@@ -264,7 +266,7 @@ fn is_after_brackets(text: &[u8]) -> bool
         || text.starts_with(b" ") && is_caller(without_first(text))
 }
 
-// Whether a text is a caller in brackets, and a space.
+// Returns whether a text is a caller in brackets, and a space.
 fn is_caller(text: &[u8]) -> bool
     ensures { result ≡ is_caller text.now }
 {
@@ -276,7 +278,7 @@ fn is_caller(text: &[u8]) -> bool
         && rest == b" ".as_slice()
 }
 
-// Whether a text is what `dmesg --time-format iso` puts before a message.
+// Returns whether a text is the time that `dmesg --time-format iso` prints before a message.
 fn is_iso_time(text: &[u8]) -> bool
     ensures { result ≡ is_iso_time text.now }
 {
@@ -284,35 +286,35 @@ fn is_iso_time(text: &[u8]) -> bool
     is_time(word) && text.get(10) == Some(&b'T') && rest.is_empty()
 }
 
-// Whether a word is of a time.
+// Returns whether a word is of a time.
 fn is_time(word: &[u8]) -> bool
     ensures { result ≡ is_time word.now }
 {
     has_digit(word) && are_signs(word)
 }
 
-// Whether a text is a time as it stands in brackets.
+// Returns whether a text is a time that brackets may hold.
 fn is_clock(text: &[u8]) -> bool
     ensures { result ≡ is_clock text.now }
 {
     has_digit(text) && are_clock_signs(text)
 }
 
-// Whether a byte is a sign of a time in brackets, and of no name.
+// Returns whether a byte is a character of a time in brackets, and not of a name.
 fn is_clock_mark(byte: u8) -> bool
     ensures { result ≡ list_any (λ sign. sign == byte) (codes " :+<>") }
 {
     matches!(byte, b' ' | b':' | b'+' | b'<' | b'>')
 }
 
-// Whether a text is of the signs of a time in brackets alone.
+// Returns whether a text consists of characters of a time in brackets.
 fn are_clock_signs(text: &[u8]) -> bool
     ensures { result ≡ are_clock_signs text.now }
 {
     text.iter().all(|b| is_name_sign(*b) || is_clock_mark(*b))
 }
 
-// The time in the head of a record, and what stands behind it.
+// Returns the time in the head of a record, and the text after the time.
 pub(crate) fn record_time(text: &[u8]) -> (&[u8], &[u8])
     ensures time { result.0.now ≡ record_time text.now }
     ensures rest { result.1.now ≡ after 44 (after 44 (after 44 text.now)) }
@@ -322,7 +324,7 @@ pub(crate) fn record_time(text: &[u8]) -> (&[u8], &[u8])
     cut(b',', rest)
 }
 
-// Whether a text is the head of a record of /dev/kmsg.
+// Returns whether a text is the head of a record of /dev/kmsg.
 fn is_record(text: &[u8]) -> bool
     ensures { result ≡ is_record text.now }
 {
@@ -332,7 +334,7 @@ fn is_record(text: &[u8]) -> bool
     is_number(level) && is_number(sequence) && is_number(time) && are_flags(flags)
 }
 
-// Whether a text may stand behind the time of a record.
+// Returns whether a text may follow the time of a record.
 fn are_flags(text: &[u8]) -> bool
     ensures { result ≡ are_flags text.now }
 {
@@ -340,7 +342,7 @@ fn are_flags(text: &[u8]) -> bool
     text.ends_with(b";") && rest.is_empty() && are_flag_signs(flags)
 }
 
-// Whether a text is of the signs of flags alone.
+// Returns whether a text consists of characters of flags.
 fn are_flag_signs(text: &[u8]) -> bool
     ensures { result ≡ are_flag_signs text.now }
 {

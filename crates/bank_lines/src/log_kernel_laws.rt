@@ -1,4 +1,4 @@
-//! What kernels print in their log is read, and an error that is printed twice has one name.
+//! Laws: what kernels print in their log is read, and an error that is printed twice has one name.
 
 ghost use Rattle.std.specs.Prelude.{◌≡◌, ◌<◌, ◌^◌, ℕ, List, [], ◌∷◌, ◌++◌, Bool, true, false};
 ghost use Rattle.ras_facts.specs.declared.bank.BankReport.{BankReport};
@@ -13,10 +13,11 @@ ghost use Rattle.bank_lines.specs.LogLines.{printed_plain};
 ghost use Rattle.bank_lines.specs.declared.log_line.Print.{Print};
 ghost use Rattle.bank_lines.specs.declared.log_state.Printers.{Printers};
 
-/// A kernel that prints each machine check prints one twice that EDAC prints: in EDAC's lines, and
-/// in its own. If EDAC and the kernel printed alike so far, what is found of the second text is what
-/// is found of the first, so the two reports have one name, also without a counter; and then both
-/// printed alike again. The function does nothing: its clauses are what it is for.
+/// If a kernel prints each machine check itself, an error that EDAC prints too is printed twice: in
+/// EDAC's lines, and in the kernel's own. If EDAC and the kernel printed errors with the same
+/// counts so far, the second text's finding is the first text's finding. So the two reports have
+/// one name, also without a counter, and the counts are equal again. The body is empty: the clauses
+/// are the point.
 pub fn twice_printed_errors_have_one_name()
     ensures found { (boot cap : ℕ) (before : Printers) (edac plain : LogGroup)
         (groups : List LogGroup) (report : BankReport) → before.edac ≡ before.kernel
@@ -35,9 +36,9 @@ pub fn twice_printed_errors_have_one_name()
         plain vendor (Whole report) in after.edac ≡ after.kernel }
 {}
 
-/// The text of a machine check, as kernels print it and as each driver of EDAC does, is read as its
-/// report; and both texts of one error are read as one report, twice.
-/// The function does nothing: its clauses are what it is for.
+/// The text of a machine check, as kernels print it and as each driver of EDAC prints it, is read
+/// as its report. Both texts of one error are read as one report, twice.
+/// The body is empty: the clauses are the point.
 pub fn printed_logs_are_read()
     ensures plain { (boot cap : ℕ) (heads : Heads) (exception : Bool) (p : Printed) → IsPrinted p
         → AreHeads heads → founds_of boot cap (plain_log heads exception p)

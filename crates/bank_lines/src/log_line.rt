@@ -1,10 +1,10 @@
-//! What the lines of a kernel log tell of machine checks.
+//! Reads what the lines of a kernel log say about machine checks.
 
 ghost use Rattle.std.specs.Prelude.{◌≡◌, ◌≤◌, ◌∷◌, ◌++◌, [], length, true, IfSome, Some};
 ghost use Rattle.bank_lines.specs.LogHeads.{is_own};
 ghost use Rattle.bank_lines.specs.Steps.Times.{IsTime};
 ghost use Rattle.bank_lines.specs.LogLines.{bracket_stamp, is_cut, is_of_report, log_line_after};
-ghost use Rattle.bank_lines.specs.LogLines.{log_line_of, log_mark, log_stamp_of, micros_of};
+ghost use Rattle.bank_lines.specs.LogLines.{log_line_of, log_mark, log_stamp_of, marked_stamp_of, micros_of};
 ghost use Rattle.bank_lines.specs.EdacLines.{edac_mark};
 ghost use Rattle.bank_lines.specs.LogLines.{driver_told, edac_line_after, left_unread, line_told_by, vendor_of};
 
@@ -14,21 +14,22 @@ use crate::mark::{EDAC_MARK, LogMark, PLAIN_MARK, mark_of};
 use ras_klog::{KlogLine, klog_line_after};
 use ras_script::decimal;
 
-/// The last second that a stamp may have: 12 digits.
+/// The greatest second of a time stamp: 12 digits.
 pub const LAST_SECOND: u64 = 999_999_999_999;
 
-/// The greatest stamp, in microseconds.
+/// The greatest time stamp, in microseconds.
 pub const LAST_STAMP: u64 = 999_999_999_999_999_999;
 
 /// The microseconds of a second.
 pub const MICROSECONDS: u64 = 1_000_000;
 
-/// What a line of a kernel log tells of machine checks.
+/// What a line of a kernel log says about machine checks.
 #[derive(Clone, Copy, Debug, PartialEq, Eq)]
 pub(crate) enum LogLine {
     // Nothing.
     Nothing,
-    // It begins as a line of a report, and can't be read as one, or isn't the kernel's own.
+    // A line that begins like a line of a report, and can't be read as one, or isn't the kernel's
+    // own.
     Unread,
     // A line of a report, how it was printed, and the vendor's number, which only a `Processor` has.
     Part {
@@ -44,16 +45,16 @@ pub(crate) struct Print {
     pub by_edac: bool,
 }
 
-// What a line tells by the mark that it has.
+// What a line says, and by which prefix it was read.
 #[derive(Clone, Copy, Debug, PartialEq, Eq)]
 pub(crate) enum MarkedLine {
-    // By the mark of the kernel's own text, or by none.
+    // By the prefix of the kernel's own text, or without a prefix.
     Plain(LogLine),
-    // By EDAC's mark.
+    // By EDAC's prefix.
     Edac(EdacLine),
 }
 
-// What a line of a kernel log tells. It takes no memory.
+// Returns what a line of a kernel log says. Allocates nothing.
 #[tactic(auto, using(crate::proofs::LogLineLemmas::line_is, crate::proofs::LogLineLemmas::edac_is, crate::proofs::LogLineLemmas::none_is))]
 pub(crate) fn log_line(line: &[u8]) -> MarkedLine
     ensures { result ≡ log_line_of line.now }
@@ -68,7 +69,7 @@ pub(crate) fn log_line(line: &[u8]) -> MarkedLine
     }
 }
 
-// What a line with this head tells that has this text after its mark.
+// Returns what a line with this head and this text after its prefix says.
 #[tactic(auto, using(crate::proofs::LogLineLemmas::after_is, crate::proofs::LogLineLemmas::other_is))]
 fn log_line_after(head: &[u8], text: &[u8]) -> LogLine
     ensures { result ≡ log_line_after head.now (log_mark ++ text.now) }
@@ -80,8 +81,8 @@ fn log_line_after(head: &[u8], text: &[u8]) -> LogLine
     line_told_by(print, text, klog_line_after(text))
 }
 
-// Whether a head shows its line as the kernel's own. Most have a time in brackets, where nothing is
-// looked for.
+// Returns whether a head shows its line to be the kernel's own. Most heads have a time in brackets,
+// in which nothing has to be searched for.
 fn is_kernels(head: &[u8]) -> bool
     ensures { result ≡ is_own head.now }
 {
@@ -91,8 +92,8 @@ fn is_kernels(head: &[u8]) -> bool
     }
 }
 
-// The microseconds in a head as the console and dmesg print it, brackets and a space. Such a head
-// shows its line as the kernel's own.
+// Returns the microseconds in a head as the console and dmesg print it: brackets and a space. Such
+// a head shows its line to be the kernel's own.
 fn console_stamp(head: &[u8]) -> Option<u64>
     ensures { IfSome result
         (λ stamp. (is_own head.now ≡ true) × (log_stamp_of head.now ≡ Some stamp)) }
@@ -100,7 +101,7 @@ fn console_stamp(head: &[u8]) -> Option<u64>
     time_stamp(in_brackets(head)?)
 }
 
-// What stands in brackets, if a head is of brackets and a space.
+// Returns the text in brackets, if a head consists of brackets and a space.
 fn in_brackets(head: &[u8]) -> Option<&[u8]>
     ensures { IfSome result (λ time. head.now ≡ 91 ∷ (time.now ++ 93 ∷ 32 ∷ [])) }
 {
@@ -110,7 +111,7 @@ fn in_brackets(head: &[u8]) -> Option<&[u8]>
     }
 }
 
-// The microseconds of a time in seconds, with 6 digits after its point.
+// Returns the microseconds of a time in seconds, with 6 digits after its point.
 fn time_stamp(time: &[u8]) -> Option<u64>
     ensures { IfSome result (λ stamp. IsTime time.now stamp) }
 {
@@ -123,7 +124,7 @@ fn time_stamp(time: &[u8]) -> Option<u64>
     Some(seconds * MICROSECONDS + micros)
 }
 
-// What a text after a mark is that tells nothing.
+// Returns what a text after a prefix says that is no line of a report.
 fn left_unread(text: &[u8]) -> LogLine
     ensures { result ≡ left_unread text.now }
 {
@@ -134,7 +135,7 @@ fn left_unread(text: &[u8]) -> LogLine
     }
 }
 
-// What a text after a mark tells, by what `klog` reads of it.
+// Returns what a text after a prefix says, given what `klog` reads in it.
 fn line_told_by(print: Print, text: &[u8], line: KlogLine) -> LogLine
     ensures { result ≡ line_told_by print text.now line }
 {
@@ -156,7 +157,7 @@ fn line_told_by(print: Print, text: &[u8], line: KlogLine) -> LogLine
     }
 }
 
-// What a line with this head tells from EDAC's mark on.
+// Returns what a line with this head says from EDAC's prefix on.
 fn edac_line_after(head: &[u8], marked: &[u8]) -> MarkedLine
     requires { length edac_mark ≤ length marked.now }
     ensures { result ≡ edac_line_after head.now marked.now }
@@ -167,7 +168,7 @@ fn edac_line_after(head: &[u8], marked: &[u8]) -> MarkedLine
     }
 }
 
-// What a line with this head tells by the text of a driver of EDAC.
+// Returns what a line with this head says, given the text of a driver of EDAC.
 fn driver_told(head: &[u8], text: &[u8]) -> MarkedLine
     ensures { result ≡ driver_told head.now text.now }
 {
@@ -183,7 +184,7 @@ fn driver_told(head: &[u8], text: &[u8]) -> MarkedLine
     }
 }
 
-// Whether a text begins as a line of a report.
+// Returns whether a text begins like a line of a report.
 fn is_of_report(text: &[u8]) -> bool
     ensures { result ≡ is_of_report text.now }
 {
@@ -191,7 +192,7 @@ fn is_of_report(text: &[u8]) -> bool
     word == b"CPU".as_slice() || word == b"TSC".as_slice() || word == b"PROCESSOR".as_slice()
 }
 
-// The vendor's number, the second word up to its colon, of a line that isn't cut.
+// Returns the vendor's number, the second word up to its colon, of a line that wasn't cut off.
 fn vendor_of(text: &[u8]) -> Option<u64>
     ensures { result ≡ vendor_of text.now }
 {
@@ -203,7 +204,7 @@ fn vendor_of(text: &[u8]) -> Option<u64>
     decimal(number, u64::MAX)
 }
 
-// Whether the line of a time ends with it.
+// Returns whether the line of a time ends with the time.
 fn is_cut(text: &[u8]) -> bool
     ensures { result ≡ is_cut text.now }
 {
@@ -213,8 +214,19 @@ fn is_cut(text: &[u8]) -> bool
     is_joined(rest)
 }
 
-/// The microseconds at which a line was printed, by its head, if that has them: from the kernel's
-/// start on, in the first brackets or in the third field of a record's head.
+/// Returns when a line with the mark of a machine check was printed, in microseconds since the
+/// kernel's start, if its head says so.
+pub fn marked_stamp(line: &[u8]) -> Option<u64>
+    ensures { result ≡ marked_stamp_of line.now }
+{
+    match mark_of(line) {
+        Some(LogMark::AtPlain(place) | LogMark::AtEdac(place)) => log_stamp_of(&line[..place]),
+        None => None,
+    }
+}
+
+/// Returns when a line was printed, in microseconds since the kernel's start, if its head says so:
+/// in its first brackets, or in the third field of a record's head.
 pub fn log_stamp_of(head: &[u8]) -> Option<u64>
     ensures { result ≡ log_stamp_of head.now }
 {
@@ -225,7 +237,7 @@ pub fn log_stamp_of(head: &[u8]) -> Option<u64>
     bracket_stamp(head)
 }
 
-// The microseconds in the first brackets of a head.
+// Returns the microseconds in the first brackets of a head.
 fn bracket_stamp(head: &[u8]) -> Option<u64>
     ensures { result ≡ bracket_stamp head.now }
 {
@@ -237,7 +249,7 @@ fn bracket_stamp(head: &[u8]) -> Option<u64>
     Some(seconds * MICROSECONDS + micros)
 }
 
-// A number of 6 digits.
+// Returns a number of 6 digits.
 fn micros_of(word: &[u8]) -> Option<u64>
     ensures value { result ≡ micros_of word.now }
     ensures within { IfSome result (λ micros. micros ≤ MICROSECONDS) }

@@ -1,4 +1,4 @@
-//! What is found in a kernel log, line by line.
+//! Finds the reports of a kernel log, line by line.
 
 ghost use Rattle.std.specs.Prelude.{◌≡◌, IfOk, OnErr, OnOk};
 ghost use Rattle.bank_lines.specs.LogAlong.{log_found_at, found_at_end, log_at_start, print_after};
@@ -7,20 +7,20 @@ ghost use Rattle.bank_lines.specs.LogGroups.{judged, named_by, no_names, printer
 
 use crate::Finding;
 use crate::log_line::{LogLine, Print};
-use crate::naming::KeyCounts;
+use crate::naming::AlikeCounts;
 use ras_base::NoMemory;
 use ras_klog::{KlogLine, KlogOut, KlogState};
 use std::alloc::Global;
 
-// The errors without a counter that each printer of a log told: a kernel prints an error that EDAC
-// printed too a second time itself.
+// The counts of each printer's errors without a counter: a kernel prints an error that EDAC printed
+// a second time itself.
 #[derive(Drop)]
 pub(crate) struct Printers {
-    kernel: KeyCounts,
-    edac: KeyCounts,
+    kernel: AlikeCounts,
+    edac: AlikeCounts,
 }
 
-// The report in work, how its first line was printed, and the reports before.
+// The current report, how its first line was printed, and the reports before it.
 #[derive(Drop)]
 pub(crate) struct LogState {
     work: KlogState,
@@ -29,17 +29,17 @@ pub(crate) struct LogState {
 }
 
 impl Printers {
-    // Before a log's first report.
+    // Returns the counts before a log's first report.
     fn new(alloc: Global) -> Printers
         ensures { result ≡ no_names }
     {
         Printers {
-            kernel: KeyCounts::new(alloc),
-            edac: KeyCounts::new(alloc),
+            kernel: AlikeCounts::new(alloc),
+            edac: AlikeCounts::new(alloc),
         }
     }
 
-    // Gives an error of a report that was printed so a counter, if it has none, and counts it.
+    // Gives a report of this printer a counter, if it has none, and counts it.
     fn name(&mut self, print: Print, found: &mut Finding) -> Result<(), NoMemory>
         ensures found { OnOk result (found.new ≡ named_by self.old print found.old) }
         ensures counts { OnOk result (self.new ≡ printers_with self.old print found.old) }
@@ -54,7 +54,7 @@ impl Printers {
 }
 
 impl LogState {
-    // Before a log's first line.
+    // Returns the state before a log's first line.
     pub(crate) fn new(alloc: Global) -> LogState
         ensures { result ≡ log_at_start }
     {
@@ -65,8 +65,8 @@ impl LogState {
         }
     }
 
-    // Takes a line, of a log of this boot and of processors with this IA32_MCG_CAP, and tells what
-    // is found there. Nothing changes if memory runs out.
+    // Takes a line, of a log of this boot and of processors with this IA32_MCG_CAP, and returns the
+    // finding at the line. Nothing changes if memory runs out.
     #[tactic(auto, using(crate::proofs::StepLemmas::no_place))]
     pub(crate) fn step(&mut self, line: LogLine, boot: u64, cap: u64) -> Result<Finding, NoMemory>
         ensures found { IfOk result (λ found. found ≡ log_found_at boot cap self.old line) }
@@ -95,7 +95,7 @@ impl LogState {
         }
     }
 
-    // What is found at the log's end.
+    // Returns the finding at the log's end.
     pub(crate) fn end(&self) -> Finding
         ensures { result ≡ found_at_end self.now }
     {
@@ -104,7 +104,7 @@ impl LogState {
     }
 }
 
-// How the report in work was printed, after a line that was printed so.
+// Returns how the current report was printed, after a line that was printed as `new` says.
 fn print_after(print: Print, line: KlogLine, new: Print) -> Print
     ensures { result ≡ print_after print line new }
 {
@@ -114,7 +114,7 @@ fn print_after(print: Print, line: KlogLine, new: Print) -> Print
     }
 }
 
-// What is found of what `klog` tells, by the report's vendor and without a name.
+// Returns the finding of what `klog` finds, given the report's vendor. The report isn't named yet.
 fn judged(vendor: u64, told: &KlogOut) -> Finding
     ensures { result ≡ judged vendor told.now }
 {

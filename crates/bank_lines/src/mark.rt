@@ -1,4 +1,4 @@
-//! Where the mark of a machine check stands in a line of a kernel log.
+//! Finds the prefix of a machine check in a line of a kernel log.
 
 ghost use Rattle.std.specs.Prelude.{◌≡◌, ◌+◌, ◌≤◌, length, IfSome};
 ghost use Rattle.bank_lines.specs.LogLines.{mark_of};
@@ -7,25 +7,25 @@ ghost use Rattle.bank_lines.specs.Steps.Marks.{FirstBelow, IsWithin};
 use crate::log_heads::stands_round;
 use ras_script::position_of;
 
-// What begins the kernel's own text of a machine check.
+// The prefix of the kernel's own text of a machine check.
 pub(crate) const PLAIN_MARK: &[u8] = b"mce: [Hardware Error]: ";
 
-// What begins a line of EDAC.
+// The prefix of EDAC's lines.
 pub(crate) const EDAC_MARK: &[u8] = b"EDAC ";
 
-// The place of the letter E in the first of them. Both are looked for by this letter, so that a line
-// is looked through once: a search for the whole of a mark costs more to set up.
+// The index of the letter E in the kernel's prefix. Both prefixes are found by this letter, so that
+// a line is looked through once: a search for a whole prefix costs more to set up.
 const PLAIN_PIVOT: usize = 15;
 
-// A mark, and where it stands.
+// A prefix and its index.
 #[derive(Clone, Copy, Debug, PartialEq, Eq)]
 pub(crate) enum LogMark {
     AtPlain(usize),
     AtEdac(usize),
 }
 
-// The mark by which a line is read: the first one of the kernel's own text, or if it has none the
-// first one of EDAC's.
+// Returns the prefix by which a line is read: the first prefix of the kernel's own text, or EDAC's
+// first prefix if there is no other.
 pub(crate) fn mark_of(line: &[u8]) -> Option<LogMark>
     ensures place { result ≡ mark_of line.now }
     ensures within { IfSome result (λ mark. IsWithin mark line.now) }
@@ -46,7 +46,7 @@ pub(crate) fn mark_of(line: &[u8]) -> Option<LogMark>
     }
 }
 
-// EDAC's first mark up to a place, if this is the first one below it.
+// Returns EDAC's first prefix up to an index, if `below` is the first one below this index.
 #[tactic(auto, using(crate::proofs::EdacMarkLemmas::first_here, crate::proofs::EdacMarkLemmas::first_round, crate::proofs::EdacMarkLemmas::first_stays))]
 fn first_edac(below: Option<usize>, place: usize, line: &[u8]) -> Option<usize>
     requires inside { place ≤ length line.now }

@@ -11,10 +11,11 @@ use ras_facts::BankReport;
 use std::alloc::Global;
 use std::marker::Model;
 
-/// The most keys that are counted: an account holds as many errors.
+/// The most keys that are counted: an account stores as many errors.
 pub const MOST_KEYS: usize = 200_000;
 
-/// The greatest number that an error has among those alike. Further ones are its repeats.
+/// The greatest number of an error with a key. Further errors with this key get this number too, so
+/// they are repeats.
 pub const MOST_ALIKE: u64 = 4095;
 
 /// The greatest prime below 2^20: checks of registers are below it.
@@ -22,11 +23,11 @@ pub const CHECKS: u128 = 1_048_573;
 
 /// How many errors without a counter one printer reported so far, by their keys.
 #[derive(Drop)]
-pub struct KeyCounts {
+pub struct AlikeCounts {
     table: IndexMap<u128, u64>,
 }
 
-impl Model for KeyCounts {
+impl Model for AlikeCounts {
     ghost use Rattle.std.specs.Prelude.{ℕ, List};
 
     ghost Value = { List (ℕ × ℕ) };
@@ -34,17 +35,17 @@ impl Model for KeyCounts {
     ghost view = { λ c. c.table.entries };
 }
 
-impl KeyCounts {
-    /// Before the first report of a printer.
-    pub fn new(alloc: Global) -> KeyCounts
+impl AlikeCounts {
+    /// Returns the counts before a printer's first report.
+    pub fn new(alloc: Global) -> AlikeCounts
         ensures { result ≡ [] }
     {
-        KeyCounts {
+        AlikeCounts {
             table: IndexMap::new(alloc),
         }
     }
 
-    /// Gives an error that was found without a counter one of its own, and counts it.
+    /// Makes a counter for an error that was found without one, and counts the error.
     ///
     /// # Errors
     ///
@@ -70,8 +71,8 @@ impl KeyCounts {
         Ok(())
     }
 
-    // Counts one more error of a key, and returns how many like it came before. None if the key is
-    // new and there is no room for it: then it isn't counted.
+    // Counts one more error of a key, and returns how many came before it. Returns `None`, and
+    // counts nothing, if the key is new and there is no room for it.
     fn count(&mut self, key: u128) -> Result<Option<u64>, NoMemory>
         ensures number { IfOk result (λ number. number ≡ number_in self.old key) }
         ensures counts { OnOk result (self.new ≡ counted self.old key) }
@@ -87,7 +88,7 @@ impl KeyCounts {
     }
 }
 
-// The number of the next error alike, after one of this number.
+// Returns the number of a key's next error, after an error with this number.
 fn number_after(number: u64) -> u64
     ensures { result ≡ number_after number }
 {
@@ -98,7 +99,7 @@ fn number_after(number: u64) -> u64
     }
 }
 
-/// Returns a report with a counter, if it has none: the counter of the first one alike.
+/// Returns a report with its key's first counter, if it has none.
 pub fn named_first(report: BankReport) -> BankReport
     ensures { result ≡ named_first report }
 {
@@ -109,7 +110,7 @@ pub fn named_first(report: BankReport) -> BankReport
     }
 }
 
-// A report with the counter of one that so many alike came before.
+// Returns a report with the counter of an error after `k` errors with its key.
 fn numbered(number: u64, report: BankReport) -> BankReport
     ensures { result ≡ numbered number report }
 {
@@ -124,7 +125,7 @@ fn numbered(number: u64, report: BankReport) -> BankReport
     }
 }
 
-// The counter of an error: its second, the check of its registers, and its number.
+// Returns the counter of an error: its second, the check of its registers, and its number.
 fn polled_counter(second: u64, check: u64, number: u64) -> u64
     requires second { second < 2 ^ 32 }
     requires check { check < 1048573 }
@@ -134,7 +135,7 @@ fn polled_counter(second: u64, check: u64, number: u64) -> u64
     second * (1 << 32) + check * (1 << 12) + number
 }
 
-// What two errors have in common that are alike: CPU, bank, second and check.
+// Returns an error's key: CPU, bank, second and check. Errors with one key are alike.
 fn key_of(report: &BankReport) -> u128
     ensures { result ≡ key_of report.now }
 {
@@ -142,7 +143,7 @@ fn key_of(report: &BankReport) -> u128
     (place * (1 << 32) + u128::from(second_of(report))) * (1 << 20) + register_check(report)
 }
 
-// The second of a report, of which 32 bits count.
+// Returns the lowest 32 bits of a report's seconds.
 fn second_of(report: &BankReport) -> u64
     ensures value { result ≡ second_of report.now }
     ensures within { result < 2 ^ 32 }
@@ -150,7 +151,7 @@ fn second_of(report: &BankReport) -> u64
     report.seconds % (1 << 32)
 }
 
-// The check of a report's status, address and other register.
+// Returns the check of a report's status, address and other register.
 #[tactic(auto, using(crate::proofs::NamingLemmas::check_by_words))]
 fn register_check(report: &BankReport) -> u128
     ensures value { result ≡ register_check report.now }
@@ -161,7 +162,7 @@ fn register_check(report: &BankReport) -> u128
     check_with(addr, report.misc)
 }
 
-// The check of registers with this check, and of one more.
+// Returns the check of registers with this check and of one more register.
 fn check_with(check: u128, register: u64) -> u128
     requires { check < 1048573 }
     ensures value { result ≡ check_with check register }

@@ -1,4 +1,4 @@
-//! What `lines` prints of its input.
+//! Laws: what `lines` prints for its input.
 
 ghost use Rattle.std.specs.Prelude.{◌≡◌, ℕ, ◌^◌, ◌<◌, List, ◌++◌, map, Ok};
 ghost use Rattle.line_filters.specs.Filters.{filter_output};
@@ -18,9 +18,9 @@ ghost use Rattle.bank_lines.specs.Texts.{asks_in, printed};
 use crate::log_laws::logs_are_made_lines;
 use crate::trace_laws::traces_are_read_back;
 
-/// What `lines` prints of a trace is the text of what is found in its lines, and of a log that of
-/// its reports; and then the stop line, if a line or the input is too long. Without one it asks, as
-/// a script, for the reports and for nothing else. Its clauses are what the function is for.
+/// `lines` prints the text of the findings in a trace's lines, or in a log's groups, and then the
+/// stop line, if a line or the input is too long. Without a stop line the text asks, as a script,
+/// for exactly the reports. The clauses are the point of this function.
 pub fn lines_laws()
     ensures trace { (boot : ℕ) (input : List ℕ) → filter_output (trace_filter boot) input
         ≡ printed (trace_founds boot (script_lines input).whole) ++ stop_line (script_exit input) }

@@ -1,4 +1,4 @@
-//! The parts of a text, in turn.
+//! Returns the parts of a text, one after another.
 
 ghost use Rattle.std.specs.Prelude.{◌≡◌, ◌<◌, [], ◌∷◌, length, IfSome, MatchOption, ◌==◌, ◌↔◌, IsTrue};
 ghost use Rattle.std.specs.List.{position};
@@ -8,7 +8,7 @@ ghost use Rattle.bank_lines.specs.PartsLeft.{parts_in};
 
 use ras_script::position_of;
 
-/// The parts of a text that are left: what stands between the separators, empty parts too.
+/// The parts of a text that are left, including empty ones.
 #[derive(Clone, Copy)]
 pub struct Parts<'a> {
     separator: u8,
@@ -37,7 +37,7 @@ impl<'a> Parts<'a> {
         Some(part)
     }
 
-    // Whether all parts are taken.
+    // Returns whether all parts are taken.
     pub(crate) fn are_taken(&self) -> bool
         ensures { IsTrue result ↔ (parts_in self.now ≡ []) }
     {
@@ -45,7 +45,7 @@ impl<'a> Parts<'a> {
     }
 }
 
-// The first part of a text, and what follows the separator after it.
+// Returns the first part of a text, and the text after its separator.
 #[tactic(auto, using(crate::proofs::PartsLemmas::parts_cut, crate::proofs::PartsLemmas::parts_whole))]
 fn cut(separator: u8, text: &[u8]) -> (&[u8], Option<&[u8]>)
     ensures parts { cut_at separator text.now
@@ -58,7 +58,7 @@ fn cut(separator: u8, text: &[u8]) -> (&[u8], Option<&[u8]>)
     }
 }
 
-// What follows the spaces that a text begins with.
+// Returns the text after the spaces that it begins with.
 pub(crate) fn after_spaces(text: &[u8]) -> &[u8]
     ensures { result.now ≡ after_spaces text.now }
 {
@@ -69,8 +69,8 @@ pub(crate) fn after_spaces(text: &[u8]) -> &[u8]
     rest
 }
 
-/// Returns what follows a name, if a text begins with the name. Most names are told apart by their
-/// first bytes.
+/// Returns the text after a name, if the text begins with the name. The first byte distinguishes
+/// most names.
 #[inline(always)]
 #[tactic(auto, using(crate::proofs::PartsLemmas::other_name))]
 pub fn value_after<'a>(name: &[u8], text: &'a [u8]) -> Option<&'a [u8]>

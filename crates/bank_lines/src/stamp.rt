@@ -1,11 +1,11 @@
-//! The time that a line of the kernel is stamped with.
+//! The time stamp of a line of the kernel.
 
 ghost use Rattle.std.specs.Prelude.{◌≡◌};
 ghost use Rattle.bank_lines.specs.Stamp.{stamp_of};
 
 use ras_script::decimal;
 
-/// The most seconds of a stamp. So many, and any microseconds, are a number of 64 bits.
+/// The most seconds of a stamp: with any microseconds they fit 64 bits.
 pub const MOST_SECONDS: u64 = 18_446_744_073_708;
 
 /// Returns the microseconds of a stamp, `<seconds>.<microseconds>:`, whose microseconds have six

@@ -1,4 +1,4 @@
-//! The lines that are printed of what was found.
+//! Prints the lines of what was found.
 
 ghost use Rattle.std.specs.Prelude.{◌≡◌, ◌<◌, ◌≤◌, ◌∷◌, ◌++◌, drop, false, OnOk};
 ghost use Rattle.std.specs.Fmt.{decimal, digit_glyph};
@@ -18,11 +18,11 @@ static DIGITS: [u8; 16] = [
     b'0', b'1', b'2', b'3', b'4', b'5', b'6', b'7', b'8', b'9', b'a', b'b', b'c', b'd', b'e', b'f',
 ];
 
-/// Appends the text of what was found in the line of this number.
+/// Appends the text of what was found in the line with this number.
 ///
 /// # Errors
 ///
-/// `NoMemory` if memory runs out.
+/// `NoMemory`: only if memory runs out.
 pub fn push_found(text: &mut Vec<u8>, found: &Finding, number: u64) -> Result<(), NoMemory>
     ensures { OnOk result (text.new.items ≡ text.old.items ++ found_text number found.now) }
 {
@@ -40,7 +40,7 @@ pub fn push_found(text: &mut Vec<u8>, found: &Finding, number: u64) -> Result<()
     Ok(())
 }
 
-// Adds the line of a report.
+// Appends the line of a report.
 fn push_bank(text: &mut Vec<u8>, report: &BankReport) -> Result<(), NoMemory>
     ensures { OnOk result (text.new.items ≡ text.old.items ++ asking_line report.now) }
 {
@@ -56,7 +56,8 @@ fn push_bank(text: &mut Vec<u8>, report: &BankReport) -> Result<(), NoMemory>
     push_register(text, report.misc)
 }
 
-// Adds the comment that an address was torn off at the line of this number, and the report's line.
+// Appends the comment that an address was torn off at the line with this number, and the report's
+// line.
 fn push_torn(text: &mut Vec<u8>, report: &BankReport, number: u64) -> Result<(), NoMemory>
     ensures { OnOk result
         (text.new.items ≡ text.old.items ++ torn_line number ++ 10 ∷ asking_line report.now) }
@@ -66,7 +67,7 @@ fn push_torn(text: &mut Vec<u8>, report: &BankReport, number: u64) -> Result<(),
     push_bank(text, report)
 }
 
-// Adds the comment of a report whose like aren't counted, and the report's line.
+// Appends the comment that a report's key has no room, and the report's line.
 fn push_full(text: &mut Vec<u8>, report: &BankReport) -> Result<(), NoMemory>
     ensures { OnOk result
         (text.new.items ≡ text.old.items ++ full_line ++ 10 ∷ asking_line report.now) }
@@ -75,7 +76,7 @@ fn push_full(text: &mut Vec<u8>, report: &BankReport) -> Result<(), NoMemory>
     push_bank(text, report)
 }
 
-// Adds the comment of a report that isn't whole.
+// Appends the comment of a report that isn't whole.
 fn push_partial(text: &mut Vec<u8>, cpu: u16, bank: u8) -> Result<(), NoMemory>
     ensures { OnOk result (text.new.items ≡ text.old.items ++ partial_comment cpu bank) }
 {
@@ -83,7 +84,7 @@ fn push_partial(text: &mut Vec<u8>, cpu: u16, bank: u8) -> Result<(), NoMemory>
     push_named(text, b" bank=", u64::from(bank))
 }
 
-// Adds the comment of another vendor's report.
+// Appends the comment of another vendor's report.
 fn push_foreign(text: &mut Vec<u8>, vendor: u64, cpu: u16, bank: u8) -> Result<(), NoMemory>
     ensures { OnOk result (text.new.items ≡ text.old.items ++ vendor_line vendor cpu bank) }
 {
@@ -92,7 +93,7 @@ fn push_foreign(text: &mut Vec<u8>, vendor: u64, cpu: u16, bank: u8) -> Result<(
     push_named(text, b" bank=", u64::from(bank))
 }
 
-// Adds the comment of what Linux makes up of the firmware's reports.
+// Appends the comment of a report that Linux makes up from the firmware's reports.
 fn push_firmware(text: &mut Vec<u8>, cpu: u16) -> Result<(), NoMemory>
     ensures { OnOk result (text.new.items ≡ text.old.items ++ firmware_line cpu) }
 {
@@ -101,7 +102,7 @@ fn push_firmware(text: &mut Vec<u8>, cpu: u16) -> Result<(), NoMemory>
     Ok(())
 }
 
-// Adds a number in decimal after a name.
+// Appends a number in decimal after a name.
 fn push_named(text: &mut Vec<u8>, name: &[u8], number: u64) -> Result<(), NoMemory>
     ensures { OnOk result (text.new.items ≡ text.old.items ++ name.now ++ decimal number) }
 {
@@ -109,7 +110,7 @@ fn push_named(text: &mut Vec<u8>, name: &[u8], number: u64) -> Result<(), NoMemo
     push_number(text, number)
 }
 
-// Adds a register in hexadecimal, after a space.
+// Appends a space and a register in hexadecimal.
 fn push_register(text: &mut Vec<u8>, register: u64) -> Result<(), NoMemory>
     ensures { OnOk result (text.new.items ≡ text.old.items ++ 32 ∷ hexadecimal register) }
 {
@@ -119,7 +120,7 @@ fn push_register(text: &mut Vec<u8>, register: u64) -> Result<(), NoMemory>
     Ok(())
 }
 
-// Writes a space and the digits of a number to the end of a buffer, and tells where they begin.
+// Writes a space and the digits of a number to the end of a buffer, and returns where they begin.
 fn write_word(number: u64, word: &mut [u8; WORD_BYTES]) -> usize
     ensures within { result ≤ WORD_BYTES }
     ensures word { drop result word.new ≡ 32 ∷ hexadecimal number }
@@ -138,7 +139,7 @@ fn write_word(number: u64, word: &mut [u8; WORD_BYTES]) -> usize
     place - 1
 }
 
-// The hexadecimal digit of a value.
+// Returns the hexadecimal digit of a value.
 #[inline(always)]
 fn digit_of(value: u64) -> u8
     requires { value < 16 }

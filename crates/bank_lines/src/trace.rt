@@ -1,4 +1,4 @@
-//! What is found in a line of the text of the kernel's trace.
+//! Finds the machine check in a line of the kernel's trace.
 
 ghost use Rattle.std.specs.Prelude.{◌≡◌, ◌+◌, ◌≤◌, [], length, IfSome};
 ghost use Rattle.bank_lines.specs.Parts.{cut_at};
@@ -12,12 +12,13 @@ use crate::parts::Parts;
 use memchr::memmem;
 use ras_facts::BankReport;
 
-// What stands before the text of an event.
+// The event name, which comes before the text of an event.
 const MARK: &[u8] = b"mce_record: ";
 
-/// What is found in a line of the text of the kernel's trace, in this boot. It takes no memory.
+/// Returns what is found in a line of the kernel's trace in this boot. Allocates nothing.
 ///
-/// What follows the last `mce_record: ` of the line counts, if it is where tracers print it.
+/// Reads the text after the last `mce_record: ` of the line, if this name is where tracers print
+/// it.
 pub fn trace_found(boot: u64, line: &[u8]) -> Finding
     ensures { result ≡ trace_found boot line.now }
 {
@@ -33,7 +34,7 @@ pub fn trace_found(boot: u64, line: &[u8]) -> Finding
     }
 }
 
-// Where the last mark of a line stands.
+// Returns the index of a line's last event name.
 fn last_mark(line: &[u8]) -> Option<usize>
     ensures place { result ≡ last_mark line.now }
     ensures within { IfSome result (λ place. place + 12 ≤ length line.now) }
@@ -41,7 +42,7 @@ fn last_mark(line: &[u8]) -> Option<usize>
     memmem::rfind(line, MARK)
 }
 
-// Whether a mark behind this text is where tracers print an event.
+// Returns whether tracers print this text before an event's name.
 fn is_traced(before: &[u8]) -> bool
     ensures { result ≡ is_traced before.now }
 {
@@ -83,14 +84,14 @@ pub fn is_count(word: &[u8]) -> bool
     word.len() > 3 && has_digit(word) && are_count_signs(word)
 }
 
-// Whether a word is of digits and points alone.
+// Returns whether a word consists of digits and points.
 fn are_count_signs(word: &[u8]) -> bool
     ensures { result ≡ are_count_signs word.now }
 {
     word.iter().all(|b| *b == b'.' || b.is_ascii_digit())
 }
 
-// Whether a text may stand between the clock's colon and the mark.
+// Returns whether a text may come between the clock's colon and the event name.
 fn is_system(text: &[u8]) -> bool
     ensures { result ≡ is_system text.now }
 {
@@ -98,7 +99,7 @@ fn is_system(text: &[u8]) -> bool
     name.is_empty() || name == b"mce:".as_slice()
 }
 
-// What is found of an event.
+// Returns the finding of an event.
 fn event_found(boot: u64, event: TraceEvent) -> Finding
     ensures { result ≡ event_found boot event }
 {

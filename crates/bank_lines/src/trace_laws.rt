@@ -1,4 +1,4 @@
-//! What holds of the lines of a trace.
+//! Laws on the lines of a trace.
 
 ghost use Rattle.std.specs.Prelude.{◌≡◌, ℕ, ◌^◌, ◌<◌, ◌⊎◌, List, ◌∷◌, ◌++◌, false, length, map, Ok};
 ghost use Rattle.std.specs.List.{AllByRecursion};
@@ -13,25 +13,26 @@ ghost use Rattle.bank_lines.specs.Finding.{IsFoundInRange, Numbered, reports_in}
 ghost use Rattle.bank_lines.specs.Texts.{asks_in, found_text, printed};
 ghost use Rattle.bank_lines.specs.Trace.{is_event_line, trace_found};
 
-/// All that is found in the lines of a trace fits its types, so it is read back: what the printed
-/// lines ask for is the whole reports of the trace, in order. The function does nothing: its
-/// clauses are what it is for.
+/// All findings in the lines of a trace fit their types, so they are read back: the printed lines
+/// ask for exactly the whole reports of the trace, in order. The body is empty: the clauses are the
+/// point.
 pub fn traces_are_read_back()
     ensures range { (boot : ℕ) (lines : List (List ℕ)) → boot < 2 ^ 64 → length lines < 2 ^ 64
         → AllByRecursion IsFoundInRange (trace_founds boot lines) }
 
-    // The filter prints the text of each, and refuses no line.
+    // The filter prints the text of each finding, and rejects no line.
     ensures answers { (boot : ℕ) (lines : List (List ℕ)) → (trace_filter boot).answers lines
         ≡ map (λ (n : Numbered). Ok (found_text n.number n.found)) (trace_founds boot lines) }
-    // A line whose mark isn't where tracers print it tells nothing, or that it can't be read: the
-    // reports are what they are without it.
+    // A line whose event name isn't where tracers print it says nothing, or can't be read: the
+    // reports are the same without it.
     ensures others { (boot : ℕ) (line : List ℕ) → is_event_line line ≡ false
         → (trace_found boot line ≡ Nothing) ⊎ (trace_found boot line ≡ Unread) }
     ensures alone { (boot : ℕ) (before after : List (List ℕ)) (line : List ℕ)
         → is_event_line line ≡ false
         → reports_in (trace_founds boot (before ++ line ∷ after))
         ≡ reports_in (trace_founds boot (before ++ after)) }
-    // An error without a counter is named by how many alike the trace had before.
+    // An error without a counter is named by its key, and by how many errors with this key the
+    // trace had before.
     ensures named { (boot : ℕ) (lines : List (List ℕ)) → reports_in (trace_founds boot lines)
         ≡ all_named (traced_reports boot lines) }
     ensures asks { (boot : ℕ) (lines : List (List ℕ)) → boot < 2 ^ 64 → length lines < 2 ^ 64

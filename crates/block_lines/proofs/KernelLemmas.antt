@@ -1,4 +1,4 @@
--- What the kernel prints of a report is read.
+-- The lines that the kernel prints of a report are read.
 use Rattle.std.proofs.Common.{◌≡◌, ℕ, zero, suc, ◌+◌, ◌-◌, ◌^◌, ◌<◌, ◌≤◌, ◌==◌, nat_lt, Bool, true, false, List, [], ◌∷◌, ◌++◌, codes, decimal, length, map, take, drop, refl, sym, ap, ◌∙◌, arith, append_assoc, append-nil, length-append, lit<, Option, Some, None}
 use Rattle.std.specs.Prelude.{IfSome, if◌then◌else◌}
 use Rattle.std.specs.List.{AllByRecursion, position_or_len}
@@ -30,7 +30,7 @@ use Rattle.block_lines.specs.declared.report.OpenSection.TheVariants.{Absent, Be
 use Rattle.block_lines.specs.declared.report_line.ReportLine.{ReportLine}
 use Rattle.block_lines.specs.declared.report_line.ReportLine.TheVariants as lines
 
--- ---- a text up to the first of a byte, and behind it
+-- ---- a text before and after a byte
 
 first_byte : (byte : ℕ) (word rest : List ℕ) → Lacks byte word → position_or_len (λ b. b == byte) (word ++ byte ∷ rest) ≡ length word
 first_byte byte [] rest lacks =
@@ -57,7 +57,7 @@ no_spaces (d ∷ word) rest some lacks =
 
 -- ---- lines
 
--- what a text says after a report's number
+-- what a text after a report's number says
 abbrev own_said : ℕ → List ℕ → OwnLine
 own_said number text = record { report = number; line = report_line_of text }
 
@@ -117,7 +117,7 @@ kind_read name n small =
 
 -- ---- the place
 
--- a number behind its name, and what follows it
+-- a number after its name is read, and the text after it is found
 named_is : (name : List ℕ) → ((x : List ℕ) → value_after name (name ++ x) ≡ Some x) → (o : Option ℕ) (more : List ℕ)
     → IfSome o (λ n. n < 2 ^ 16) → value_after name more ≡ None
     → (number_named name (with_number name o more) ≡ o) × (after_named name (with_number name o more) ≡ more)
@@ -177,23 +177,23 @@ module _ (p : PrintedError) (h : IsPrinted p) where
 
 -- ---- what a report's errors are by then
 
--- these errors ended, and this is the section
+-- these errors ended, and this section is open
 abbrev at : List MemoryError → OpenSection → ErrorsRead
 at es section = record { ended = es; section = section }
 
--- one more text
+-- the errors read after one more text
 told : (given : ℕ) (es : List MemoryError) (section : OpenSection) (text : List ℕ) (line : ReportLine) (more : List (List ℕ)) → report_line_of text ≡ line
     → texts_read given (at es section) (text ∷ more) ≡ texts_read given (line_read given (at es section) line) more
 told given es section words line more is = ap (λ (l : ReportLine). texts_read given (line_read given (at es section) l) more) is
 
--- a text that says nothing, if it is printed
+-- a text that says nothing changes nothing, if it is printed
 passed : (given : ℕ) (es : List MemoryError) (section : OpenSection) (name : List ℕ) → ((t : List ℕ) → report_line_of (name ++ t) ≡ lines.Other)
     → (o : Option (List ℕ)) (more : List (List ℕ)) → texts_read given (at es section) (optional name o more) ≡ texts_read given (at es section) more
 passed given es section name other None more = refl
 passed given es section name other (Some t) more = told given es section (name ++ t) lines.Other more (other t)
 
 module _ (given : ℕ) (es : List MemoryError) (s : ℕ) where
-  -- a memory error of which so much is known
+  -- a memory error of which these fields are known
   abbrev known : Option ℕ → Option ℕ → ErrorLocation → Option ℕ → ErrorsRead
   known physical mask location kind = at es (Memory (record { severity = s; physical = physical; mask = mask; location = location; kind = kind }))
 
@@ -218,7 +218,7 @@ module _ (given : ℕ) (es : List MemoryError) (s : ℕ) where
   kind_told physical mask location name (Some n) more small =
       told given es (Memory (record { severity = s; physical = physical; mask = mask; location = location; kind = None })) (codes "  error_type: " ++ kind_text name n) (lines.Field (Some (Kind n))) more (kind_read name n small)
 
-  -- the place, if a number of it is known, or something else
+  -- the location is read, if one of its numbers is known; other text in its place says nothing
   place_told : (physical mask node card number : Option ℕ) (others : List ℕ) (more : List (List ℕ))
       → location_of (location_text node card number others) ≡ record { node = node; card = card; «module» = number }
       → section_said others ≡ lines.Other
@@ -237,7 +237,7 @@ module _ (given : ℕ) (es : List MemoryError) (s : ℕ) where
   place_told physical mask None None None (b ∷ others) more is silent =
       told given es (Memory (record { severity = s; physical = physical; mask = mask; location = nowhere; kind = None })) (codes "  " ++ b ∷ others) lines.Other more silent
 
--- the fields of a memory section
+-- the fields of a memory section are read
 fields_told : (given : ℕ) (es : List MemoryError) (p : PrintedError) (more : List (List ℕ)) → IsPrinted p
     → texts_read given (at es (Memory (blank_error p.severity))) (field_texts p more) ≡ texts_read given (at es (Memory (error_of p))) more
 fields_told given es p more h =
@@ -254,12 +254,12 @@ fields_told given es p more h =
     ∙ kind_told given es p.severity p.physical p.mask at_place p.kind_name p.kind last h.kind
     ∙ passed given es (Memory (error_of p)) (codes "  DIMM location: ") (λ t. refl) p.slot more
 
--- the time of an error
+-- the time of an error says nothing
 pub time_passed : (is_precise : Bool) (t : List ℕ) → report_line_of (time_name is_precise ++ t) ≡ lines.Other
 time_passed true t = refl
 time_passed false t = refl
 
--- the texts of an error, after fewer errors than a report keeps
+-- the texts of an error are read, after fewer errors than a report stores
 error_told : (given : ℕ) (es : List MemoryError) (section : OpenSection) (number : ℕ) (p : PrintedError) (more : List (List ℕ)) → IsPrinted p → number < 2 ^ 64
     → length (es ++ section_errors section) < 12
     → texts_read given (at es section) (error_texts number p more) ≡ texts_read given (at (es ++ section_errors section) (Memory (error_of p))) more
@@ -278,7 +278,7 @@ error_told given es section number p more h fits few =
     ∙ ap (λ (b : Bool). texts_read given (at ended (if b then Memory (blank_error p.severity) else LeftOut)) fields) room
     ∙ fields_told given ended p more h
 
--- those of all errors
+-- the texts of all errors are read
 errors_told : (given : ℕ) (es : List MemoryError) (section : OpenSection) (number : ℕ) (ps : List PrintedError) → AllByRecursion IsPrinted ps
     → number + length ps < 2 ^ 64 → length (es ++ section_errors section) + length ps ≤ 12
     → errors_read (texts_read given (at es section) (errors_texts number ps)) ≡ (es ++ section_errors section) ++ map error_of ps

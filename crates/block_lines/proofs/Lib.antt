@@ -5,3 +5,4 @@ mod PrintedLemmas
 pub mod ReadBackLemmas
 mod TextLemmas
 mod ToldLemmas
+pub mod WholeLemmas

@@ -38,7 +38,7 @@ pub zeros : (k : ℕ) → AllBytes (replicate k 0)
 zeros zero = tt
 zeros (suc k) = (lit< tt, zeros k)
 
--- a literal, by a test that computes
+-- a literal consists of bytes, by computing
 pub literal : (xs : List ℕ) → list_all (λ b. nat_lt b 256) xs ≡ true → AllBytes xs
 literal [] all = tt
 literal (x ∷ xs) all = by (nat_lt x 256) refl all (λ rest. literal xs rest)

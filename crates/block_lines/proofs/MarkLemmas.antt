@@ -1,4 +1,4 @@
--- A line with a report's mark, and what it changes if it isn't the kernel's own.
+-- A line with a report's number and prefix, and what it changes if it isn't the kernel's own.
 use Rattle.std.proofs.Common.{◌≡◌, ℕ, suc, ◌+◌, ◌^◌, ◌<◌, ◌&&◌, ◌==◌, ◌||◌, Bool, true, false, List, [], ◌∷◌, ◌++◌, decimal, drop, length, refl, sym, ap, ◌∙◌, arith, length-drop, Option, Some, None}
 use Rattle.std.specs.Prelude.{is_some, if◌then◌else◌}
 use Rattle.std.specs.List.{position_or_len}
@@ -9,7 +9,7 @@ use Rattle.block_lines.specs.declared.log_line.Marking.TheVariants.{Foreign, Own
 use Rattle.block_lines.specs.declared.log_line.OwnLine.{OwnLine}
 use Rattle.block_lines.proofs.KernelLemmas.{mark_read}
 
--- a text is marked after its first brace or after a later one
+-- a report's number and prefix come after the first brace of a text, or after a later one
 pub mark_after : (text : List ℕ) → has_mark text ≡ (is_some (marked_line_of (after 123 text)) || has_mark (after 123 text))
 mark_after [] = refl
 mark_after (b ∷ text) = by (b == 123) refl (mark_after text)
@@ -28,7 +28,7 @@ or_true : (b : Bool) → (b || true) ≡ true
 or_true true = refl
 or_true false = refl
 
--- what the kernel prints after any head is marked
+-- a line that the kernel prints after any head has a report's number and prefix
 pub printed_marked : (head : List ℕ) (number : ℕ) (text : List ℕ) → number < 2 ^ 64 → has_mark (printed_line head number text) ≡ true
 printed_marked [] number text small =
     ap (λ (o : Option OwnLine). is_some o || has_mark (decimal number ++ 125 ∷ (error_mark ++ text))) (mark_read number text small)

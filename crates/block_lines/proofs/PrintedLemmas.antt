@@ -36,9 +36,9 @@ log_line_is head number text h small =
     ap own_line_of (unchanged line h.whole) ∙ line_is_own head number text h.own h.lacks small in
     λ i. record { stamp = stamp i; marking = own i }
 
--- ---- a report in work
+-- ---- the open report
 
--- the number of a report, its source and the time stamp of its first line, with the boot and the sources before
+-- a report's number and source, the time stamp of its first line, the boot, and the sources before the report
 record Report : Type 0 where
   pub boot : ℕ
   pub began : ℕ
@@ -105,7 +105,7 @@ quiet_optional name (Some t) more each all = (each t, all)
 passes : (name : List ℕ) → ((t : List ℕ) → report_line_of (name ++ t) ≡ lines.Other) → (t : List ℕ) → IsQuiet (name ++ t)
 passes name other t = quiet (name ++ t) lines.Other (other t) refl (λ severity. refl)
 
--- a number behind its name
+-- a text with a number after its name is quiet
 quiet_number : (name : List ℕ) (text_of : ℕ → List ℕ) (o : Option ℕ) (more : List (List ℕ)) → IfSome o (λ n. IsQuiet (name ++ text_of n)) → AllQuiet more
     → AllQuiet (optional name (option_map text_of o) more)
 quiet_number name text_of None more each all = all
@@ -161,7 +161,7 @@ quiet_errors number (p ∷ ps) all fits =
 
 -- ---- lines, one after another
 
--- after lines that are quiet the report has its severity still
+-- after quiet lines the report has the same severity
 texts_go_on : (p : Report) (last severity : ℕ) (read : ErrorsRead) (heads texts : List (List ℕ)) → p.number < 2 ^ 64 → AreHeaded p.number heads texts → AllQuiet texts
     → (later : ℕ) × (reporting_over (going p last severity read) (printed_lines p.number heads texts) ≡ going p later severity (texts_read severity read texts))
 texts_go_on p last severity read [] [] small headed all = (last, refl)
@@ -177,7 +177,7 @@ texts_go_on p last severity read (head ∷ heads) (text ∷ texts) small headed 
     let (later, rest) = texts_go_on p next severity (line_read severity read line) heads texts small headed.1 all.1 in
     (later, ap (λ (r : Reporting). reporting_over r (printed_lines p.number heads texts)) one ∙ rest)
 
--- one line that tells the severity, and those after it
+-- one line says the severity, and the lines after it are quiet
 event_goes_on : (p : Report) (last severity : ℕ) (heads : List (List ℕ)) (ps : List PrintedError) → p.number < 2 ^ 64 → severity < 4 → AllByRecursion IsPrinted ps → length ps ≤ 12
     → AreHeaded p.number heads (event_text severity ∷ errors_texts 0 ps)
     → (later : ℕ) × (reporting_over (going p last 3 (record { ended = []; section = Absent })) (printed_lines p.number heads (event_text severity ∷ errors_texts 0 ps))

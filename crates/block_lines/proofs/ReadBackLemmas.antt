@@ -1,4 +1,4 @@
--- The blocks that are made are read back.
+-- The blocks that the filter makes are read back.
 use Rattle.std.proofs.Common.{◌≡◌, ℕ, ◌+◌, ◌*◌, ◌^◌, ◌<◌, ◌≤◌, ◌==◌, ◌&&◌, Bool, true, false, nat_lt, List, [], ◌∷◌, ◌++◌, length, map, take, drop, refl, sym, ap, ◌∙◌, arith, append-nil, length-append, lit<, Option, Some, None, Ok, Err}
 use Rattle.std.specs.Prelude.{is_err, is_some, slice_index, unwrap_or, if◌then◌else◌, IfSome}
 use Rattle.std.proofs.lemmas.Bool.Decides.{nat_tests}
@@ -68,7 +68,7 @@ same_is false false is = refl
 abbrev flags : Bool → Bool → Bool → Bool → Bool → Bool → ℕ
 flags a b c d e f = flag a 2 + flag b 4 + (flag c 8 + flag d 16 + flag e 32) + flag f 16384
 
--- whether each bit of the fields is as it should be, and those of the bank, the row and the rank are clear
+-- whether each field's validation bit is as given, and the bits of the bank, the row and the rank are clear
 abbrev are_right : Bool → Bool → Bool → Bool → Bool → Bool → ℕ → Bool
 are_right a b c d e f v =
     same (is_set 1 v) a && (same (is_set 2 v) b && (same (is_set 3 v) c && (same (is_set 4 v) d && (same (is_set 5 v) e
@@ -91,7 +91,7 @@ and_right : (a b : Bool) → (a && b) ≡ true → b ≡ true
 and_right true b is = is
 and_right false b is = absurd cc
 
--- the flags of six fields
+-- the validation bits of six fields are as given
 record Flags (a b c d e f : Bool) (v : ℕ) : Type 0 where
   pub physical : is_set 1 v ≡ a
   pub mask : is_set 2 v ≡ b
@@ -233,7 +233,7 @@ module _ (e : MemoryError) where
     abbrev bytes : List ℕ
     bytes = memory_section_bytes e
 
-    -- a field that is there if its bit says so, or that isn't there
+    -- a field is read if its validation bit is set, and is missing otherwise
     there : (bit value : ℕ) (o : Option ℕ) → is_set bit v ≡ is_some o → value ≡ unwrap_or o 0 → if_valid bit (number_at 0 8 bytes) value ≡ o
     there bit value o set is = ap (λ (w : ℕ). if_valid bit w value) validation_is ∙ valid_is bit v value o set is
 
@@ -276,7 +276,7 @@ module _ (e : MemoryError) where
     unfolding is_refused
     not_refused = ap is_err section_is
 
--- ---- entries, one behind the other
+-- ---- entries, one after another
 
 laid : (es : List MemoryError) → concat (map error_entry_bytes es) ≡ flat_map error_entry_bytes es
 laid [] = refl
@@ -313,7 +313,7 @@ status_told s count = by (s == 2)
     by true = grind (arith, nat_tests)
     by false = grind (arith, nat_tests)
 
--- a block by its status and its data
+-- a block is read by its status and its data
 pub block_by : (bytes : List ℕ) (status : ℕ) (entries : List (List ℕ)) → nat_lt (length bytes) 20 ≡ false → number_at 0 4 bytes ≡ status
     → (number_at 0 4 bytes == 0) ≡ false → nat_lt (length bytes) (20 + number_at 12 4 bytes) ≡ false
     → entries_of (take (number_at 12 4 bytes) (drop 20 bytes)) ≡ Some entries → list_any is_refused entries ≡ false

@@ -2,14 +2,14 @@
 use Rattle.std.proofs.Common.{◌≡◌, ℕ, List, [], ◌∷◌, ◌++◌, codes, refl, ap, ◌∙◌, append_assoc, Result, Ok, Err, OnOk}
 use Rattle.std.specs.List.{join_with_byte}
 
--- two pieces, one after the other, if the second was put there
+-- two pieces, one after the other, if the second is appended to the first
 pub two_pieces : {A E : Type 0} (old a b c d first second : List ℕ) (result : Result A E)
     → first ≡ old ++ a ++ b → OnOk result (second ≡ first ++ c ++ d) → OnOk result (second ≡ old ++ (a ++ b ++ c ++ d))
 two_pieces old a b c d first second (Ok done) one two =
     two ∙ ap (λ (t : List ℕ). t ++ c ++ d) one ∙ simp append_assoc refl
 two_pieces old a b c d first second (Err why) one two = tt
 
--- the words of the line of a block
+-- the words of a block's line
 pub ghes_pieces : (old boot seconds source number hex t1 t2 t3 t4 t5 t6 last : List ℕ)
     → t1 ≡ old ++ codes "ghes " ++ boot → t2 ≡ t1 ++ codes " " ++ seconds → t3 ≡ t2 ++ codes " " ++ source → t4 ≡ t3 ++ codes " " ++ number
     → t5 ≡ t4 ++ 32 ∷ [] → t6 ≡ t5 ++ hex → last ≡ t6 ++ 10 ∷ []

@@ -19,7 +19,7 @@ use Rattle.block_lines.specs.declared.report_line.ReportLine.TheVariants as line
 abbrev at : Option ℕ → Bool → ReportLogLine
 at stamp foreign = record { stamp = stamp; marking = if foreign then Foreign else Unmarked }
 
--- a line that isn't the kernel's own ends a report by its time alone
+-- a line that isn't the kernel's own ends a report only by its time
 ends_alike : (r : Reporting) (stamp : Option ℕ) → is_end r (at stamp true) ≡ is_end r (at stamp false)
 ends_alike r stamp = by r.work
   where

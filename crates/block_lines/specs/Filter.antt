@@ -6,7 +6,7 @@ use Rattle.block_lines.specs.LogLines.{report_log_line}
 use Rattle.block_lines.specs.Reports.{Reporting, no_reports, reporting_after}
 use Rattle.block_lines.specs.Texts.{rest_text, blocks_text_at}
 
--- the text of each line, after this many lines; no line is refused
+-- the text of each line, after this many lines; no line is rejected
 abbrev pub block_answers : ℕ → Reporting → List (List ℕ) → List (Result (List ℕ) LineRefused)
 block_answers taken r [] = []
 block_answers taken r (line ∷ lines) =
@@ -26,6 +26,13 @@ rest_after r lines = rest_text (reporting_over r lines)
 pub record BlockProgress : Type 0 where
   pub reports : Reporting
   pub taken : ℕ
+
+-- after a line, whatever of its text a trace has too
+abbrev pub progress_after : BlockProgress → List ℕ → BlockProgress
+progress_after log line = record {
+  reports = reporting_after log.reports (report_log_line line);
+  taken = log.taken + 1;
+}
 
 -- the filter that goes on from here
 abbrev pub blocks_make : BlockProgress → Filter

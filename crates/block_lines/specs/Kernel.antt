@@ -63,7 +63,7 @@ error_text number severity =
 abbrev pub kind_text : List ℕ → ℕ → List ℕ
 kind_text name kind = decimal kind ++ 44 ∷ name
 
--- a number after its name and before more, if the number is known
+-- a number after its name, if the number is known, and more text after it
 abbrev pub with_number : List ℕ → Option ℕ → List ℕ → List ℕ
 with_number name None more = more
 with_number name (Some n) more = name ++ (decimal n ++ 32 ∷ more)
@@ -78,12 +78,12 @@ location_text node card number others =
 abbrev pub time_name : Bool → List ℕ
 time_name is_precise = if is_precise then codes " precise tstamp: " else codes " imprecise tstamp: "
 
--- a text before more, if it is printed
+-- a text after its name, if it is printed, and more texts after it
 abbrev pub optional : List ℕ → Option (List ℕ) → List (List ℕ) → List (List ℕ)
 optional name None more = more
 optional name (Some text) more = (name ++ text) ∷ more
 
--- the location, unless nothing of it is known
+-- the text of the location, if any of it is known, and more texts after it
 abbrev pub unless_empty : List ℕ → List (List ℕ) → List (List ℕ)
 unless_empty [] more = more
 unless_empty (b ∷ text) more = (codes "  " ++ b ∷ text) ∷ more
@@ -114,14 +114,14 @@ errors_texts number (p ∷ ps) = error_texts number p (errors_texts (number + 1)
 
 -- ---- what is in range
 
--- what follows the location's first three numbers begins with none of their names, and by itself says nothing
+-- The text after the location's first three numbers begins with none of their names, and says nothing by itself.
 pub record AreOthers (others : List ℕ) : Type 0 where
   pub node : value_after (codes "node:") others ≡ None
   pub card : value_after (codes "card:") others ≡ None
   pub «module» : value_after (codes "module:") others ≡ None
   pub silent : section_said others ≡ Other
 
--- the numbers fit their types
+-- the numbers of an error fit their types
 pub record IsPrinted (p : PrintedError) : Type 0 where
   pub severity : p.severity < 4
   pub physical : IfSome p.physical (λ n. n < 2 ^ 64)

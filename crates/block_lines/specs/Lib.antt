@@ -9,3 +9,4 @@ pub mod ReadBack
 pub mod Kernel
 pub mod Reading
 pub mod Printed
+pub mod Whole

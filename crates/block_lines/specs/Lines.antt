@@ -24,7 +24,7 @@ severity_of word =
 
 -- ---- a report and its sections
 
--- the source's number
+-- the first line of a report, which has the source's number
 abbrev pub start_line : List ℕ → ReportLine
 start_line value = option_map_or (λ source. Start source) (decimal_of 65535 value) Unread
 
@@ -78,7 +78,7 @@ location_line text =
 
 -- ---- any line
 
--- what is read of a value, if there is one, and otherwise this
+-- what a value says, if there is one, and otherwise `otherwise`
 abbrev pub told_by : Option (List ℕ) → (List ℕ → ReportLine) → ReportLine → ReportLine
 told_by None read otherwise = otherwise
 told_by (Some value) read otherwise = read value

@@ -29,8 +29,8 @@ abbrev pub has_mark : List ℕ → Bool
 has_mark [] = false
 has_mark (b ∷ text) = b == 123 && is_some (marked_line_of text) || has_mark text
 
--- A line, from its head, what follows the brace after the head, and what that says. The kernel's own heads
--- have no brace.
+-- A line, given its head, the text after the head's brace, and what this text says. The kernel's own heads have no
+-- brace.
 abbrev pub own_by : List ℕ → List ℕ → Option OwnLine → Marking
 own_by head text (Some line) = if is_own head then Own line else Foreign
 own_by head text None = if has_mark text then Foreign else Unmarked

@@ -23,7 +23,7 @@ pub record IsHead (head : List ℕ) (number : ℕ) (text : List ℕ) : Type 0 wh
   pub lacks : Lacks 123 head
   pub whole : ends_with nat_eq (printed_line head number text) (13 ∷ []) ≡ false
 
--- each text has such a head
+-- each text has such a head, in order
 abbrev pub AreHeaded : ℕ → List (List ℕ) → List (List ℕ) → Type 0
 AreHeaded number [] [] = ⊤
 AreHeaded number (head ∷ heads) (text ∷ texts) = IsHead head number text × AreHeaded number heads texts

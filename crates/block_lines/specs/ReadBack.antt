@@ -13,7 +13,7 @@ use Rattle.block_lines.specs.declared.memory.ErrorLocation.{ErrorLocation}
 use Rattle.block_lines.specs.declared.memory.MemoryError.{MemoryError}
 use Rattle.block_lines.specs.declared.report.OpenReport.{OpenReport}
 
--- the numbers of an error fit their types
+-- the numbers of a location fit their types
 pub record IsLocation (at : ErrorLocation) : Type 0 where
   pub node : IfSome at.node (λ n. n < 2 ^ 16)
   pub card : IfSome at.card (λ n. n < 2 ^ 16)
@@ -43,7 +43,7 @@ section_told error = record {
 
 -- ---- the line of a report's block
 
--- the errors of a report: those whose sections ended, and the error of its last section
+-- the errors of a report: of the sections that ended, and of its last section
 abbrev pub report_errors : Reporting → OpenReport → List MemoryError
 report_errors r report = r.errors ++ section_errors report.section
 

@@ -11,18 +11,18 @@ pub record ErrorsRead : Type 0 where
   pub ended : List MemoryError
   pub section : OpenSection
 
--- after a line of the report, which has this severity
+-- the errors read after a line of the report, which has this severity
 abbrev pub line_read : ℕ → ErrorsRead → ReportLine → ErrorsRead
 line_read severity read line = record {
   ended = errors_after read.ended read.section line;
   section = section_after (length read.ended) severity read.section line;
 }
 
--- after texts
+-- the errors read after texts
 abbrev pub texts_read : ℕ → ErrorsRead → List (List ℕ) → ErrorsRead
 texts_read severity read [] = read
 texts_read severity read (text ∷ texts) = texts_read severity (line_read severity read (report_line_of text)) texts
 
--- all errors that the report has by then
+-- all errors of the report so far
 abbrev pub errors_read : ErrorsRead → List MemoryError
 errors_read read = read.ended ++ section_errors read.section

@@ -1,5 +1,5 @@
 -- A report while its lines are read, and what a line changes.
-use Rattle.std.specs.Prelude.{ℕ, ◌+◌, ◌-◌, ◌≤◌, ◌==◌, ◌||◌, Bool, true, false, not, List, [], ◌∷◌, ◌++◌, length, nat_lt, Option, None, Some, unwrap_or, if◌then◌else◌}
+use Rattle.std.specs.Prelude.{ℕ, ◌+◌, ◌-◌, ◌≤◌, ◌==◌, ◌&&◌, ◌||◌, Bool, true, false, not, List, [], ◌∷◌, ◌++◌, length, nat_lt, Option, None, Some, unwrap_or, if◌then◌else◌}
 use Rattle.std.specs.Option.{option_map_or}
 use Rattle.bank_lines.specs.declared.log_line.TheConstants.{LAST_SECOND}
 use Rattle.block_lines.specs.Sources.{sources_with}
@@ -93,7 +93,7 @@ errors_after errors section lines.MemoryType = errors ++ section_errors section
 errors_after errors section lines.OtherType = errors ++ section_errors section
 errors_after errors section line = errors
 
--- A report after its first line. As long as no line says its severity, it has the severity that has no word.
+-- A report after its first line. As long as no line says its severity, the severity is 3.
 abbrev pub report_from : ℕ → ℕ → ℕ → OpenReport
 report_from number source stamp = record {
   number = number;
@@ -115,25 +115,34 @@ abbrev pub is_start : ReportLine → Bool
 is_start (lines.Start source) = true
 is_start line = false
 
--- a line ends the report before it; among lines with the report's number only one that begins a report does
+-- a line ends the report before it; among lines with the report's number, only a line that begins a report does
 abbrev pub is_ended_by : OpenReport → Option ℕ → Marking → Bool
 is_ended_by report stamp (Own own) = not (own.report == report.number) || is_start own.line
 is_ended_by report stamp marking = is_late report stamp
 
+-- ---- what a trace has too
+
+-- whether a trace that has the firmware's memory errors from this time stamp on has a report too: by a fatal one the
+-- kernel crashes, so no trace is kept of it
+abbrev pub left_to_trace : Option ℕ → OpenReport → Bool
+left_to_trace None report = false
+left_to_trace (Some border) report = not (nat_lt report.begun border) && not (report.severity == 1)
+
 -- ---- what is printed about a line
 
--- about a line that begins a section, if the section before it is cut
+-- the remark about a line that begins a section, if the section before it is cut
 abbrev pub begun_remark : ℕ → ℕ → OpenSection → Remark
 begun_remark source begun (Begun severity) = remarks.Partial source begun
 begun_remark source begun section = remarks.Nothing
 
--- about a line that says that a section is about memory: without a line ` Error` before it the severity isn't known
+-- the remark about a line that says that a section is about memory: without a line ` Error` before it the severity
+-- isn't known
 abbrev pub type_remark : ℕ → OpenSection → Remark
 type_remark count (Begun severity) =
     if nat_lt count MOST_ERRORS then remarks.Nothing else remarks.LeftOut
 type_remark count section = remarks.Unread
 
--- about a field that can't be read; sections that no block gets have fields of these names too
+-- the remark about a field that can't be read; sections that no block gets have fields of these names too
 abbrev pub field_remark : OpenSection → Remark
 field_remark (Memory error) = remarks.Unread
 field_remark section = remarks.Nothing
@@ -169,7 +178,7 @@ begun_work number source (Some stamp) = Some (report_from number source stamp)
 abbrev pub begun_at : Reporting → ℕ → ℕ → Option ℕ → Reporting
 begun_at r number source stamp = record r { work = begun_work number source stamp; errors = [] }
 
--- after a line that begins no report, whether one is open or not
+-- the state after a line that begins no report, whether one is open or not
 abbrev pub gone_on : Reporting → Option OpenReport → Option ℕ → ReportLine → Reporting
 gone_on r None stamp line = r
 gone_on r (Some report) stamp line = record r {
@@ -177,12 +186,12 @@ gone_on r (Some report) stamp line = record r {
   errors = errors_after r.errors report.section line;
 }
 
--- after a line that the kernel itself printed
+-- the state after a line that the kernel itself printed
 abbrev pub own_taken : Reporting → ℕ → Option ℕ → ReportLine → Reporting
 own_taken r number stamp (lines.Start source) = begun_at r number source stamp
 own_taken r number stamp line = gone_on r r.work stamp line
 
--- after any line
+-- the state after any line
 abbrev pub marking_taken : Reporting → Option ℕ → Marking → Reporting
 marking_taken r stamp (Own own) = own_taken r own.report stamp own.line
 marking_taken r stamp marking = r
@@ -190,22 +199,22 @@ marking_taken r stamp marking = r
 abbrev pub line_taken : Reporting → ReportLogLine → Reporting
 line_taken r line = marking_taken r line.stamp line.marking
 
--- about a line that begins a report: without a time stamp it can't
+-- the remark about a line that begins a report: without a time stamp the line can't begin one
 abbrev pub start_remark : Option ℕ → Remark
 start_remark None = remarks.Unread
 start_remark (Some stamp) = remarks.Nothing
 
--- about any other line, whether a report is open or not
+-- the remark about any other line, whether a report is open or not
 abbrev pub going_remark : ℕ → Option OpenReport → ReportLine → Remark
 going_remark count None line = remarks.Unread
 going_remark count (Some report) line = remark_in count report line
 
--- about a line that the kernel itself printed
+-- the remark about a line that the kernel itself printed
 abbrev pub own_remark : Reporting → Option ℕ → ReportLine → Remark
 own_remark r stamp (lines.Start source) = start_remark stamp
 own_remark r stamp line = going_remark (length r.errors) r.work line
 
--- about any line
+-- the remark about any line
 abbrev pub marking_remark : Reporting → Option ℕ → Marking → Remark
 marking_remark r stamp (Own own) = own_remark r stamp own.line
 marking_remark r stamp Foreign = remarks.Unread
@@ -229,9 +238,13 @@ after_report r None = r
 after_report r (Some report) =
     record r { work = None; errors = []; sources = sources_after r report }
 
--- after a block of this source that no line of a report gives: the open report stays
+-- the state after a block of this source that no line of a report gives: the open report stays
 abbrev pub with_source : Reporting → ℕ → Reporting
 with_source r source = record r { sources = sources_with r.sources source }
+
+-- without the last table: the next block brings a table of its own source
+abbrev pub without_sources : Reporting → Reporting
+without_sources r = record r { sources = [] }
 
 -- whether a line ends the open report, if there is one
 abbrev pub is_end : Reporting → ReportLogLine → Bool
@@ -243,7 +256,7 @@ ended_at r line = if is_end r line then after_report r r.work else r
 abbrev pub reporting_after : Reporting → ReportLogLine → Reporting
 reporting_after r line = line_taken (ended_at r line) line
 
--- ---- what always holds
+-- ---- the invariant
 
 -- the error of the last section of the open report, if there is one
 abbrev pub work_errors : Option OpenReport → List MemoryError

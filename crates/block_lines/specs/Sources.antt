@@ -10,7 +10,7 @@ use Rattle.block_lines.specs.declared.sources.TheConstants.{MOST_SOURCES}
 abbrev pub is_listed : List ℕ → ℕ → Bool
 is_listed sources source = list_any (λ known. known == source) sources
 
--- if the table is full a new one begins, so that its line isn't longer than what a pipe keeps in one piece
+-- if the table is full, a new table begins, so that no table's line is longer than a pipe keeps in one piece
 abbrev pub kept_sources : List ℕ → List ℕ
 kept_sources sources = if nat_lt (length sources) MOST_SOURCES then sources else []
 

@@ -1,12 +1,15 @@
 //! The command `lines ghes` as a filter of lines.
 
-ghost use Rattle.std.specs.Prelude.{◌≡◌, ◌≤◌, ◌+◌, ◌++◌, ◌∷◌, [], OnErr, OnOk};
+ghost use Rattle.std.specs.Prelude.{◌≡◌, ◌<◌, ◌≤◌, ◌+◌, ◌++◌, ◌∷◌, [], OnErr, OnOk};
 ghost use Rattle.bank_lines.specs.declared.log_line.TheConstants.{LAST_SECOND};
-ghost use Rattle.block_lines.specs.Filter.{blocks_make};
+ghost use Rattle.block_lines.specs.Filter.{blocks_make, progress_after};
 ghost use Rattle.block_lines.specs.LogLines.{report_log_line};
 ghost use Rattle.block_lines.specs.Reports.{no_reports, reporting_after, with_source};
-ghost use Rattle.block_lines.specs.Texts.{blocks_text_at, source_block_text, unread_report_line};
-ghost use Rattle.ras_script.specs.declared.reader.TheConstants.{LONGEST_SCRIPT};
+ghost use Rattle.block_lines.specs.Reports.{without_sources};
+ghost use Rattle.block_lines.specs.Texts.{blocks_text_at, blocks_text_beside, rest_text};
+ghost use Rattle.block_lines.specs.Texts.{source_block_text};
+ghost use Rattle.block_lines.specs.Texts.{unread_report_line};
+ghost use Rattle.line_filters.specs.declared.feeding.TheConstants.{MOST_INPUTS};
 
 use crate::log_line::log_line;
 use crate::report::Remark;
@@ -27,7 +30,7 @@ use std::marker::Model;
 /// Comments are also printed for sections about anything but memory, for every error of a report
 /// after its twelfth, for a report that is cut, and for each line with a report's number and prefix
 /// that is in no report, or that the kernel itself didn't print. Only its own lines count. No line is
-/// refused.
+/// rejected.
 #[derive(Drop)]
 pub struct BlockFilter {
     reports: Reports,
@@ -55,6 +58,15 @@ impl BlockFilter {
         }
     }
 
+    /// Forgets the last table, so that the next block brings a table of its own source, and goes on
+    /// as after this many lines.
+    pub fn begin_line(&mut self, taken: u64)
+        ensures { self.new ≡ record { reports = without_sources self.old.reports; taken = taken } }
+    {
+        self.reports.forget_sources();
+        self.taken = taken;
+    }
+
     /// Takes a line of the log, and appends its text.
     ///
     /// # Errors
@@ -66,7 +78,7 @@ impl BlockFilter {
         line: &[u8],
         text: &mut Vec<u8>,
     ) -> Result<(), NoMemory>
-        requires { self.old.taken ≤ LONGEST_SCRIPT }
+        requires { self.old.taken < MOST_INPUTS }
         ensures text { OnOk result (text.new.items ≡ text.old.items
             ++ blocks_text_at self.old.reports (self.old.taken + 1) (report_log_line line.now)) }
         ensures after { OnOk result (self.new ≡ record {
@@ -76,7 +88,33 @@ impl BlockFilter {
         ensures kept { OnErr result (self.new.taken ≡ self.old.taken) }
     {
         self.reports
-            .take_line(alloc, &log_line(line), self.taken + 1, text)?;
+            .take_line(alloc, &log_line(line), self.taken + 1, None, text)?;
+        self.taken += 1;
+        Ok(())
+    }
+
+    /// Takes a line of the log as `take_line` does, beside a trace that has the firmware's memory
+    /// errors from the time stamp `border` on, in microseconds since the boot: for a report from
+    /// then on that isn't fatal, neither its block nor a table is appended. After such a report the
+    /// next block may lack its table unless `begin_line` comes first.
+    ///
+    /// # Errors
+    ///
+    /// `NoMemory`: only if memory runs out.
+    pub fn take_line_beside(
+        &mut self,
+        alloc: Global,
+        line: &[u8],
+        border: Option<u64>,
+        text: &mut Vec<u8>,
+    ) -> Result<(), NoMemory>
+        requires { self.old.taken < MOST_INPUTS }
+        ensures text { OnOk result (text.new.items ≡ text.old.items ++ blocks_text_beside
+            border self.old.reports (self.old.taken + 1) (report_log_line line.now)) }
+        ensures state { OnOk result (self.new ≡ progress_after self.old line.now) }
+    {
+        self.reports
+            .take_line(alloc, &log_line(line), self.taken + 1, border, text)?;
         self.taken += 1;
         Ok(())
     }
@@ -96,7 +134,7 @@ impl BlockFilter {
         block: &[u8],
         text: &mut Vec<u8>,
     ) -> Result<(), NoMemory>
-        requires { self.old.taken ≤ LONGEST_SCRIPT }
+        requires { self.old.taken < MOST_INPUTS }
         ensures text { OnOk result (text.new.items
             ≡ text.old.items ++ source_block_text self.old.reports source number block.now) }
         ensures after { OnOk result (self.new ≡ record {
@@ -117,7 +155,7 @@ impl BlockFilter {
     ///
     /// `NoMemory`: only if memory runs out.
     pub fn take_unread(&mut self, text: &mut Vec<u8>) -> Result<(), NoMemory>
-        requires { self.old.taken ≤ LONGEST_SCRIPT }
+        requires { self.old.taken < MOST_INPUTS }
         ensures text { OnOk result (text.new.items
             ≡ text.old.items ++ (unread_report_line (self.old.taken + 1) ++ 10 ∷ [])) }
         ensures after { OnOk result (self.new ≡ record self.old { taken = self.old.taken + 1 }) }
@@ -126,6 +164,19 @@ impl BlockFilter {
         push_remark(text, Remark::Unread, self.taken + 1)?;
         self.taken += 1;
         Ok(())
+    }
+}
+
+impl BlockFilter {
+    /// Appends the comment that the open report, if there is one, may lack lines.
+    ///
+    /// # Errors
+    ///
+    /// `NoMemory`: only if memory runs out.
+    pub fn push_open(&self, text: &mut Vec<u8>) -> Result<(), NoMemory>
+        ensures { OnOk result (text.new.items ≡ text.old.items ++ rest_text self.now.reports) }
+    {
+        self.reports.push_rest(text)
     }
 }
 
@@ -146,7 +197,7 @@ impl LineFilter for BlockFilter {
     }
 
     fn push_rest(&self, _: Global, text: &mut Vec<u8>) -> Result<(), NoMemory> {
-        self.reports.push_rest(text)
+        self.push_open(text)
     }
 
     fn push_last(&self, _: Global, _: &mut Vec<u8>) -> Result<(), NoMemory> {

@@ -1,4 +1,4 @@
-//! What the kernel prints of a firmware's report is read back.
+//! Laws: what the kernel prints of a firmware's report is read back.
 
 ghost use Rattle.std.specs.Prelude.{◌≡◌, ◌^◌, ◌<◌, ◌≤◌, ℕ, List, [], ◌∷◌, length, map, true, Some};
 ghost use Rattle.std.specs.List.{AllByRecursion};
@@ -18,9 +18,9 @@ ghost use Rattle.block_lines.specs.declared.report.OpenSection.TheVariants.{Abse
 ghost use Rattle.block_lines.specs.declared.report.TheConstants.{MOST_ERRORS};
 ghost use Rattle.block_lines.specs.declared.report_line.ReportLine.TheVariants.{Start, Event};
 
-/// What holds of a report as the kernel prints it. A line of the report, after a head that shows it
-/// as the kernel's own, is read as the report's line with its text. The report's texts are read as
-/// its source, its severity, and its errors with their severities, addresses, masks, locations and
+/// A report is read as the kernel prints it. A line of the report, after a head that shows it as
+/// the kernel's own, is read as the report's line with its text. The report's texts are read as its
+/// source, its severity, and its errors with their severities, addresses, masks, locations and
 /// types, in order.
 pub fn printed_texts_are_read()
     ensures line { (head : List ℕ) (number : ℕ) (text : List ℕ) → is_own head ≡ true
@@ -37,9 +37,9 @@ pub fn printed_texts_are_read()
         ≡ map error_of errors }
 {}
 
-/// What holds after the lines of a report, as the kernel prints them after heads that show them as
-/// its own: whatever a filter read before, its open report has this source, the time stamp of the
-/// first line, this severity and these errors.
+/// After the lines of a report, as the kernel prints them after heads that show them as its own, a
+/// filter's open report has this source, the time stamp of the first line, this severity and these
+/// errors, whatever the filter read before.
 pub fn printed_reports_are_read()
     ensures report { (r : Reporting) (number source severity stamp : ℕ) (head : List ℕ)
         (heads : List (List ℕ)) (printed : List PrintedError)

@@ -1,4 +1,4 @@
-//! What the filter writes is read back.
+//! Laws: what the filter writes is read back.
 
 ghost use Rattle.std.specs.Prelude.{◌≡◌, ◌<◌, ◌≤◌, ◌^◌, ℕ, List, false, length, map, Ok};
 ghost use Rattle.std.specs.List.{AllByRecursion};
@@ -17,8 +17,8 @@ ghost use Rattle.block_lines.specs.declared.report.OpenReport.{OpenReport};
 ghost use Rattle.block_lines.specs.declared.memory.MemoryError.{MemoryError};
 ghost use Rattle.block_lines.specs.declared.report.TheConstants.{MOST_ERRORS};
 
-/// What holds of the block of a report: it is read as one entry for each error, with the error's
-/// severity and a memory section of the error's address, mask, location and type, and nothing else.
+/// The block of a report is read as one entry for each error, with the error's severity and a
+/// memory section of the error's address, mask, location and type, and nothing else.
 pub fn made_blocks_are_read_back()
     ensures block { (severity : ℕ) (errors : List MemoryError) → AllByRecursion IsError errors
         → 0 < length errors → length errors ≤ MOST_ERRORS
@@ -33,8 +33,8 @@ pub fn made_blocks_are_read_back()
         ≡ Ok (Memory (section_told error)) }
 {}
 
-/// What holds of the line of a report: it asks for the block of the report's errors, under a name
-/// that no report of the same boot with another time stamp has.
+/// The line of a report asks for the block of the report's errors, under a name that no report of
+/// the same boot with another time stamp has.
 pub fn made_lines_are_read_back()
     ensures line { (r : Reporting) (report : OpenReport) → IsNamed r report
         → AllByRecursion IsError (report_errors r report)

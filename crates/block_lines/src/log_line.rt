@@ -15,18 +15,18 @@ use ras_script::decimal;
 pub(crate) struct ReportLogLine {
     // When the line was printed, in microseconds since the boot, if the line says so.
     pub(crate) stamp: Option<u64>,
-    // Whether it is a line of a firmware's report.
+    // Whether the line belongs to a firmware's report.
     pub(crate) marking: Marking,
 }
 
-/// Whether a line is one of a firmware's report.
+/// Whether a line belongs to a firmware's report.
 #[derive(Clone, Copy, Debug, PartialEq, Eq)]
 pub(crate) enum Marking {
-    // It has no report's number before the prefix.
+    // The line has no report's number before the prefix.
     Unmarked,
-    // It has one, and the kernel itself didn't print it, as far as its head shows.
+    // The line has a report's number there, but its head doesn't show it to be the kernel's own.
     Foreign,
-    // The kernel itself printed it.
+    // The kernel itself printed the line.
     Own(OwnLine),
 }
 

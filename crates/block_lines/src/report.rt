@@ -2,7 +2,7 @@
 
 ghost use Rattle.std.specs.Prelude.{◌≡◌, ◌+◌, length, nat_lt};
 ghost use Rattle.block_lines.specs.Reports.{begun_remark, field_remark, ends_early, is_ended_by};
-ghost use Rattle.block_lines.specs.Reports.{is_late, is_start, remark_in, report_after, report_from};
+ghost use Rattle.block_lines.specs.Reports.{is_late, is_start, left_to_trace, remark_in, report_after, report_from};
 ghost use Rattle.block_lines.specs.Reports.{section_after, section_errors, section_with, severity_after};
 ghost use Rattle.block_lines.specs.Reports.{type_remark, typed_section, typed_severity};
 
@@ -13,6 +13,9 @@ use crate::report_line::ReportLine;
 /// The most errors of a report that are stored, so that its line isn't longer than what a pipe
 /// writes as a whole.
 pub const MOST_ERRORS: usize = 12;
+
+// The severity of errors by which the kernel crashes.
+const FATAL: u32 = 1;
 
 /// The most microseconds by which any other line may follow a line of the open report.
 pub const LONGEST_PAUSE: u64 = 100_000;
@@ -100,6 +103,17 @@ impl OpenReport {
         match stamp {
             None => false,
             Some(stamp) => LONGEST_PAUSE < stamp.saturating_sub(self.last),
+        }
+    }
+
+    // Returns whether a trace that has the firmware's memory errors from this time stamp on has the
+    // report too. A trace gets no report by which the kernel crashes.
+    pub(crate) fn is_left_to_trace(&self, border: Option<u64>) -> bool
+        ensures left { result ≡ left_to_trace border self.now }
+    {
+        match border {
+            Some(border) => border <= self.begun && self.severity != FATAL,
+            None => false,
         }
     }
 

@@ -6,8 +6,10 @@ ghost use Rattle.block_lines.specs.Reports.{after_report, begun_at, begun_work, 
 ghost use Rattle.block_lines.specs.Reports.{going_remark, gone_on, has_error, is_end, line_remark};
 ghost use Rattle.block_lines.specs.Reports.{line_taken, no_reports, own_remark, own_taken};
 ghost use Rattle.block_lines.specs.Reports.{reporting_after, start_remark, with_source};
-ghost use Rattle.block_lines.specs.Texts.{blocks_text_at, cut_report_line, end_text, ghes_line};
-ghost use Rattle.block_lines.specs.Texts.{report_text, rest_text, source_block_text, table_text};
+ghost use Rattle.block_lines.specs.Reports.{without_sources};
+ghost use Rattle.block_lines.specs.Texts.{block_text, blocks_text_beside, cut_report_line, cut_text};
+ghost use Rattle.block_lines.specs.Texts.{end_text_beside, ghes_line, report_text_beside, rest_text};
+ghost use Rattle.block_lines.specs.Texts.{source_block_text, table_text};
 
 use crate::blocks::push_block;
 use crate::log_line::{Marking, ReportLogLine};
@@ -69,21 +71,30 @@ impl Reports {
         }
     }
 
-    // Takes a line, and appends the text of the report that it ends and what is printed about the
-    // line.
+    // Forgets the sources of the last table: the next block brings a table of its own.
+    pub(crate) fn forget_sources(&mut self)
+        ensures { self.new ≡ without_sources self.old }
+    {
+        self.sources.clear();
+    }
+
+    // Takes a line, and appends the text of the report that the line ends, and the text about the
+    // line itself, beside a trace that has the firmware's memory errors from this time stamp on, or
+    // never.
     pub(crate) fn take_line(
         &mut self,
         alloc: Global,
         line: &ReportLogLine,
         number: u64,
+        border: Option<u64>,
         text: &mut Vec<u8>,
     ) -> Result<(), NoMemory>
         ensures text { OnOk result (text.new.items
-            ≡ text.old.items ++ blocks_text_at self.old number line.now) }
+            ≡ text.old.items ++ blocks_text_beside border self.old number line.now) }
         ensures state { OnOk result (self.new ≡ reporting_after self.old line.now) }
     {
         if self.is_end(line) {
-            self.push_end(alloc, text)?;
+            self.push_end(alloc, border, text)?;
             self.end()?;
         }
         let remark = self.remark(line);
@@ -224,12 +235,18 @@ impl Reports {
         }
     }
 
-    // Appends the text of the open report, which ends.
-    fn push_end(&self, alloc: Global, text: &mut Vec<u8>) -> Result<(), NoMemory>
-        ensures { OnOk result (text.new.items ≡ text.old.items ++ end_text self.now) }
+    // Appends the text of the open report, which ends, beside a trace.
+    fn push_end(
+        &self,
+        alloc: Global,
+        border: Option<u64>,
+        text: &mut Vec<u8>,
+    ) -> Result<(), NoMemory>
+        ensures { OnOk result (text.new.items
+            ≡ text.old.items ++ end_text_beside border self.now) }
     {
         match self.work {
-            Some(report) => self.push_report(alloc, &report, text),
+            Some(report) => self.push_report(alloc, border, &report, text),
             None => Ok(()),
         }
     }
@@ -241,22 +258,38 @@ impl Reports {
         matches!(report.section, OpenSection::Memory(_)) || !self.errors.is_empty()
     }
 
-    // Appends the text of the open report.
+    // Appends the text of the open report, beside a trace.
     fn push_report(
+        &self,
+        alloc: Global,
+        border: Option<u64>,
+        report: &OpenReport,
+        text: &mut Vec<u8>,
+    ) -> Result<(), NoMemory>
+        requires { self.now.work ≡ Some report.now }
+        ensures { OnOk result (text.new.items
+            ≡ text.old.items ++ report_text_beside border self.now report.now) }
+    {
+        if report.is_left_to_trace(border) {
+            return push_early_end(text, report);
+        }
+        self.push_errors(alloc, report, text)?;
+        push_early_end(text, report)
+    }
+
+    // Appends the block of the open report, if it has errors, after its table if one is due.
+    fn push_errors(
         &self,
         alloc: Global,
         report: &OpenReport,
         text: &mut Vec<u8>,
     ) -> Result<(), NoMemory>
         requires { self.now.work ≡ Some report.now }
-        ensures { OnOk result (text.new.items ≡ text.old.items ++ report_text self.now report.now) }
+        ensures { OnOk result (text.new.items ≡ text.old.items ++ block_text self.now report.now) }
     {
         if self.has_error(report) {
             self.push_source(alloc, report.source, text)?;
             self.push_block(alloc, report, text)?;
-        }
-        if report.section.ends_early() {
-            push_cut(text, *report)?;
         }
         Ok(())
     }
@@ -314,6 +347,17 @@ impl Reports {
             source,
             number,
         }
+    }
+}
+
+// Appends the comment that a report is cut, if it ends before the type of its last section.
+fn push_early_end(text: &mut Vec<u8>, report: &OpenReport) -> Result<(), NoMemory>
+    ensures { OnOk result (text.new.items ≡ text.old.items ++ cut_text report.now) }
+{
+    if report.section.ends_early() {
+        push_cut(text, *report)
+    } else {
+        Ok(())
     }
 }
 

@@ -15,9 +15,9 @@ ghost use Rattle.block_lines.specs.declared.memory.MemoryError.{MemoryError};
 ghost use Rattle.block_lines.specs.declared.report.OpenSection.TheVariants.{Begun, Memory};
 ghost use Rattle.block_lines.specs.declared.report_line.ReportLine.TheVariants.{Error, MemoryType, OtherType};
 
-/// A line with a report's number and prefix, wherever they stand in it, whose head isn't the kernel's
-/// gets a comment with the line's number. The reports change as they would by a line without a mark
-/// that was printed at that time.
+/// A line gets a comment with its number if a report's number and prefix are anywhere in it, and
+/// its head isn't the kernel's. The reports change as they would by a line without a report's
+/// number that was printed at that time.
 pub fn foreign_lines_are_told()
     ensures marked { (head : List ℕ) (number : ℕ) (text : List ℕ) → number < 2 ^ 64
         → has_mark (printed_line head number text) ≡ true }
@@ -34,22 +34,23 @@ pub fn foreign_lines_are_told()
 
 /// A report that is cut gets a comment with its source and its time stamp.
 pub fn cut_reports_are_told()
-    // It ends without a section, or before its last section has a type: at the line that ends it,
-    // after the block of its other errors.
+    // If the report ends without a section, or before its last section has a type, the comment
+    // comes at the line that ends the report, after the block of its other errors.
     ensures ended { (r : Reporting) (report : OpenReport) (number : ℕ) (line : ReportLogLine)
         → r.work ≡ Some report → ends_early report.section ≡ true
         → is_ended_by report line.stamp line.marking ≡ true
         → blocks_text_at r number line
         ≡ block_text r report ++ (cut_report_line report.source report.begun ++ 10 ∷ [])
         ++ remark_text number (line_remark (ended_at r line) line) }
-    // Another section begins before the last one has a type.
+    // If another section begins before the last one has a type, the comment comes at the line that
+    // begins the new section.
     ensures section { (r : Reporting) (report : OpenReport) (number severity next : ℕ)
         (stamp : Option ℕ) → r.work ≡ Some report → report.section ≡ Begun severity
         → blocks_text_at r number (record {
           stamp = stamp;
           marking = Own (record { report = report.number; line = Error next });
         }) ≡ cut_report_line report.source report.begun ++ 10 ∷ [] }
-    // No line ends it: after all lines.
+    // If no line ends the report, the comment comes after all lines.
     ensures open { (r : Reporting) (report : OpenReport) → r.work ≡ Some report
         → rest_text r ≡ cut_report_line report.source report.begun ++ 10 ∷ [] }
 {}

@@ -6,7 +6,7 @@ use Rattle.std.proofs.Math.Nat.{pow-suc, div-div-eq-div-mul}
 use Rattle.ras_base.specs.Bits.{is_set}
 use Rattle.cper_pcie.specs.Bits.{bits_of}
 
--- how many of so many bits are set from one on
+-- how many of `count` bits are set, from the bit `bit` on
 abbrev set_from : ℕ → ℕ → ℕ → ℕ
 set_from bit count number = length (filter (λ b. is_set b number) (range_with_len bit count))
 
@@ -14,7 +14,7 @@ ones_of_zero : ones zero ≡ zero
 unfolding ones
 ones_of_zero = refl
 
--- a bit in front of others
+-- one more bit in front adds 1 if it is set
 counted : (number bit : ℕ) (rest : List ℕ) → length (filter (λ b. is_set b number) (bit ∷ rest))
     ≡ number / 2 ^ bit % 2 + length (filter (λ b. is_set b number) rest)
 counted number bit rest = by (number / 2 ^ bit % 2) (omega arith)

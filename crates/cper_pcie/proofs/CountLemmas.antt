@@ -1,4 +1,4 @@
--- Counts with a section more.
+-- Counts with one more section.
 use Rattle.std.proofs.Common.{◌≡◌, ℕ, ◌+◌, List, [], ◌∷◌, ◌++◌, Option, unwrap_or, refl, ap, ◌∙◌, arith}
 use Rattle.std.specs.List.{sum_by}
 use Rattle.std.specs.Map.{lookup}
@@ -42,7 +42,7 @@ counts_of-more sections section =
     table-more same_device same_device-exact same_device-refl counted_device errors_in (λ s. errors_with none s) errors_with
     (λ s. errors_in-more [] s ∙ ap (λ errors. errors_with errors s) errors_in-none) (λ before s some. errors_in-more before s) sections section
 
--- the row that is put in its place
+-- the row that is put in place of the old one
 pub row_put : (rows : List (Option PcieDevice × ErrorCounts)) (section : PcieSection) (errors : ErrorCounts)
     → errors ≡ errors_with (unwrap_or (lookup (same_device section.device) rows) none) section
     → updated_rows same_device section.device errors (λ old. errors) rows ≡ pcie_counts_with rows section

@@ -1,4 +1,4 @@
--- A report that is taken, or isn't.
+-- A report that is taken, or isn't taken.
 use Rattle.std.proofs.Common.{◌≡◌, ℕ, Bool, true, false, ◌||◌, if◌then◌else◌, List, [], ◌∷◌, ◌++◌, None, Some, refl, sym, ap, ◌∙◌, append-nil, true≢false}
 use Rattle.std.specs.List.{list_any}
 use Rattle.ras_facts.specs.Names.{same_name}
@@ -44,7 +44,7 @@ pub text-none : (names : List Name) (text : List ℕ) (name : Name) (found : Lis
 text-none names text name found none =
     sym (append-nil text) ∙ ap (λ (t : List Taken). text ++ sections_lines t) (sym (none-fresh names name found none))
 
--- a report whose name is held
+-- a report whose name counts already adds no name
 known : (names : List Name) (name : Name) (b : Bool) → list_any (same_name name) names ≡ true → names_with names (if b then Some name else None) ≡ names
 known names name true is = rw is refl
 known names name false is = refl

@@ -1,4 +1,4 @@
--- What the filter makes of a script line by line is what it makes of each line at its place.
+-- The filter, which reads line by line, makes of each line what the line gives at its place.
 use Rattle.std.proofs.Common.{◌≡◌, ℕ, ◌+◌, Bool, true, false, ◌||◌, if◌then◌else◌, List, [], ◌∷◌, ◌++◌, length, map, Option, None, Some, Result, Ok, Err, refl, sym, ap, ◌∙◌, append-nil, append_assoc, length-append, arith}
 use Rattle.std.specs.List.{filter_map, flat_map, list_any, sum_by}
 use Rattle.std.specs.Option.{option_and_then, option_map_or}
@@ -29,7 +29,7 @@ use Rattle.cper_pcie.proofs.TotalLemmas.{totals-append}
 
 -- ---- names
 
--- the names that are held are those of the lines before
+-- the names that count are the names of the lines before
 abbrev Holds : List (List ℕ) → List Name → Type 0
 Holds before names = (name : Name) → list_any (same_name name) names ≡ is_known before name
 
@@ -62,7 +62,7 @@ one_name line = by (line_name line) refl
     by None is = rw is refl
     by (Some name) is = rw is refl
 
--- the names with a report
+-- the names after a report
 abbrev names_after : List Name → Option FirmwareReport → List Name
 names_after names report = names_with names (option_and_then pcie_name report)
 

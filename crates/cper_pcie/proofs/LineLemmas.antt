@@ -87,7 +87,7 @@ sections-few most bytes block is short =
     let few : length block.entries ≤ length bytes = subst (FewEntries (length bytes)) is (block-few bytes) in
     omega (arith, block-count block, few)
 
--- so many more at most are no more than 65,536 more
+-- at most `more` more are at most 65,536 more
 pub few-on-ok : (result : Result (Unit {0}) NoMemory) (new old more : ℕ) → OnOk result (new ≤ old + more) → more ≤ 65536 → OnOk result (new ≤ old + 65536)
 few-on-ok (Ok done) new old more few small = omega (arith, few)
 few-on-ok (Err why) new old more few small = tt

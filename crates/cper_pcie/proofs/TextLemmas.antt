@@ -1,4 +1,4 @@
--- The bits of a status one after another.
+-- The bits of a status, one after another.
 use Rattle.std.proofs.Common.{◌≡◌, ℕ, zero, suc, ◌+◌, ◌==◌, Bool, true, false, cond, if◌then◌else◌, List, [], ◌∷◌, ◌++◌, length, filter, map, refl, sym, ap, ◌∙◌, append_assoc, append-nil, add-one, codes, true≢false, arith}
 use Rattle.std.specs.List.{join_with_byte, range_with_len}
 use Rattle.std.proofs.lemmas.Bool.Decides.{nat_tests}
@@ -44,7 +44,7 @@ join-more (x ∷ z ∷ zs) y =
     ∙ sym (append_assoc x (44 ∷ join_with_byte 44 (z ∷ zs)) (44 ∷ y))
     ∙ ap (λ b. (x ++ 44 ∷ join_with_byte 44 (z ∷ zs)) ++ next_bit_text b y) (sym (long x (z ∷ zs)))
 
--- what is said of the bits so far: their names with commas between them
+-- the text of the bits so far: their names with commas between them
 pub record Names (p : ℕ → Bool) (name : ℕ → List ℕ) (n : ℕ) (is_first : Bool) (old new : List ℕ) : Type 0 where
   pub first : is_first ≡ (length (bits_below p n) == 0)
   pub text : new ≡ old ++ join_with_byte 44 (map name (bits_below p n))
@@ -81,7 +81,7 @@ names-same p name n is_first after old text new here names after-is is =
       text = is ∙ names.text ∙ ap (λ bits. old ++ join_with_byte 44 (map name bits)) (sym same);
     }
 
--- the text of the bits that are set, or that none is
+-- the text of the bits that are set, or `-` if no bit is set
 abbrev set_text : (ℕ → List ℕ) → List ℕ → List ℕ
 set_text name bits = if length bits == 0 then codes "-" else join_with_byte 44 (map name bits)
 

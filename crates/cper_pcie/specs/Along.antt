@@ -1,5 +1,5 @@
--- What the filter of PCI Express sections prints for the lines to come, given the reports that count so far. For a new
--- filter it is what each line gives at its place (specs/Filter.antt).
+-- What the filter of PCI Express sections prints for its next lines, given the reports that count so far. A new
+-- filter prints what each line gives at its place (specs/Filter.antt).
 use Rattle.std.specs.Prelude.{ℕ, ◌+◌, ◌*◌, ◌≤◌, List, [], ◌∷◌, ◌++◌, Option, None, Some, Result, Ok, Err, if◌then◌else◌}
 use Rattle.std.specs.List.{flat_map, list_any}
 use Rattle.std.specs.Option.{option_map_or}
@@ -44,7 +44,7 @@ pub record Counted : Type 0 where
   pub names : List Name
   pub totals : Totals
 
--- the names with one more at the end, unless it is there
+-- the names with one more at the end, unless it is among them
 abbrev pub names_with : List Name → Option Name → List Name
 names_with names None = names
 names_with names (Some name) = if list_any (same_name name) names then names else names ++ name ∷ []
@@ -73,7 +73,7 @@ abbrev pub line_answer : List Name → Result Line LineRefused → Result (List 
 line_answer names (Ok line) = Ok (text_with names (line_report line))
 line_answer names (Err why) = Err why
 
--- an answer, and the answers after it unless it is a refusal
+-- an answer, and the answers after it unless it is a rejection
 abbrev pub then_answers : Result (List ℕ) LineRefused → List (Result (List ℕ) LineRefused) → List (Result (List ℕ) LineRefused)
 then_answers (Ok text) answers = Ok text ∷ answers
 then_answers (Err why) answers = Err why ∷ []
@@ -92,7 +92,7 @@ counted_from counted (line ∷ lines) =
 abbrev pub last_from : Counted → List (List ℕ) → List ℕ
 last_from counted lines = totals_text (counted_from counted lines).totals
 
--- what is printed for lines after the lines by which these reports count
+-- what is printed for lines, after earlier lines whose reports count
 abbrev pub filter_from : Counted → Filter
 filter_from counted = record {
   answers = answers_from counted;

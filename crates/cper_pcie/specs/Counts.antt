@@ -1,5 +1,5 @@
--- What is counted of a list of sections: for each function, in the order in which it was first
--- seen, how many errors its own sections report.
+-- The counts of a list of sections: for each function, in the order in which the functions were first seen, how many
+-- errors its own sections report.
 use Rattle.std.specs.Prelude.{ℕ, ◌+◌, ◌-◌, ◌^◌, min, Option, Some, List}
 use Rattle.std.specs.List.{sum_by}
 use Rattle.row_tables.specs.Tables.{table, updated_rows}
@@ -9,11 +9,11 @@ use Rattle.cper_pcie.specs.declared.counts.ErrorCounts.{ErrorCounts}
 use Rattle.cper_pcie.specs.Bits.{error_count}
 use Rattle.cper_pcie.specs.Devices.{same_device}
 
--- the key of a section: its function, or that it names none
+-- the key of a section: the function that it names, if any
 abbrev pub counted_device : PcieSection → Option (Option PcieDevice)
 counted_device section = Some section.device
 
--- a sum in 64 bits, which stops at the greatest number
+-- a sum in 64 bits, at most the greatest number
 abbrev pub in_64_bits : ℕ → ℕ
 in_64_bits sum = min sum (2 ^ 64 - 1)
 
@@ -24,8 +24,8 @@ errors_in sections = record {
   cor = in_64_bits (sum_by (λ (s : PcieSection). error_count s.cor) sections);
 }
 
--- the counts of a list of sections: each function in first-seen order, with the errors that its own
--- sections report
+-- the counts of a list of sections: each function, in the order in which the functions were first seen, with the
+-- errors that its own sections report
 abbrev pub counts_of : List PcieSection → List (Option PcieDevice × ErrorCounts)
 counts_of sections = table same_device counted_device errors_in sections
 
@@ -36,7 +36,7 @@ errors_with errors section = record {
   cor = in_64_bits (errors.cor + error_count section.cor);
 }
 
--- counts with one more section: its function's row grows, or a row is added after the others
+-- counts with one more section: its function's row grows, or a row is added at the end
 abbrev pub pcie_counts_with : List (Option PcieDevice × ErrorCounts) → PcieSection → List (Option PcieDevice × ErrorCounts)
 pcie_counts_with rows section =
     updated_rows same_device section.device (errors_with (record { uncor = 0; cor = 0 }) section)

@@ -2,8 +2,8 @@
 use Rattle.std.specs.Prelude.{◌==◌, Bool, true, false, ◌&&◌, Option, Some, None}
 use Rattle.cper_pcie.specs.declared.section.PcieDevice.{PcieDevice}
 
--- two functions are the same if all their fields are, vendor and device id too; no function named
--- is the same as no function named
+-- Two functions are the same if all their fields are, including vendor and device id. If neither section names a
+-- function, both count as of one function.
 abbrev pub same_device : Option PcieDevice → Option PcieDevice → Bool
 same_device (Some one) (Some other) =
     (one.segment == other.segment) && ((one.bus == other.bus) && ((one.device == other.device)

@@ -55,25 +55,25 @@ block_section entry = record {
 abbrev pub block_sections : BlockParts → List Found
 block_sections block = map {B = Found} block_section block.entries
 
--- the report of a record that was read under its identifier
+-- the report of a record, if it could be read under its identifier
 abbrev pub report_in_record : ℕ → Result (List ℕ) Unreadable → Option FirmwareReport
 report_in_record id (Ok own) = Some (record { name = names.Record id; sections = record_sections own })
 report_in_record id (Err why) = None
 
--- A record to be stored is a report if it fits the store and can be read there under its identifier: as the store would
--- return it, with zeros after it.
+-- A record to be stored is a report if it fits the store and can be read back under its identifier: the store returns
+-- it with zeros after it.
 abbrev pub report_in_store : ℕ → List ℕ → Option FirmwareReport
 report_in_store id bytes =
     if nat_le (length bytes) STORED_LENGTH then report_in_record id (read_under id (filled bytes))
     else None
 
--- the report of a block of this name
+-- the report of a block with this name, if the block can be read
 abbrev pub report_in_block : Name → Result BlockParts BlockRefused → Option FirmwareReport
 report_in_block name (Ok block) = Some (record { name = name; sections = block_sections block })
 report_in_block name (Err why) = None
 
--- A line is a report if it has such a record, or a block that can be read, whichever error sources the firmware has. No
--- other line is a report.
+-- A line is a report if it stores such a record, or has a block that can be read, whichever error sources the
+-- firmware has. No other line is a report.
 abbrev pub line_report : Line → Option FirmwareReport
 line_report (Put id bytes) = report_in_store id bytes
 line_report (Reported (Block boot seconds source number bytes)) =
@@ -111,24 +111,24 @@ pcie_sections report = filter_map (pcie_section report.name) report.sections
 abbrev pub pcie_name : FirmwareReport → Option Name
 pcie_name report = if list_any is_pcie report.sections then Some report.name else None
 
--- the name of a line's report, if that has a PCI Express section
+-- the name of a line's report, if the report has a PCI Express section
 abbrev pub line_name : List ℕ → Option Name
 line_name line = option_and_then pcie_name (line_report_in line)
 
--- a line of a script, after all lines before it
+-- a line of a script, with all lines before it
 abbrev pub LinePlace : Type 0
 LinePlace = List (List ℕ) × List ℕ
 
--- whether one of these lines is a report of this name that has a PCI Express section
+-- whether one of these lines is a report with this name that has a PCI Express section
 abbrev pub is_known : List (List ℕ) → Name → Bool
 is_known lines name = list_any (same_name name) (filter_map line_name lines)
 
--- All PCI Express sections of a line's report are taken if it is the first report of its name that has some; otherwise
--- none is.
+-- All PCI Express sections of a line's report are taken if it is the first report with its name that has such a
+-- section; otherwise no section is taken.
 abbrev pub first_sections : List (List ℕ) → FirmwareReport → List Taken
 first_sections before report = if is_known before report.name then [] else pcie_sections report
 
--- the sections that are taken of a line after all lines before it
+-- the sections that are taken of a line, given the lines before it
 abbrev pub taken_at : LinePlace → List Taken
 taken_at place = option_map_or (first_sections place.0) (line_report_in place.1) []
 

@@ -29,15 +29,16 @@ pcie_device_of bytes = record {
   id = number_at 26 2 bytes;
 }
 
--- The two status words of the extended capability for advanced error reporting, which is at byte 112: uncorrectable
--- errors at byte 4 of it, correctable errors at byte 16.
+-- The two status words of the extended capability for advanced error reporting, which begins at byte 112:
+-- uncorrectable errors at its byte 4, correctable errors at its byte 16.
 abbrev pub uncorrectable_of : List ℕ → ℕ
 uncorrectable_of bytes = number_at 116 4 bytes
 
 abbrev pub correctable_of : List ℕ → ℕ
 correctable_of bytes = number_at 128 4 bytes
 
--- a section by its table: bit 3 says that the device identification is valid, bit 7 that the capability is valid
+-- a section by its fixed fields: bit 3 says that the device identification is valid, bit 7 that the capability is
+-- valid
 unfoldable pub pcie_of : List ℕ → Result PcieSection PcieRefused
 pcie_of bytes =
     if nat_lt (length bytes) PCIE_LENGTH then Err Short

@@ -1,4 +1,4 @@
--- The lines that are printed of sections, and of their totals.
+-- The lines that are printed for sections, and for their totals.
 use Rattle.std.specs.Prelude.{ℕ, ◌==◌, nat_eq, nat_lt, List, [], ◌∷◌, ◌++◌, codes, decimal, drop, length, map, unwrap_or, Option, None, Some, Result, Ok, Err, if◌then◌else◌}
 use Rattle.std.specs.Int.{to_be_bytes, w16}
 use Rattle.std.specs.List.{filter_map, flat_map, join_with_byte}
@@ -19,7 +19,7 @@ use Rattle.cper_pcie.specs.declared.section.PcieSection.{PcieSection}
 
 -- ---- a function
 
--- numbers in four, in two and in one or two hexadecimal digits
+-- a number in four, in two, and in one or two hexadecimal digits
 abbrev pub four_digits : ℕ → List ℕ
 four_digits number = encode_lower (to_be_bytes w16 number)
 
@@ -29,7 +29,7 @@ two_digits number = encode_lower (number ∷ [])
 abbrev pub few_digits : ℕ → List ℕ
 few_digits number = if nat_lt number 16 then drop 1 (two_digits number) else two_digits number
 
--- where a function is, and what it says that it is, as lspci prints them
+-- a function's address, and its ids, as lspci prints them
 unfoldable pub place_text : PcieDevice → List ℕ
 place_text device =
     four_digits device.segment ++ codes ":" ++ two_digits device.bus
@@ -48,7 +48,7 @@ told_device text (Some device) = text device
 abbrev pub bit_name : List (ℕ × List ℕ) → ℕ → List ℕ
 bit_name names bit = unwrap_or (lookup (nat_eq bit) names) (codes "bit-" ++ decimal bit)
 
--- the bits that are set in rising order, with commas between them
+-- the bits that are set, in rising order, with commas between them
 abbrev pub bits_text : List (ℕ × List ℕ) → ℕ → List ℕ
 bits_text names status =
     if length (bits_of status) == 0 then codes "-"

@@ -9,7 +9,8 @@ use Rattle.cper_pcie.specs.Bits.{error_count}
 use Rattle.cper_pcie.specs.Counts.{counted_device}
 use Rattle.cper_pcie.specs.Devices.{same_device}
 
--- each function in first-seen order with the sums of its errors, and the number of sections
+-- each function, in the order in which the functions were first seen, with the sums of its errors; and the number of
+-- sections
 pub record Totals : Type 0 where
   pub rows : List (Option PcieDevice × ErrorCounts)
   pub sections : ℕ

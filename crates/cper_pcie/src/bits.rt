@@ -47,7 +47,7 @@ pub fn correctable_name(bit: u32) -> Option<&'static [u8]>
     }
 }
 
-// How many bits of a status are set; 0 if there is no status.
+// Returns how many bits of a status are set; 0 if there is no status.
 #[tactic(auto, using(crate::proofs::BitLemmas::ones_are_bits))]
 pub(crate) fn error_count(status: Option<u32>) -> u64
     ensures count { result ≡ error_count status }

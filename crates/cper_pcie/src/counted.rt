@@ -1,4 +1,4 @@
-//! The reports that count.
+//! Keeps the reports that count.
 
 ghost use Rattle.std.specs.Prelude.{◌≡◌, ◌+◌, ◌<◌, ◌≤◌, ◌^◌, [], ◌∷◌, ◌++◌, length, OnOk};
 ghost use Rattle.cper_pcie.specs.Along.{counted_with, fresh_sections};
@@ -37,7 +37,7 @@ impl Model for Counted {
 }
 
 impl Counted {
-    // Returns no reports.
+    // Returns an empty set of reports.
     pub(crate) fn new(alloc: Global) -> Counted
         ensures { result ≡ none_counted }
     {
@@ -47,8 +47,8 @@ impl Counted {
         }
     }
 
-    // Takes a report. If it has PCI Express sections and no report of its name counts yet, it
-    // counts, and the lines of these sections are added.
+    // Takes a report. If it has PCI Express sections and no report with its name counts yet, it
+    // counts, and the lines of these sections are appended.
     pub(crate) fn take(
         &mut self,
         name: &Name,
@@ -74,7 +74,7 @@ impl Counted {
         }
     }
 
-    // Adds the totals of the sections of all reports that count.
+    // Appends the totals of the sections of all reports that count.
     pub(crate) fn push_totals(&self, text: &mut Vec<u8>) -> Result<(), NoMemory>
         ensures { OnOk result (text.new.items ≡ text.old.items ++ totals_text self.now.totals) }
     {
@@ -82,7 +82,7 @@ impl Counted {
     }
 }
 
-// Takes the PCI Express sections of a report that counts, and adds their lines.
+// Takes the PCI Express sections of a report that counts, and appends their lines.
 fn take_sections(
     totals: &mut Totals,
     name: &Name,
@@ -106,7 +106,7 @@ fn take_sections(
     Ok(())
 }
 
-// Takes a PCI Express section, and adds its line.
+// Takes a PCI Express section, and appends its line.
 fn take_section(
     totals: &mut Totals,
     name: &Name,

@@ -1,4 +1,4 @@
-//! How many errors each function had.
+//! Counts how many errors each function had.
 
 ghost use Rattle.std.specs.Prelude.{◌≡◌, ◌<◌, ◌++◌, List, [], ◌∷◌, OnOk, OnErr, length, slice_get, Some};
 ghost use Rattle.std.specs.Hash as fed;
@@ -30,7 +30,7 @@ impl ErrorCounts {
     // No errors.
     const NONE: ErrorCounts = ErrorCounts { uncor: 0, cor: 0 };
 
-    // These errors and those of a section.
+    // Returns these errors with the errors of a section.
     #[tactic(auto, unfolding(crate::specs::Counts::errors_with))]
     fn with(self, section: &PcieSection) -> ErrorCounts
         ensures { result ≡ errors_with self section.now }
@@ -42,7 +42,7 @@ impl ErrorCounts {
     }
 }
 
-// The key of a row: the function that sections name, or that they name none.
+// The key of a row: the function that sections name, or `None` for sections that name no function.
 #[derive(Clone, Copy, Debug)]
 struct Key {
     device: Option<PcieDevice>,
@@ -90,7 +90,7 @@ impl Hash for Key {
 /// How many errors each function had, by the sections that were added, in the order in which the
 /// functions were first seen. Sections that name no function are counted together.
 ///
-/// A count stops at 2^64 - 1.
+/// A count is at most 2^64 - 1.
 #[derive(Drop)]
 pub struct PcieCounts {
     table: RowTable<Key, ErrorCounts>,
@@ -120,6 +120,8 @@ impl PcieCounts {
 
     /// Counts a section.
     ///
+    /// # Errors
+    ///
     /// `NoMemory`: only if memory runs out; the counts are then unchanged.
     pub fn add(&mut self, section: &PcieSection) -> Result<(), NoMemory>
         ensures ok { OnOk result (self.new ≡ pcie_counts_with self.old section.now) }
@@ -146,8 +148,8 @@ impl PcieCounts {
         self.table.len()
     }
 
-    /// Returns a function by its index, from 0 in first-seen order, and how many uncorrectable and
-    /// correctable errors it had. The index has to be below `len`.
+    /// Returns a function by its index, in the order in which the functions were first seen, and
+    /// how many uncorrectable and correctable errors it had. Requires an index below `len`.
     pub fn row(&self, i: usize) -> (Option<PcieDevice>, u64, u64)
         requires { i < length self.now }
         ensures { slice_get self.now i

@@ -43,7 +43,7 @@ impl Model for PcieFilter {
 }
 
 impl PcieFilter {
-    /// Returns a filter at the start of a script.
+    /// Returns a filter before the first line of a script.
     pub fn new(alloc: Global) -> PcieFilter
         ensures makes { filter_from result.counted ≡ pcie_filter }
         ensures taken { result.taken ≡ 0 }
@@ -73,7 +73,7 @@ impl LineFilter for PcieFilter {
                 Ok(())
             }
             Err(NoMemory) => {
-                // What was taken of the line is dropped, and everything before it.
+                // The sections of this line, and of the lines before it, are dropped.
                 self.counted = Counted::new(alloc);
                 Err(LineRefused::NoMemory)
             }
@@ -89,7 +89,7 @@ impl LineFilter for PcieFilter {
     }
 }
 
-// Takes the sections of a line that was read, if it is a report that counts, and adds their lines.
+// Takes the sections of a line, if the line is a report that counts, and appends their lines.
 fn take_line(
     counted: &mut Counted,
     buffer: &mut Vec<u8>,

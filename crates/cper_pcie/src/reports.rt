@@ -25,7 +25,7 @@ pub(crate) enum Sections<'a> {
 }
 
 impl<'a> Sections<'a> {
-    // How many there are.
+    // Returns how many sections there are.
     pub(crate) fn count(&self) -> usize
         ensures { result ≡ length (sections_in self.now) }
     {
@@ -35,7 +35,7 @@ impl<'a> Sections<'a> {
         }
     }
 
-    // A section by its number, from 0.
+    // Returns a section by its index.
     pub(crate) fn get(&self, i: usize) -> Descriptor<'a>
         requires { i < length (sections_in self.now) }
         ensures { slice_get (sections_in self.now) i ≡ Some (record {
@@ -46,7 +46,7 @@ impl<'a> Sections<'a> {
     {
         match self {
             Sections::Record(rec) => {
-                // The count of a record's sections bounds the number.
+                // The count of a record's sections bounds the index.
                 let _count = rec.count();
                 rec.section(i as u16)
             }
@@ -54,7 +54,7 @@ impl<'a> Sections<'a> {
         }
     }
 
-    // Whether some are PCI Express sections.
+    // Returns whether there is a PCI Express section.
     pub(crate) fn has_pcie(&self) -> bool
         ensures { result ≡ list_any is_pcie (sections_in self.now) }
     {
@@ -67,8 +67,8 @@ impl<'a> Sections<'a> {
     }
 }
 
-// Fills a buffer with a record as the store returns it, with zeros after its bytes. Memory is
-// allocated only for the first record.
+// Fills a buffer with a record as the store returns it, with zeros after its bytes. Allocates
+// memory only for the first record.
 pub(crate) fn fill(buffer: &mut Vec<u8>, bytes: &[u8]) -> Result<(), NoMemory>
     requires { length bytes.now ≤ STORED_LENGTH }
     ensures { OnOk result (buffer.new.items ≡ filled bytes.now) }

@@ -18,7 +18,7 @@ const PCIE: [u8; 16] = [
     0xd9, 0x95, 0xe9, 0x54, 0xbb, 0xc1, 0x43, 0x0f, 0xad, 0x91, 0xb4, 0x4d, 0xcb, 0x3c, 0x6f, 0x35,
 ];
 
-/// A PCI Express function: where it is, and what it says that it is.
+/// A PCI Express function: its address and its ids.
 #[derive(Clone, Copy, Debug, PartialEq, Eq, Hash)]
 pub struct PcieDevice {
     /// The segment.
@@ -63,9 +63,11 @@ pub fn is_pcie(guid: Uuid) -> bool
     *guid.as_bytes() == PCIE
 }
 
-/// Returns what a PCI Express section says of whose errors it reports, and which. Its other fields
-/// and bytes after the 208th are ignored. Allocates nothing. (UEFI, appendix N, "PCI Express Error
-/// Section".)
+/// Returns which function a PCI Express section names, and which errors it reports. Its other
+/// fields and the bytes after the 208th are ignored. Allocates nothing. (UEFI, appendix N, "PCI
+/// Express Error Section".)
+///
+/// # Errors
 ///
 /// `Short`: if and only if there are fewer than 208 bytes.
 #[tactic(auto, unfolding(crate::specs::Section::pcie_of))]
@@ -86,7 +88,7 @@ pub fn read_pcie(bytes: &[u8]) -> Result<PcieSection, PcieRefused>
     })
 }
 
-// The function that a section names, whether it says that it does or not.
+// Returns the function at its place in a section, whether its validation bit is set or not.
 #[tactic(auto, unfolding(crate::specs::Section::pcie_device_of))]
 fn device_at(bytes: &[u8]) -> PcieDevice
     requires { PCIE_LENGTH ≤ length bytes.now }

@@ -1,4 +1,4 @@
-//! The lines that are printed of sections, and of their totals.
+//! Prints the lines for sections, and for their totals.
 
 ghost use Rattle.std.specs.Prelude.{◌≡◌, ◌<◌, ◌++◌, OnOk};
 ghost use Rattle.cper_pcie.specs.Texts.{bit_name, bits_text, device_line, pcie_end_line, few_digits};
@@ -12,14 +12,14 @@ use ras_base::{NoMemory, is_set, push_number};
 use ras_facts::{Name, severity_class};
 use ras_texts::{class_word, push_name};
 
-// Which of the two statuses of a section.
+// One of the two statuses of a section.
 #[derive(Clone, Copy, Debug, PartialEq, Eq)]
 pub(crate) enum Kind {
     Uncorrectable,
     Correctable,
 }
 
-// Adds the line of a section of the report of this name.
+// Appends the line of a section of the report with this name.
 pub(crate) fn push_section(
     text: &mut Vec<u8>,
     name: &Name,
@@ -39,7 +39,7 @@ pub(crate) fn push_section(
     Ok(())
 }
 
-// Adds what a section says that reads.
+// Appends what a section says that can be read.
 #[tactic(auto, unfolding(crate::specs::Texts::read_text))]
 fn push_read(text: &mut Vec<u8>, severity: u32, section: &PcieSection) -> Result<(), NoMemory>
     ensures { OnOk result (text.new.items ≡ text.old.items ++ read_text severity section.now) }
@@ -56,7 +56,7 @@ fn push_read(text: &mut Vec<u8>, severity: u32, section: &PcieSection) -> Result
     push_status(text, Kind::Correctable, section.cor)
 }
 
-// Adds the line of a function's errors.
+// Appends the line of a function's errors.
 pub(crate) fn push_device(
     text: &mut Vec<u8>,
     device: Option<PcieDevice>,
@@ -76,7 +76,7 @@ pub(crate) fn push_device(
     Ok(())
 }
 
-// Adds the line of the numbers of sections and of functions.
+// Appends the line with the numbers of sections and of functions.
 pub(crate) fn push_end(text: &mut Vec<u8>, sections: u64, devices: u64) -> Result<(), NoMemory>
     ensures { OnOk result (text.new.items ≡ text.old.items ++ end_text sections devices) }
 {
@@ -88,7 +88,7 @@ pub(crate) fn push_end(text: &mut Vec<u8>, sections: u64, devices: u64) -> Resul
     Ok(())
 }
 
-// Adds where a function is, if the section says so.
+// Appends the address of a function, if the section names one.
 #[tactic(auto, unfolding(crate::specs::Texts::place_text))]
 fn push_place(text: &mut Vec<u8>, device: Option<PcieDevice>) -> Result<(), NoMemory>
     ensures { OnOk result (text.new.items ≡ text.old.items ++ told_device place_text device) }
@@ -106,7 +106,7 @@ fn push_place(text: &mut Vec<u8>, device: Option<PcieDevice>) -> Result<(), NoMe
     push_few_digits(text, device.function)
 }
 
-// Adds what a function says that it is, if the section says so.
+// Appends the ids of a function, if the section names one.
 #[tactic(auto, unfolding(crate::specs::Texts::id_text))]
 fn push_id(text: &mut Vec<u8>, device: Option<PcieDevice>) -> Result<(), NoMemory>
     ensures { OnOk result (text.new.items ≡ text.old.items ++ told_device id_text device) }
@@ -121,7 +121,7 @@ fn push_id(text: &mut Vec<u8>, device: Option<PcieDevice>) -> Result<(), NoMemor
     Ok(())
 }
 
-// A number in four hexadecimal digits.
+// Returns a number in four hexadecimal digits.
 fn four_digits(number: u16) -> [u8; 4]
     ensures { result ≡ four_digits number }
 {
@@ -130,7 +130,7 @@ fn four_digits(number: u16) -> [u8; 4]
     digits
 }
 
-// A number in two hexadecimal digits.
+// Returns a number in two hexadecimal digits.
 fn two_digits(number: u8) -> [u8; 2]
     ensures { result ≡ two_digits number }
 {
@@ -139,7 +139,7 @@ fn two_digits(number: u8) -> [u8; 2]
     digits
 }
 
-// Adds a number in hexadecimal digits, with no zero before them.
+// Appends a number in hexadecimal digits, without zeros before it.
 fn push_few_digits(text: &mut Vec<u8>, number: u8) -> Result<(), NoMemory>
     ensures { OnOk result (text.new.items ≡ text.old.items ++ few_digits number) }
 {
@@ -152,7 +152,7 @@ fn push_few_digits(text: &mut Vec<u8>, number: u8) -> Result<(), NoMemory>
     Ok(())
 }
 
-// Adds the bits of a status, if it is there.
+// Appends the bits of a status, if there is a status.
 fn push_status(text: &mut Vec<u8>, kind: Kind, status: Option<u32>) -> Result<(), NoMemory>
     ensures { OnOk result
         (text.new.items ≡ text.old.items ++ status_text (bit_names_of kind) status) }
@@ -163,7 +163,7 @@ fn push_status(text: &mut Vec<u8>, kind: Kind, status: Option<u32>) -> Result<()
     }
 }
 
-// Adds the names of the bits that are set.
+// Appends the names of the bits that are set.
 fn push_bits(text: &mut Vec<u8>, kind: Kind, status: u32) -> Result<(), NoMemory>
     ensures { OnOk result (text.new.items ≡ text.old.items ++ bits_text (bit_names_of kind) status) }
 {
@@ -180,7 +180,7 @@ fn push_bits(text: &mut Vec<u8>, kind: Kind, status: u32) -> Result<(), NoMemory
     Ok(())
 }
 
-// Adds the name of a bit, after a comma unless it is the first.
+// Appends the name of a bit, after a comma unless it is the first.
 fn push_next_bit(text: &mut Vec<u8>, kind: Kind, bit: u32, is_first: bool) -> Result<(), NoMemory>
     ensures { OnOk result (text.new.items
         ≡ text.old.items ++ next_bit_text is_first (bit_name (bit_names_of kind) bit)) }
@@ -191,7 +191,7 @@ fn push_next_bit(text: &mut Vec<u8>, kind: Kind, bit: u32, is_first: bool) -> Re
     push_bit(text, kind, bit)
 }
 
-// Adds the name of a bit, or its number if it has none.
+// Appends the name of a bit, or its number if it has no name.
 fn push_bit(text: &mut Vec<u8>, kind: Kind, bit: u32) -> Result<(), NoMemory>
     ensures { OnOk result (text.new.items ≡ text.old.items ++ bit_name (bit_names_of kind) bit) }
 {

@@ -27,7 +27,7 @@ impl Model for Totals {
 
     ghost view = { λ t. record { rows = t.counts; sections = t.sections } };
 
-    // Each section has at most 32 errors of each kind, so no count reaches its end.
+    // Each section has at most 32 errors of each kind, so no count reaches its greatest number.
     ghost invariant = { λ t. AreFew (record { rows = t.counts; sections = t.sections }) };
 }
 
@@ -52,7 +52,7 @@ impl Totals {
         Ok(())
     }
 
-    // Adds a line of each function, and one of the numbers of sections and of functions.
+    // Appends a line for each function, and a line with the numbers of sections and of functions.
     pub(crate) fn push(&self, text: &mut Vec<u8>) -> Result<(), NoMemory>
         ensures { OnOk result (text.new.items ≡ text.old.items ++ totals_text self.now) }
     {

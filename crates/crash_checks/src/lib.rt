@@ -1,5 +1,6 @@
 //! Whole runs over boards in memory on which calls fail, the machine crashes, or the disk is
-//! exchanged: what no clause says and the built program can't show.
+//! exchanged, and calls of the program's own board over real files: what no clause says and the
+//! built program can't show.
 //!
 //! Each call of `rasd` brings everything that its clauses refer to into the proof of the function
 //! that makes the call. So the tests call it through one function that promises nothing, over one

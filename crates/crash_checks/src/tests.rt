@@ -9,6 +9,7 @@ mod devices;
 mod edge;
 mod exchanged;
 mod faults;
+mod files;
 mod journals;
 mod records;
 mod stops;

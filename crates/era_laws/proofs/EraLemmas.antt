@@ -1,5 +1,4 @@
--- Runs on one journal and record store, one after another: what the files count, and which records are
--- kept.
+-- Runs on one journal and record store, one after another: what the files count, and which records are stored.
 use Rattle.std.proofs.Common.{◌≡◌, ℕ, ◌+◌, ◌<◌, nat_eq, nat_lt, Bool, true, false, if◌then◌else◌, List, [], ◌∷◌, ◌++◌, length, drop, Option, None, Some, Result, Ok, refl, sym, ap, ◌∙◌, subst, inl, inr, append_assoc, append-nil, arith}
 use Rattle.std.specs.Prelude.{◌⊎◌}
 use Rattle.std.specs.List.{IsDistinct, fold}
@@ -84,14 +83,14 @@ module _ (era : Era) (is : IsEra era) where
       subst (λ (done : ℕ). CountsBy done (printed_in era)) (sym done-is) (subst (CountsBy at.done) (sym printed-is) (counts-by at.whole)) in
       (n, record { recovers = recovers; whole = whole; acknowledged = acknowledged })
 
-  -- what is known at its start is known when it is over
+  -- a name that is known at an era's start is known at its end
   known-still : (name : Name) → KnownBy era.run.account name → KnownBy at.account name
   known-still name known = elim at.whole [ inl whole ↦ upto at.done whole | inr more ↦ upto (at.done + 1) more ]
     where
       upto : (n : ℕ) → at.account ≡ account_upto era.run n → KnownBy at.account name
       upto n same = subst (λ (a : State). KnownBy a name) (sym same) (knows-after_all era.run.account (reports_upto era.run n) name known)
 
-  -- a put that was cut is done or isn't
+  -- a put that a crash interrupted is done or isn't
   pub era-cut : (r : Stored) → change_next era.run (done_in era) ≡ puts r
       → Becomes (store_changed (store_upto era.run (done_in era)) (puts r)) (store_upto era.run (done_in era)) era.left.store
   era-cut r next =
@@ -104,7 +103,7 @@ module _ (era : Era) (is : IsEra era) where
 abbrev pub KnowsAllOf : State → State → Type 0
 KnowsAllOf one other = (name : Name) → KnownBy one name → KnownBy other name
 
--- what is known at the start of some eras is known at the start of the next one
+-- a name that is known at the start of some eras is known at the start of the next era
 pub knows-along : (eras : List Era) (next : Era) (account : State) (here : Left) → Recovers account here → AreEras here (eras ++ next ∷ []) → KnowsAllOf account next.run.account
 knows-along [] next account here opens (begins, is, follow) name known =
     subst (λ (a : State). KnownBy a name) (start-account here next account begins is opens) known
@@ -112,7 +111,7 @@ knows-along (era ∷ eras) next account here opens (begins, is, follow) name kno
     knows-along eras next is.leaves.account era.left is.leaves.recovers follow name
     (known-still era is name (subst (λ (a : State). KnownBy a name) (start-account here era account begins is opens) known))
 
--- and that one begins with the record store that they left
+-- the next era begins with the record store that these eras left
 pub store-along : (eras : List Era) (next : Era) (here : Left) → AreEras here (eras ++ next ∷ []) → next.run.store ≡ (left_after here eras).store
 store-along [] next here (begins, is, follow) = is.store ∙ begins.store
 store-along (era ∷ eras) next here (begins, is, follow) = store-along eras next era.left follow

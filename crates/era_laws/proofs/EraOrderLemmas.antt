@@ -1,4 +1,4 @@
--- What the eras of a journal order, one after another, and what stands after them.
+-- What the eras of a journal order, one after another, and what is outstanding after them.
 use Rattle.std.proofs.Common.{◌≡◌, ℕ, List, [], ◌∷◌, ◌++◌, Some, refl, sym, ap, ◌∙◌, subst, append_assoc, append-nil}
 use Rattle.std.specs.Prelude.{if◌then◌else◌}
 use Rattle.std.specs.Map.{lookup}
@@ -26,7 +26,7 @@ use Rattle.era_laws.specs.Eras.{AreEras, CountsEach, Era, left_after, ordered_in
 use Rattle.era_laws.proofs.EraLemmas.{begins-with, histories-along, leaves-history, one-account}
 use Rattle.era_laws.proofs.TakesLemmas.{reports-same}
 
--- the orders of a history that grows, all of them or those since the last mark
+-- the orders of a history that grows: all of them, or those since the last upgrade marker
 module _ (given : History → List Order) (grows : (h : History) (e : Entry) → given (with_entry h e) ≡ given h ++ orders_behind h e) where
   given-follow : (run : Run) (history : History) → run.account ≡ account_of history → (n : ℕ)
       → given (with_entries history (reports_upto run n)) ≡ given history ++ orders_upto run n
@@ -46,7 +46,7 @@ module _ (given : History → List Order) (grows : (h : History) (e : Entry) →
       ∙ ap (λ (os : List Order). os ++ ordered_in eras counts) (given-follow era.run history (begins-with history here era begins is opens) n)
       ∙ append_assoc (given history) (orders_upto era.run n) (ordered_in eras counts)
 
--- the run of a script orders what its lines do
+-- the run of a script orders what the script's lines order
 pub orders-same : (history : History) (start : Start) (script : List ℕ) (n : ℕ) → BeginsWith history start → orders_upto (run_of start script) n ≡ ordered start script n
 orders-same history start script n is =
     append_cancel_left (orders history) (orders_upto (run_of start script) n) (ordered start script n)
@@ -71,7 +71,7 @@ module _ (history : History) (here : Left) (eras : List Era) (counts : List ℕ)
       ap (orders_for_module (module_place after label)) (sym (given-along orders_since_mark (λ h e. refl) eras counts history here opens follow counted))
       ∙ module-orders after label row
 
-  -- ---- what stands in the account that is left
+  -- ---- what is outstanding in the account that is left
 
   module _ (now : State) (of : Recovers now (left_after here eras)) where
     account-is : now ≡ account_of after

@@ -10,7 +10,7 @@ use Rattle.ras_run.specs.Status.{places_before_refusal, refusal_at}
 use Rattle.ras_script.specs.Line.{is_asking}
 use Rattle.ras_daemon.specs.Script.{is_event}
 
--- a line isn't refused, or why it is
+-- a line is accepted, or there is a reason why it is rejected
 pub taken-or : (p : Place) → (refusal_at p ≡ None) ⊎ ((exit : Exit) × (refusal_at p ≡ Some exit))
 taken-or p = by (refusal_at p) refl
   where
@@ -25,7 +25,7 @@ events site reads = filter is_event (places_before_refusal (places_from site rea
 abbrev pub first_events : ℕ → Site → List NumberedLine → List Place
 first_events n site reads = take n (events site reads)
 
--- how many of n + 1 events follow a line
+-- how many of n + 1 events come after a line
 abbrev pub left : Bool → ℕ → ℕ
 left event n = if event then n else suc n
 
@@ -36,7 +36,8 @@ module _ (n : ℕ) (site : Site) (read : NumberedLine) (reads : List NumberedLin
   abbrev later : List Place
   later = events (site_after site read) reads
 
-  -- what events alone give is given by the first line, and by the events that follow it
+  -- what the first n + 1 events give is what the first line and the events after it give, if only events give
+  -- something
   pub events-cut : {Y : Type 0} (f : Place → List Y) → ((p : Place) → is_event p ≡ false → f p ≡ []) → refusal_at (site, read) ≡ None
       → flat_map f (first_events (suc n) site (read ∷ reads)) ≡ f (site, read) ++ flat_map f (take (left event n) later)
   events-cut {Y} f none taken = rw taken (by event refl)
@@ -45,7 +46,7 @@ module _ (n : ℕ) (site : Site) (read : NumberedLine) (reads : List NumberedLin
       by true asks = refl
       by false silent = sym (ap (λ (ys : List Y). ys ++ flat_map f (take (suc n) later)) (none (site, read) silent))
 
-  -- if there are n + 1 events, the first line isn't refused
+  -- if there are n + 1 events, the first line is accepted
   pub events-some : suc n ≤ length (events site (read ∷ reads)) → (refusal_at (site, read) ≡ None) × (left event n ≤ length later)
   events-some few = elim (taken-or (site, read)) [
     | inl taken ↦ (taken, some event (rw taken at few))

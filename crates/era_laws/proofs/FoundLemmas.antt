@@ -1,4 +1,5 @@
--- What changes of the store last put under an identifier doesn't hang on what was there before, or it is that.
+-- The bytes that changes of the store last put under an identifier don't depend on what was there before, or are what
+-- was there before.
 use Rattle.std.proofs.Common.{◌≡◌, ℕ, nat_eq, Bool, true, false, if◌then◌else◌, List, [], ◌∷◌, Option, Some, refl, sym, ◌∙◌, inl, inr}
 use Rattle.std.specs.Prelude.{◌⊎◌}
 use Rattle.std.specs.List.{fold}
@@ -11,7 +12,7 @@ Found = Option (List ℕ)
 abbrev Stays : (Found → Found) → Type 0
 Stays f = ((a b : Found) → f a ≡ f b) ⊎ ((a : Found) → f a ≡ a)
 
--- by all of them, if by each
+-- if each change has this property, so have all changes together
 all-stay : {X : Type 0} (f : Found → X → Found) → ((x : X) → Stays (λ a. f a x)) → (xs : List X) → Stays (λ a. fold f a xs)
 all-stay f each [] = inr (λ a. refl)
 all-stay {X} f each (x ∷ xs) = by (all-stay f each xs) (each x)

@@ -1,4 +1,4 @@
--- A script that polls, and that is run again over the record store that was left.
+-- A script that polls and is run again over the record store that was left.
 use Rattle.std.proofs.Common.{◌≡◌, ℕ, zero, suc, ◌≤◌, nat_eq, Bool, true, false, not, ◌||◌, if◌then◌else◌, List, [], ◌∷◌, ◌++◌, length, take, map, Option, None, Some, Result, Ok, Err, refl, sym, ap, ◌∙◌, subst, inl, inr, arith}
 use Rattle.std.specs.Prelude.{◌⊎◌, All, Contains, unwrap_or}
 use Rattle.std.specs.List.{AllByRecursion, flat_map}
@@ -50,13 +50,13 @@ use Rattle.era_laws.proofs.EraLemmas.{KnowsAllOf, knows-along, store-along}
 use Rattle.era_laws.proofs.FirstEventLemmas.{events, events-cut, events-some, first_events, left, taken-or}
 use Rattle.era_laws.proofs.TakesLemmas.{takes-account, takes-count, takes-logs, takes-start, takes-store}
 
--- the names that entries bring are known after them
+-- the names of entries are known after the entries
 own-known : (a : State) (es : List Entry) → AllByRecursion (KnownBy (account_after_all a es)) (names_of es)
 own-known a [] = tt
 own-known a (Fact fact ∷ es) = (knows-after_all (account_after a (Fact fact)) es fact.name (knows-own a fact), own-known (account_after a (Fact fact)) es)
 own-known a (e ∷ es) = own-known (account_after a e) es
 
--- what holds of a record that is put, and of all others in a store, holds in the store with it
+-- a statement about the record that is put and about all other records of a store holds of the store after the put
 module _ (P Q : Stored → Type 0) (id : ℕ) (bytes : List ℕ) (other : (r : Stored) → nat_eq id r.id ≡ false → P r → Q r) (put : Q (record { id = id; bytes = bytes })) where
   replaced : (rs : List Stored) → AllByRecursion P rs → AllByRecursion Q (map (record_after_put id bytes) rs)
   replaced [] all = tt
@@ -83,7 +83,7 @@ module _ (P Q : Stored → Type 0) (id : ℕ) (bytes : List ℕ) (other : (r : S
 
 -- ---- lines of which the first are taken
 
--- a run from a site on has n events, or none of its lines is refused
+-- a run from a site on has n events, or rejects none of its lines
 abbrev Reaches : ℕ → Site → List NumberedLine → Type 0
 Reaches n site reads = (n ≤ length (events site reads)) ⊎ (places_before_refusal (places_from site reads) ≡ places_from site reads)
 
@@ -106,7 +106,7 @@ module _ (IsNew : Name → Type 0) where
   more-known a b more name (inl known) = inl (more name known)
   more-known a b more name (inr new) = inr new
 
-  -- so it is with each name of entries
+  -- each name of these entries is known or new
   abbrev AreKnownOrNew : State → List Entry → Type 0
   AreKnownOrNew a es = AllByRecursion (KnowsOrNew a) (names_of es)
 
@@ -117,7 +117,7 @@ module _ (IsNew : Name → Type 0) where
   either true one other first second = first
   either false one other first second = second
 
-  -- what an account logs of such entries has new names
+  -- what an account logs of such entries has only new names
   logs-new : (a : State) (es : List Entry) → AreKnownOrNew a es → AllByRecursion IsNew (names_of (fresh_entries_in a es))
   logs-new a [] all = tt
   logs-new a (Fact fact ∷ es) (inl known, all) = rw known (logs-new a es all)
@@ -128,12 +128,12 @@ module _ (IsNew : Name → Type 0) where
       either (is_fresh_in a e) (e ∷ fresh_entries_in (account_after a e) es) (fresh_entries_in a es)
       (logs-new (account_after a e) es (grown a (e ∷ []) es all)) (logs-new a es all)
 
-  -- A record in the other run's store: the first run's store has it too, or the first run's account knows its name, or
-  -- the name is new.
+  -- A record in the other run's store: the first run's store has it too, or the first run's account knows its name,
+  -- or its name is new.
   abbrev IsHeld : List Stored → State → Stored → Type 0
   IsHeld store a r = (own : List ℕ) → read_stored r ≡ Ok own → (bytes_under r.id store ≡ Some r.bytes) ⊎ KnowsOrNew a (stored_name own)
 
-  -- a deed in both runs, by the same rows
+  -- a deed in both runs, with one machine description
   module _ (rows : List Row) (a : State) (one other : List Stored) (held : AllByRecursion (IsHeld one a) other) where
     abbrev made : List Stored → Asking → Option (List Piece) → List Entry
     made store asks reported = entries_in (unwrap_or (counted_in rows store asks reported) [])
@@ -170,8 +170,8 @@ module _ (IsNew : Name → Type 0) where
         apart : (q : Stored) → nat_eq r.id q.id ≡ false → IsHeld one a q → IsHeld (with_record r.id r.bytes one) a q
         apart q not held own reads = elim (held own reads) [ inl stands ↦ inl (under-with_record r.id q.id r.bytes not one ∙ stands) | inr named ↦ inr named ]
 
-    -- After a deed in both runs the first run's account knows each name that the other run reports, or the name is new.
-    -- So it still is with each record in the other run's store.
+    -- After a deed in both runs the first run's account knows each name that the other run reports, or the name is
+    -- new. The same then holds of each record in the other run's store.
     deed-held : (asks : Asking) (reported : Option (List Piece)) → HasRoom (change_by asks) one → HasRoom (change_by asks) other
         → AreKnownOrNew (after asks reported) (made other asks reported) × AllByRecursion (IsHeld (store_done asks one) (after asks reported)) (store_done asks other)
     deed-held (puts r) reported here there = (tt, put-held r here there)
@@ -192,14 +192,14 @@ module _ (IsNew : Name → Type 0) where
           | inr named ↦ inr (more-known a (after asks reported) (knows-after_all a (made one asks reported)) (stored_name own) named)
         ]
 
-  -- the site of the first run, by the other run's machine description
+  -- the site of the first run, with the other run's machine description
   abbrev beside : Site → Site → Site
   beside one other = record one { settings = other.settings }
 
   abbrev first-reports : ℕ → Site → List NumberedLine → List Entry
   first-reports n site reads = flat_map entries_at (first_events n site reads)
 
-  -- If the first run has as many events, or takes all lines, its account knows each name that the other run's first
+  -- If the first run has n events, or accepts all lines, its account knows each name that the other run's first n
   -- events report, or the name is new.
   walk : (n : ℕ) (one other : Site) (reads : List NumberedLine) → Reaches n (beside one other) reads → AllByRecursion (IsHeld one.store one.account) other.store
       → AreKnownOrNew (account_after_all one.account (first-reports n (beside one other) reads)) (first-reports n other reads)
@@ -230,7 +230,7 @@ module _ (here : Left) (era next : Era) (between : List Era) (script : List ℕ)
   abbrev first-events : ℕ → List Place
   first-events m = take m (events_of takes.start script)
 
-  -- what the next era logs by its first events, if these are among those that were counted
+  -- what the next era logs in its first events, if these are among the events that were counted
   logs-readable : (m : ℕ) → IsPrefixOf (first-events m) (first-events n) → Reaches m (first_site takes.start) (reads_of script)
       → All (IsReadableIn (left_after era.left between).store) (names_of (logs_upto next.run m))
   logs-readable m front reaches =

@@ -46,7 +46,7 @@ use Rattle.ras_daemon.specs.Runs.{facts_of}
 use Rattle.ras_daemon.proofs.AgainLemmas.{facts_of-append}
 use Rattle.era_laws.specs.Printed.{IsPrint, Print, log, other, print_text, replace, told_in}
 
--- a text is these pieces, and these are the new reports among them
+-- a text consists of pieces, and `told` are the new reports among them
 pub record HasPrints (text : List ℕ) (told : List Fact) : Type 0 where
   pub prints : List Print
   pub each : AllByRecursion IsPrint prints
@@ -168,7 +168,7 @@ prints-along a (Counted entry details ∷ pieces) = by (is_fresh_in a entry) (pr
         (prints-both (entry_lines details a entry) (text_along (after true) pieces) (facts_of (entry ∷ [])) (facts_of later) (prints-entry details a entry) others)
     by false others = prints-both (repeat_line a entry) (text_along a pieces) [] (facts_of (fresh_entries_in a (entries_in pieces))) (prints-repeat a entry) others
 
--- a text that tells nothing, behind another
+-- a text without new reports, after another text
 pub prints-behind : (one more : List ℕ) (told : List Fact) → HasPrints one told → HasPrints more [] → HasPrints (one ++ more) told
 prints-behind one more told first second = subst (HasPrints (one ++ more)) (append-nil told) (prints-both one more told [] first second)
 

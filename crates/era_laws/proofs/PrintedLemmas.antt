@@ -1,4 +1,4 @@
--- What an era prints of its events is text of those that are counted.
+-- An era prints only text of events that are counted.
 use Rattle.std.proofs.Common.{◌≡◌, ℕ, zero, suc, ◌+◌, ◌<◌, ◌≤◌, ◌==◌, nat_lt, Bool, true, false, if◌then◌else◌, List, [], ◌∷◌, ◌++◌, length, map, take, drop, filter, codes, decimal, Option, None, Some, refl, sym, ap, subst, ◌∙◌, inl, inr, append_assoc, length-append, arith}
 use Rattle.std.specs.Prelude.{◌⊎◌, All, unwrap_or}
 use Rattle.std.specs.List.{AllByRecursion, IsDistinct, flat_map, slice_split, zip}
@@ -72,7 +72,7 @@ fresh-append a (x ∷ xs) ys = by (is_fresh_in a x) (fresh-append (account_after
     by true rest = ap (λ (es : List Entry). x ∷ es) rest
     by false rest = rest
 
--- a line at its place tells what is new of what it reports
+-- the new reports of a line at its place
 abbrev told-at : Place → List Fact
 told-at place = facts_of (fresh_entries_in place.0.account (entries_at place))
 
@@ -96,7 +96,7 @@ place-prints p = prints-behind (text_at p) (done_at p) (told-at p) (place-text p
     done true = prints-done p.1.0
     done false = prints-none
 
--- the first events print pieces, and tell what is new of all that they report
+-- the first events print pieces, whose new reports are the new ones among all that these events report
 abbrev ArePrinted : ℕ → Site → List NumberedLine → Type 0
 ArePrinted n site reads = HasPrints (flat_map output_at (first_events n site reads)) (facts_of (fresh_entries_in site.account (flat_map entries_at (first_events n site reads))))
 
@@ -119,7 +119,7 @@ events-print (suc n) site (read ∷ reads) = elim (taken-or (site, read)) [
       (place-prints (site, read)) (events-print (left (is_asking read.1) n) next reads)))
 ]
 
--- the first events of a script
+-- the first events of a script print such pieces
 output-prints : (start : Start) (script : List ℕ) (n : ℕ) → HasPrints (output_upto start script n) (facts_of (logged start script n))
 output-prints start script n =
     prints-both (standing_lines start.account) (flat_map output_at (take n (events_of start script))) [] (facts_of (logged start script n))
@@ -127,7 +127,7 @@ output-prints start script n =
 
 -- ---- their done lines
 
--- a text in front of another takes no done line from it
+-- text in front of another text takes no done line from it
 abbrev KeepsDone : List ℕ → Type 0
 KeepsDone text = (more : List ℕ) → done_count more ≤ done_count (text ++ more)
 
@@ -173,7 +173,7 @@ keeps-print (other line) = keeps-line line
 keeps-prints : (text : List ℕ) (told : List Fact) → HasPrints text told → KeepsDone text
 keeps-prints text told has = subst (λ (printed : List ℕ). KeepsDone printed) (sym has.whole) (keeps-all print_text keeps-print has.prints)
 
--- so as many done lines are printed as events
+-- n events print n done lines
 count-events : (n : ℕ) (site : Site) (reads : List NumberedLine) (more : List ℕ) → n ≤ length (events site reads)
     → n + done_count more ≤ done_count (flat_map output_at (first_events n site reads) ++ more)
 count-events zero site reads more few = omega arith
@@ -216,7 +216,7 @@ count-output start script n more few =
 
 -- ---- an era
 
--- two beginnings of a text
+-- of two beginnings of a text, one is a beginning of the other
 compare : (xs ys r s : List ℕ) → xs ++ r ≡ ys ++ s → IsPrefixOf xs ys ⊎ ((more : List ℕ) × (1 ≤ length more) × (xs ≡ ys ++ more))
 compare [] ys r s is = inl (ys, refl)
 compare (x ∷ xs) [] r s is = inr (x ∷ xs, omega arith, refl)
@@ -225,7 +225,7 @@ compare (x ∷ xs) (y ∷ ys) r s is =
     let later : xs ++ r ≡ ys ++ s = cc in
     elim (compare xs ys r s later) [ inl front ↦ inl (front.0, λ i. same i ∷ front.1 i) | inr over ↦ inr (over.0, over.1, λ i. same i ∷ over.2 i) ]
 
--- the text of a run from its first events on
+-- the text of a run, split after its first events
 text-split : (run : Run) (n : ℕ) → text_of run ≡ text_upto run n ++ (flat_map (λ (event : RunEvent). event.prints) (drop n run.does) ++ run.closing)
 text-split run n =
     let prints : RunEvent → List ℕ = λ (event : RunEvent). event.prints in
@@ -278,7 +278,7 @@ module _ (era : Era) (is : IsEra era) (script : List ℕ) (takes : TakesScript s
     has.tells,
   )
 
-  -- it prints nothing of an event that isn't counted
+  -- an era prints nothing of an event that isn't counted
   overrun : n < length run.does → (more : List ℕ) → 1 ≤ length more → printed_in era ≡ text_upto run n ++ more → ⊥
   overrun less more some whole =
       let few : n ≤ done_count (output_upto start script n ++ more) = count-output start script n more (omega (arith, less, takes-count script era takes)) in

@@ -1,4 +1,4 @@
--- One script that is taken from its first line again after each stop.
+-- A script that is run again from its first line after each crash.
 use Rattle.std.proofs.Common.{◌≡◌, ℕ, ◌≤◌, List, [], ◌∷◌, ◌++◌, length, take, refl, sym, ap, ◌∙◌, subst, inl, inr, append-nil, arith}
 use Rattle.std.specs.Prelude.{filter}
 use Rattle.std.specs.List.{AllByRecursion, flat_map}
@@ -42,13 +42,13 @@ module _ (script : List ℕ) (polls : PollsNothing script) (one : Start) (whole 
   any-reports : (next : Start) → reports (first_site next) (reads_of script) ≡ all
   any-reports next = script-reports next one script polls ∙ sym (reported-whole one script whole)
 
-  -- a run that takes the script whole reports all of it
+  -- a run that takes the whole script reports all of it
   last-reports : (next : Start) (n : ℕ) → IsTakenWhole next script → event_count next script ≤ n → reported next script n ≡ all
   last-reports next n taken most =
       ap (flat_map entries_at) (take-whole (events_of next script) n most ∙ taken-events next script taken)
       ∙ flat_map-passing is_event entries_at reports-none (places_of next script) ∙ any-reports next
 
-  -- and a run of its first lines a beginning of it
+  -- a run of the script's first lines reports a beginning of that
   reports-front : (own : List ℕ) → IsPrefixOf (script_lines own).whole (script_lines script).whole → (next : Start) (n : ℕ) → IsPrefixOf (reported next own n) all
   reports-front own first next n =
       let site : Site = first_site next in
@@ -63,17 +63,17 @@ module _ (script : List ℕ) (polls : PollsNothing script) (one : Start) (whole 
       (prefix-flat_map entries_at events (filter is_event (places_of next own)) (events-front next own n)))
       (reports (site_along site (reads_of own)) more, split)
 
-  -- ---- one run after another, and one that isn't stopped
+  -- ---- one run after another, and one uninterrupted run
 
   module _ (last : Era) (takes : TakesScript script last) (taken : IsTakenWhole takes.start script) (done : length last.run.does ≤ done_in last) where
     most : (n : ℕ) → Counts last n → event_count takes.start script ≤ n
     most n one = subst (λ (count : ℕ). count ≤ n) (takes-count script last takes) (elim one.whole [ inl is ↦ omega arith | inr is ↦ omega arith ])
 
-    -- what the last run reports
+    -- the last run reports everything
     ends : (n : ℕ) → Counts last n → reports_upto last.run n ≡ all
     ends n counted = takes-reports script last takes n ∙ last-reports takes.start n taken (most n counted)
 
-    -- and another one
+    -- every other run reports a beginning of that
     other-front : (era : Era) (n : ℕ) → TakesFirst script era → IsPrefixOf (reports_upto era.run n) all
     other-front era n other =
         subst (λ (es : List Entry). IsPrefixOf es all) (sym (takes-reports other.own era other.takes n)) (reports-front other.own other.first other.takes.start n)
@@ -81,7 +81,7 @@ module _ (script : List ℕ) (polls : PollsNothing script) (one : Start) (whole 
     abbrev TakeIt : List Era → Type 0
     TakeIt eras = AllByRecursion (TakesFirst script) eras
 
-    -- The account at the end is the account with everything reported, as far as `Same` compares accounts.
+    -- The account at the end is the account with all reports, as far as `Same` compares accounts.
     module _ (Same : State → State → Type 0) (self : (a : State) → Same a a) (chain : (a b c : State) → Same a b → Same b c → Same a c)
         (again : (h : History) (xs ys : List Entry) → xs ++ ys ≡ all → Same (account_of (with_entries (with_entries h xs) all)) (account_of (with_entries h all))) where
       replayed : (eras : List Era) (history : History) (here : Left) (now : State) → Recovers (account_of history) here → AreEras here (eras ++ last ∷ []) → TakeIt eras → Recovers now last.left
@@ -100,7 +100,7 @@ module _ (script : List ℕ) (polls : PollsNothing script) (one : Start) (whole 
           (replayed eras (with_entries history xs) era.left now (leaves-history history here era begins is opens n counted) follow others.1 of)
           (again history xs rest front)
 
-    -- the facts that are news along all of them
+    -- the reports that are new over all eras
     facts-along : (eras : List Era) (counts : List ℕ) (history : History) → CountsEach (eras ++ last ∷ []) counts → TakeIt eras
         → facts_of (fresh_entries (with_entries history (reported_in (eras ++ last ∷ []) counts))) ≡ facts_of (fresh_entries (with_entries history all))
     facts-along [] [] history counted others = absurd counted

@@ -1,4 +1,4 @@
--- Eras, from what `rasd` promises of a run.
+-- Eras, made from what `rasd` promises of a run.
 use Rattle.std.proofs.Common.{◌≡◌, ℕ, ◌≤◌, List, arith, inl, inr, refl, sym, ap, subst}
 use Rattle.std.specs.Prelude.{◌⊎◌}
 use Rattle.board_core.specs.Clock.{Clock, LeftNow}
@@ -33,21 +33,21 @@ module _ {X : Type 0} (see : X → Seen) (old new : X) (account : State) (t : To
   is-era : (left : Left) → Headline (run_of start script) t.here left → Leaves left
   is-era left leaves = record { opens = opens; store = refl; leaves = leaves }
 
-  -- from the moment at which both syncs of the opening are answered
+  -- a crash leaves an era, from the point at which both syncs of the opening have returned
   pub era-settled : (left : Left) (settles : Settles see start script t old new) → (see new).clock.may_leave_since (see settles.syncs.synced).clock.now left → Leaves left
   era-settled left settles may = is-era left (settles.from left may)
 
   era-opening : (left : Left) → AtOpening start t.here.out left → Leaves left
   era-opening left opening = is-era left (headline-nothing start script t.here left opening.text opening.recovers opening.store)
 
-  -- also if the journal is never open
+  -- a crash leaves an era from that point on, also if the journal is never open
   pub era-synced : (left : Left) (mid : X) (syncs : SyncsFirst see (AtOpening start t.here.out) t old mid) → (see mid).clock.may_leave_since (see syncs.synced).clock.now left → Leaves left
   era-synced left mid syncs may = elim (syncs.since.each (see syncs.synced).clock.now left (omega arith) may) [
     | inl was ↦ subst Leaves (sym (syncs.rests.only left was)) (is-era t.here (headline-nothing start script t.here t.here refl opens refl))
     | inr opening ↦ era-opening left opening
   ]
 
-  -- and until then what a stop at the start leaves
+  -- until then a crash leaves what a crash at the start might have left
   era-during : (left : Left) (mid : X) → MaySync see (AtOpening start t.here.out) t old mid → (see mid).clock.may_leave_since (see old).clock.now left → LeftNow (see old).clock left ⊎ Leaves left
   era-during left mid (inl syncs) may = elim (syncs.since.each (see old).clock.now left syncs.until.later may) [
     | inl was ↦ inl (elim (syncs.until.each (see old).clock.now left (omega arith) was) [ inl now ↦ now | inr now ↦ now ])
@@ -56,17 +56,17 @@ module _ {X : Type 0} (see : X → Seen) (old new : X) (account : State) (t : To
   era-during left mid (inr failed) may = inl (elim (failed.stops.each (see old).clock.now left (omega arith) may) [ inl now ↦ now | inr now ↦ now ])
 
   module _ (exit : Exit) (Same : Type 0) (stops : RunStops see exit Same start script t old new) where
-    -- a stop at any moment of the run
+    -- a crash at any point of the run leaves an era
     pub era-stopped : StopsRecover start (see old).clock → (left : Left) → (see new).clock.may_leave_since (see old).clock.now left → Leaves left
     era-stopped recover left may = is-era left (stops.once recover left may)
 
-    -- what is told at its end, if a stop at the end may leave that
+    -- the state of the model at the end is an era, if a crash at the end may leave this state
     pub era-ended : StopsRecover start (see old).clock
         → ((s t : ℕ) (left : Left) → s ≤ t → (see new).clock.may_leave_since t left → (see new).clock.may_leave_since s left)
         → (left : Left) → LeftNow (see new).clock left → Leaves left
     era-ended recover earlier left now = era-stopped recover left (earlier (see old).clock.now (see new).clock.now left stops.later now)
 
-    -- a run that began while the machine went on
+    -- a run that began while the machine went on leaves an era, or what a crash at its start might have left
     pub era-went-on : (left : Left) → (see new).clock.may_leave_since (see old).clock.now left → LeftNow (see old).clock left ⊎ Leaves left
     era-went-on left may = by stops.settled
       where

@@ -1,4 +1,4 @@
--- An era that takes a script: what its run reports and logs, by the lines of the script.
+-- An era of a script: what its run reports and logs, by the lines of the script.
 use Rattle.std.proofs.Common.{◌≡◌, ℕ, List, length, take, ap, ◌∙◌}
 use Rattle.std.specs.List.{flat_map}
 use Rattle.std.proofs.lemmas.List.{length-map, take-map}
@@ -21,7 +21,7 @@ reports-same start script n =
 pub logs-same : (start : Start) (script : List ℕ) (n : ℕ) → logs_upto (run_of start script) n ≡ logged start script n
 logs-same start script n = ap (fresh_entries_in start.account) (reports-same start script n)
 
--- all that the run of a script gives
+-- all that the run of a script reports and logs
 module _ (start : Start) (script : List ℕ) where
   abbrev whole : Run
   whole = run_of start script
@@ -48,7 +48,7 @@ module _ (script : List ℕ) (era : Era) (takes : TakesScript script era) where
   pub takes-count : length era.run.does ≡ event_count takes.start script
   takes-count = ap (λ (run : Run). length run.does) takes.is ∙ count-same takes.start script
 
-  -- where it starts
+  -- the account at the start of the run
   pub takes-start : era.run.account ≡ takes.start.account
   takes-start = ap (λ (run : Run). run.account) takes.is
 

@@ -1,5 +1,5 @@
--- Runs on one journal and record store, one after another: each begins with what a crash left of the run
--- before it.
+-- Runs on one journal and record store, one after another: each begins with what a crash left of the run before it,
+-- or with what that run left at its end.
 use Rattle.std.specs.Prelude.{◌≡◌, ℕ, ◌+◌, ◌<◌, ◌≤◌, ◌⊎◌, nat_eq, Bool, false, if◌then◌else◌, List, [], ◌∷◌, ◌++◌, length, drop, take, All, Contains, Option, Ok, ⊤}
 use Rattle.std.specs.List.{flat_map, fold}
 use Rattle.std.specs.Option.{option_or}
@@ -45,8 +45,7 @@ pub record BeginsOver (here : Left) (era : Era) : Type 0 where
   pub one : era.here.file1 ≡ here.file1
   pub store : era.here.store ≡ here.store
 
--- Eras follow one another: the first over what is here, and each other over what was left of the era before
--- it.
+-- Eras follow one another: the first begins over `here`, and each other era over what the era before it left.
 abbrev pub AreEras : Left → List Era → Type 0
 AreEras here [] = ⊤
 AreEras here (era ∷ eras) = BeginsOver here era × IsEra era × AreEras era.left eras
@@ -58,15 +57,15 @@ left_after here (era ∷ eras) = left_after era.left eras
 
 -- ---- what was counted
 
--- what an era printed, and how many of its events are done by it
+-- what an era printed, and how many of its events are done, by the done lines in that text
 abbrev pub printed_in : Era → List ℕ
 printed_in era = drop (length era.here.out) era.left.out
 
 abbrev pub done_in : Era → ℕ
 done_in era = done_count (printed_in era)
 
--- The files that an era left count n of its events: those that are done by what it printed, or one more. It
--- is one more once a byte of the next event's text is printed.
+-- The files that an era left count the first n of its events: those that are done by what it printed, or one more.
+-- They count one more if a byte of the next event's text is printed.
 pub record Counts (era : Era) (n : ℕ) : Type 0 where
   pub recovers : Recovers (account_upto era.run n) era.left
   pub whole : (n ≡ done_in era) ⊎ (n ≡ done_in era + 1)
@@ -82,8 +81,7 @@ CountsEach eras counts = ⊥
 abbrev pub reports_upto : Run → ℕ → List Entry
 reports_upto run n = flat_map (λ (event : RunEvent). event.reports) (take n run.does)
 
--- what these events log, which is the entries that are new at their places, and the orders that they give
--- there
+-- what these events log, which is the entries that are new when each event comes, and the orders that they then give
 abbrev pub logs_upto : Run → ℕ → List Entry
 logs_upto run n = fresh_entries_in run.account (reports_upto run n)
 
@@ -112,9 +110,9 @@ abbrev pub is_put_by : StoreChange → ℕ → Bool
 is_put_by (puts r) id = nat_eq r.id id
 is_put_by change id = false
 
--- The bytes last stored under an identifier when an era is over, if `before` was stored at its start: by its
--- events that are done. If the next event puts a record there too, the crash may have come before or after it
--- was stored. Then what was left there counts, and if nothing was left there, the older record.
+-- The bytes last stored under an identifier at the end of an era, if `before` was stored at its start. They are
+-- stored by its done events. If the next event puts a record there too, the crash may have come before or after that:
+-- then the bytes that were left there count, and if none were left, the older record.
 abbrev pub laid_in : ℕ → Option (List ℕ) → Era → Option (List ℕ)
 laid_in id before era =
     let older = fold (last_changed id) before (changes_upto era.run (done_in era)) in
@@ -130,7 +128,7 @@ last_laid_in here eras id = fold (laid_in id) (bytes_under id here.store) eras
 abbrev pub era_of : State → Told → List ℕ → Left → Era
 era_of account t script left = record { run = run_of (start_of account t) script; here = t.here; left = left }
 
--- the run of an era is the run of a script, from where the run started
+-- the run of an era is the run of a script, from some start
 pub record TakesScript (script : List ℕ) (era : Era) : Type 0 where
   pub start : Start
   pub is : era.run ≡ run_of start script
@@ -141,8 +139,8 @@ pub record TakesFirst (script : List ℕ) (era : Era) : Type 0 where
   pub takes : TakesScript own era
   pub first : IsPrefixOf (script_lines own).whole (script_lines script).whole
 
--- A script without polls is run again from its first line after each crash, until a last run has all of its
--- events done. Meanwhile it may grow at its end: each run takes as many lines as there were at that time.
+-- A script without polls is run again from its first line after each crash, until a last run has done all of its
+-- events. Meanwhile the script may grow at its end: each run takes as many lines as there were at that time.
 pub record IsReplayed (history : History) (undisturbed : Start) (script : List ℕ) (here : Left) (eras : List Era) (last : Era) : Type 0 where
   -- The files give the account of a history, with which the uninterrupted run begins too.
   pub opens : Recovers (account_of history) here
@@ -152,12 +150,12 @@ pub record IsReplayed (history : History) (undisturbed : Start) (script : List �
   pub takes : All (TakesFirst script) eras
   pub ends : TakesScript script last
   pub polls : PollsNothing script
-  -- Neither the uninterrupted run nor the last one refuses a line, and the last one printed all done lines.
+  -- Neither the uninterrupted run nor the last run rejects a line, and the last run printed all done lines.
   pub whole : IsTakenWhole undisturbed script
   pub taken : IsTakenWhole ends.start script
   pub done : length last.run.does ≤ done_in last
 
--- a readable record of a store has this name
+-- a readable record in a store has this name
 pub record IsReadableIn (store : List Stored) (name : Name) : Type 0 where
   pub stored : Stored
   pub there : Contains store stored

@@ -1,4 +1,4 @@
--- What eras print, piece by piece, and which reports are new in it.
+-- What eras print, piece by piece, and which reports are new in these texts.
 use Rattle.std.specs.Prelude.{ℕ, List, [], ◌∷◌, codes, map, nat_eq, All, IsFalse, ⊤}
 use Rattle.std.specs.List.{flat_map, starts_with}
 use Rattle.dimm_topology.specs.Labels.{Bytes}
@@ -19,14 +19,14 @@ pub data Print : Type 0 where
   replace : Bytes → Print
   other : List ℕ → Print
 
--- Its text: the `log` lines of a report, or one line. That labels have no line feed isn't said here: they are as
--- dimm_topology/specs/Labels.antt says.
+-- The text of a piece: the `log` lines of a report, or one line. That labels have no line feed isn't said here:
+-- dimm_topology/specs/Labels.antt says it.
 abbrev pub print_text : Print → List ℕ
 print_text (log fact details) = report_lines fact details
 print_text (replace label) = module_line label
 print_text (other line) = line_with line
 
--- another line has no line feed of its own, and doesn't begin as a `log` line does
+-- `other` has no line feed of its own, and doesn't begin like a `log` line.
 abbrev pub IsPrint : Print → Type 0
 IsPrint (log fact details) = ⊤
 IsPrint (replace label) = ⊤
@@ -43,7 +43,7 @@ PrintsEach [] [] = ⊤
 PrintsEach (era ∷ eras) (one ∷ prints) = Prints era one × PrintsEach eras prints
 PrintsEach eras prints = ⊥
 
--- the new reports among pieces, and their names over all eras
+-- the new reports among pieces, and the names of these reports over all eras
 abbrev pub told_in : List Print → List Fact
 told_in [] = []
 told_in (log fact details ∷ prints) = fact ∷ told_in prints

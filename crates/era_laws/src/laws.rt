@@ -1,4 +1,4 @@
-//! What holds over all runs on one journal and record store, whenever the machine crashed.
+//! Laws over all runs on one journal and record store, whenever the machine crashed.
 
 ghost use Rattle.std.specs.Prelude.{◌≡◌, ◌≤◌, ◌⊎◌, ◌++◌, ℕ, List, [], ◌∷◌, length, Some, All};
 ghost use Rattle.std.specs.Prelude.{if◌then◌else◌};
@@ -40,7 +40,7 @@ ghost use Rattle.era_laws.specs.Printed.{Print, PrintsEach, TakesSome, names_tol
 
 use board_core::{Board, Source};
 
-/// What holds over any number of runs on one machine. An era is a run up to its end, or up to a
+/// Laws over any number of runs on one machine. An era is a run up to its end, or up to a
 /// crash of the machine at any point. Eras follow one another on one journal and record store: each
 /// begins with what was left of the era before it. The laws look at runs from outside: whatever
 /// their scripts say, runs are events that report, change the record store, and print. `run_eras`
@@ -50,7 +50,7 @@ use board_core::{Board, Source};
 ///   with the events that are done by what each era printed, and with at most one more event of
 ///   each.
 /// - `logged` and `once` say that over all eras no name is logged twice, `printed` and
-///   `printed_once` that none is printed as new twice.
+///   `printed_once` that no name is printed as new twice.
 /// - `ordered`, `page` and `module` say that nothing is ordered twice. `page_stands` and
 ///   `module_stands` say that the account that is left has all that was ordered.
 /// - `records` and `cut` say that each readable record that was last put or saved is in the store,
@@ -85,8 +85,8 @@ pub fn era_laws()
         → (prints : List (List Print)) × PrintsEach eras prints
         × IsDistinct same_name (names_of (fresh_entries history) ++ names_told prints) }
 
-    // For nothing is printed of an event before its report is counted. So the new reports among
-    // what the eras printed are those that are logged, in order, up to where a crash cut them off.
+    // Nothing is printed of an event before its report is counted. So the new reports among what
+    // the eras printed are the logged reports, in order, up to where a crash cut them off.
     ensures printed { (here : Left) (eras : List Era) (counts : List ℕ)
         → AreEras here eras → CountsEach eras counts → All TakesSome eras
         → (prints : List (List Print)) × PrintsEach eras prints
@@ -114,7 +114,7 @@ pub fn era_laws()
         ≡ (if has_tripped (module_errors after label)
         then replace_order after label ∷ [] else []) }
 
-    // What is outstanding in the account that is left, and is printed when the next run starts: a
+    // The account that is left has what is outstanding, which the next run prints when it starts: a
     // page in the highest state that its orders asked for, and a module to be replaced if its own
     // errors tripped its bucket.
     ensures page_stands { (history : History) (now : State) (here : Left) (eras : List Era)
@@ -172,7 +172,7 @@ pub fn era_laws()
     // This doesn't hold for a script that polls, because a poll reports what is in the store at
     // that time. But if a later era runs the same script, the first events, which the files counted
     // before, log there only records that are readable in the store that was left. The same holds
-    // of all its events, if no line of the script was refused and all of its events were counted.
+    // of all its events, if no line of the script was rejected and all of its events were counted.
     ensures polled { (script : List ℕ) (here : Left) (era next : Era) (between : List Era)
         (n m : ℕ)
         → AreEras here (era ∷ (between ++ next ∷ []))
@@ -189,8 +189,8 @@ pub fn era_laws()
         (names_of (logs_upto next.run m)) }
 {}
 
-/// What follows from the promises of `rasd` for the run of a script: it is an era, up to any crash
-/// and up to its end, even if it began after a process was killed while the machine went on.
+/// Laws on the promises of `rasd` for the run of a script: the run is an era, up to any crash and
+/// up to its end, even if it began after a process was killed while the machine went on.
 pub fn run_eras<S: Source, B: Board>()
     // If a crash now leaves exactly what the board's model says, as after the machine starts, then
     // a crash at a run's start leaves the account and the record store that the run starts with.
@@ -199,7 +199,7 @@ pub fn run_eras<S: Source, B: Board>()
         → StopsRecover (start_of account t) (B.seen board).clock }
 
     // Whatever a crash at any point of the run leaves is then the end of an era, by `rasd/stops`.
-    // So is what the board's model says when the run ends.
+    // So is the state of the board's model when the run ends.
     ensures stopped { (exit : Exit) (first last : S) (old new : B)
         (account : State) (t : Told) (script : List ℕ) (left : Left)
         → Recovers account t.here → StopsRecover (start_of account t) (B.seen old).clock
@@ -234,8 +234,7 @@ pub fn run_eras<S: Source, B: Board>()
         → LeftNow (B.seen old).clock left ⊎ IsEra (era_of account t script left) }
 {}
 
-/// What the events of a script's run report, log and order is what `run_laws` says of the script's
-/// lines.
+/// The events of a script's run report, log and order what `run_laws` says of the script's lines.
 pub fn script_eras()
     ensures reports { (start : Start) (script : List ℕ) (n : ℕ)
         → reports_upto (run_of start script) n ≡ reported start script n }

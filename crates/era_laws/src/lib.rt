@@ -1,5 +1,5 @@
 //! Laws over any number of runs on one journal and record store, one after another. Each run ended,
-//! or a crash cut it short at any point, and each began with what was left of the run before it.
+//! or a crash cut it short at any point, and each began with what the run before it left.
 //!
 //! A public function with an empty body is a law: its clauses are the point.
 #![tactic(auto)]

@@ -1,4 +1,4 @@
--- What follows the last ` (mc:` of a text.
+-- The text after the last ` (mc:` of a text.
 use Rattle.std.proofs.Common.{◌≡◌, ℕ, suc, ◌+◌, ◌&&◌, Bool, true, false, nat_eq, List, [], ◌∷◌, ◌++◌, codes, drop, take, refl, sym, ap, ◌∙◌, arith, Option, Some, None, if◌then◌else◌}
 use Rattle.std.specs.List.{starts_with}
 use Rattle.std.specs.Option.{option_map, option_or}
@@ -17,12 +17,12 @@ or_none : {A : Type 0} (o : Option A) → option_or o None ≡ o
 or_none None = refl
 or_none (Some x) = refl
 
--- the first of them is Some
+-- the first of two options decides, if it is `Some`
 or_or : {A : Type 0} (a : Option A) (x : A) (b : Option A) → option_or (option_or a (Some x)) b ≡ option_or a (Some x)
 or_or None x b = refl
 or_or (Some y) x b = refl
 
--- a mark before a text
+-- ` (mc:` before a text
 passed : (tail : List ℕ) → behind_controller (mark ++ tail) ≡ option_or (behind_controller tail) (Some tail)
 passed tail = by (behind_controller tail)
   where
@@ -35,7 +35,7 @@ begins_whole text is =
     let front : mark ≡ take 5 text = (bytes_eq-Decides mark (take 5 text)).0 is in
     sym (take-append-drop 5 text) ∙ ap (λ (front : List ℕ). front ++ drop 5 text) (sym front)
 
--- one byte more
+-- an index with one more byte before it
 nowhere : (o : Option ℕ) → option_map (λ place. place + 1) o ≡ None → o ≡ None
 nowhere None is = refl
 nowhere (Some place) is = absurd cc
@@ -98,11 +98,11 @@ goes_on text behind found some = by (mark_place mark text) refl some
 
 -- ---- a text without the mark
 
--- a text behind a space has no mark
+-- a text after a space has no ` (mc:`
 abbrev pub HasNone : List ℕ → Type 0
 HasNone text = behind_controller (32 ∷ text) ≡ None
 
--- what follows the space of the mark
+-- a text continues ` (mc:` after its space
 abbrev opens : List ℕ → Bool
 opens text = pointwise nat_eq (codes "(mc:") (take 4 text)
 
@@ -118,7 +118,7 @@ no_second : {A : Type 0} (o : Option A) (x : A) → option_or o (Some x) ≡ Non
 no_second None x is = absurd cc
 no_second (Some y) x is = absurd cc
 
--- with any byte in place of the space
+-- the space may be any other byte
 pub none_after : (byte : ℕ) (text : List ℕ) → HasNone text → behind_controller (byte ∷ text) ≡ None
 none_after byte text none = by (opens text) refl none
   where
@@ -130,7 +130,7 @@ none_after byte text none = by (opens text) refl none
         ∙ ap (λ (opened : Bool). option_or (behind_controller text) (if opened then Some (drop 5 (byte ∷ text)) else None)) (and_false (nat_eq 32 byte))
         ∙ none
 
--- before it no parenthesis
+-- a text without a parenthesis in front adds no ` (mc:`
 pub none_before : (front text : List ℕ) → Lacks 40 front → HasNone text → HasNone (front ++ text)
 none_before [] text lacks none = none
 none_before (b ∷ front) text lacks none =
@@ -144,7 +144,7 @@ none_behind_space text none = by (opens text) none
     by true none = absurd (no_second (behind_controller text) (drop 5 (32 ∷ text)) none)
     by false none = no_first (behind_controller text) none
 
--- whatever is before the last mark
+-- the text before the last ` (mc:` may be any text
 pub last_behind_mark : (front text : List ℕ) → behind_controller text ≡ None → behind_controller (front ++ (codes " (mc:" ++ text)) ≡ Some text
 last_behind_mark [] text none = passed text ∙ ap (λ (o : Option (List ℕ)). option_or o (Some text)) none
 last_behind_mark (b ∷ front) text none =

@@ -1,4 +1,4 @@
--- The extended log's event is read as the kernel prints it.
+-- The extended log's event, as the kernel prints it, is read.
 use Rattle.std.proofs.Common.{◌≡◌, ℕ, zero, suc, ◌+◌, ◌-◌, ◌^◌, ◌<◌, ◌≤◌, ◌==◌, ◌||◌, Bool, true, false, nat_le, List, [], ◌∷◌, ◌++◌, codes, decimal, drop, take, length, refl, ap, ◌∙◌, arith, Option, Some, None}
 use Rattle.std.specs.Prelude.{unwrap_or, IfSome}
 use Rattle.std.specs.Option.{option_map}
@@ -83,7 +83,7 @@ mask_read (Some bit) is =
     let other : (bit == 255) ≡ false = grind (arith, nat_tests, low) in
     rw other refl
 
--- ---- the unit's name stands somewhere
+-- ---- the unit's name is somewhere in the text
 
 abbrev unit_mark : List ℕ
 unit_mark = codes "FRU: "

@@ -1,4 +1,4 @@
--- Without events the filter is the log's.
+-- Without events the filter does what the filter of the log does.
 use Rattle.std.proofs.Common.{◌≡◌, ℕ, ◌+◌, List, [], ◌∷◌, ◌++◌, refl, sym, ap, ◌∙◌, Ok, Err, Result, OnOk, Option, None, Some}
 use Rattle.std.specs.List.{AllByRecursion}
 use Rattle.std.specs.Option.{option_map_or}
@@ -40,7 +40,7 @@ same_rest taken r (line ∷ lines) all =
     ap (λ (event : LineEvent). report_rest (after_by (progress taken r) line event) lines) all.0
     ∙ same_rest (taken + 1) (reporting_after r (report_log_line line)) lines all.1
 
--- every line is counted
+-- each line is counted
 taken_by : (p : BlockProgress) (line : List ℕ) (event : LineEvent) → (after_by p line event).taken ≡ p.taken + 1
 taken_by p line Absent = refl
 taken_by p line Unread = refl

@@ -1,4 +1,4 @@
--- A status is read as the kernel prints it.
+-- A status, as the kernel prints it, is read.
 use Rattle.std.proofs.Common.{◌≡◌, ℕ, ◌+◌, ◌-◌, ◌^◌, ◌<◌, ◌≤◌, ◌==◌, ◌&&◌, Bool, true, false, not, nat_le, nat_lt, List, [], ◌∷◌, ◌++◌, length, map, refl, ap, ◌∙◌, arith, length-append, lit<, Option, Some, None, if◌then◌else◌}
 use Rattle.std.proofs.lemmas.Bool.Decides.{nat_tests}
 use Rattle.std.specs.Char.{digit_value}
@@ -40,7 +40,7 @@ abbrev Rises : ℕ → Flags → Type 0
 Rises sum [] = Unit {0}
 Rises sum (row ∷ rows) = (sum < row.1) × Rises (sum + row.1) rows
 
--- a table has these, and no name in it begins with `0x`
+-- a table has these two properties, and no name in it begins with `0x`
 record IsTable (table : Flags) : Type 0 where
   pub finds : Finds table table
   pub rises : Rises 0 table
@@ -49,7 +49,7 @@ record IsTable (table : Flags) : Type 0 where
   pub no_bar : AllByRecursion (λ (row : List ℕ × ℕ). Lacks 124 row.0) table
   pub no_comma : AllByRecursion (λ (row : List ℕ × ℕ). Lacks 44 row.0) table
 
--- a test of each name
+-- a byte is in no name of a table, by computing
 lacks_by : (byte : ℕ) (rows : Flags) → list_all (λ (row : List ℕ × ℕ). list_all (λ b. not (b == byte)) row.0) rows ≡ true
     → AllByRecursion (λ (row : List ℕ × ℕ). Lacks byte row.0) rows
 lacks_by byte [] all = tt
@@ -152,7 +152,7 @@ joined_some : (byte : ℕ) (word : List ℕ) (words : List (List ℕ)) → 0 < l
 joined_some byte word [] some = some
 joined_some byte word (next ∷ words) some = omega (arith, some, length-append word (byte ∷ join_with_byte byte (next ∷ words)))
 
--- the words of a status
+-- a statement about each name holds of each word of a status
 names_all : (P : List ℕ → Type 0) (rows : Flags) → AllByRecursion (λ (row : List ℕ × ℕ). P row.0) rows → AllByRecursion P (map (λ (row : List ℕ × ℕ). row.0) rows)
 names_all P [] all = tt
 names_all P (row ∷ rows) all = (all.0, names_all P rows all.1)

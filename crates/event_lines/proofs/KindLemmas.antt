@@ -43,7 +43,7 @@ name_read (suc (suc (suc (suc (suc (suc (suc (suc (suc (suc (suc (suc (suc (suc 
     let above : 16 ≤ k = omega arith in
     ap kind_named (unknown k above) ∙ sym (not_told k above)
 
--- where a text stands after the name
+-- the index of a text after the name
 on_name : (kind : ℕ) (rest : List ℕ) → mark_place (codes " on ") (type_name kind ++ (codes " on " ++ rest)) ≡ Some (length (type_name kind))
 on_name zero rest = refl
 on_name (suc zero) rest = refl
@@ -99,7 +99,7 @@ kind_is_before kind rest =
     ∙ ap kind_named (take-append_seam (message_text kind) (codes " on " ++ rest))
     ∙ message_read kind
 
--- the name of a type, and its place, in the extended log's event
+-- the name of a type, and its index, in the extended log's event
 pub record KindRead (kind : ℕ) (rest : List ℕ) : Type 0 where
   pub place : mark_place (codes " physical addr: ") (type_name kind ++ (codes " physical addr: " ++ rest)) ≡ Some (length (type_name kind))
   pub named : kind_named (take (length (type_name kind)) (type_name kind ++ (codes " physical addr: " ++ rest))) ≡ kind_told (Some kind)

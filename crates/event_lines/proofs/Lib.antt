@@ -15,3 +15,4 @@ mod LineLemmas
 mod NameLemmas
 pub mod SectionLemmas
 mod MemoryBlockLemmas
+pub mod EventTextLemmas

@@ -55,7 +55,7 @@ ras_plain trace_pipe text lacks = lacks
 ras_plain trace_cmd text lacks = lacks
 ras_plain perf text lacks = lack_both 45 (codes "ras:") text (literal_lacks 45 (codes "ras:") refl) lacks
 
--- the clock and the name reach past the column in which a number of a process would begin
+-- the clock and the name reach past the column in which the number of a process would begin
 pub no_dash : (tracer : Tracer) (seconds micros spaces : ℕ) → seconds ≤ MOST_SECONDS → micros < 1000000
     → (name rest : List ℕ) → Lacks 45 name → 6 ≤ length name
     → NoDash (clock seconds micros ++ 58 ∷ 32 ∷ (replicate spaces 32 ++ (ras_before tracer ++ (name ++ rest))))
@@ -81,7 +81,8 @@ no_dash tracer seconds micros spaces most six name rest plain long =
 abbrev without_system : List ℕ → List ℕ
 without_system text = unwrap_or (value_after (codes "ras:") text) text
 
--- any text that begins neither with a space nor with the system; a name without `-` is its front
+-- the text of any event, which begins neither with a space nor with the system; its first letters are a name without
+-- `-`
 module _ (tracer : Tracer) (front : List ℕ) (seconds micros spaces : ℕ) (is : IsFront front seconds micros)
     (name rest : List ℕ) (plain : Lacks 45 name) (long : 6 ≤ length name)
     (begins : (t : Tracer) → without_system (without_spaces (ras_before t ++ (name ++ rest))) ≡ name ++ rest) where
@@ -91,7 +92,7 @@ module _ (tracer : Tracer) (front : List ℕ) (seconds micros spaces : ℕ) (is 
   abbrev shows : List ℕ
   shows = clock seconds micros
 
-  -- the front behind a name in columns, and up to the colon
+  -- the front after a name in columns, and the front up to the colon
   abbrev unnamed : List ℕ
   unnamed = behind_name front
 
@@ -107,7 +108,7 @@ module _ (tracer : Tracer) (front : List ℕ) (seconds micros spaces : ℕ) (is 
   abbrev whole : List ℕ
   whole = event_head tracer front seconds micros spaces ++ text
 
-  -- the line behind a name in columns
+  -- the line after a name in columns
   abbrev line : List ℕ
   line = unnamed ++ 32 ∷ (shows ++ 58 ∷ 32 ∷ behind)
 

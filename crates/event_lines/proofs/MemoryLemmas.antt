@@ -1,4 +1,4 @@
--- The event of a memory controller is read as the kernel prints it.
+-- The event of a memory controller, as the kernel prints it, is read.
 use Rattle.std.proofs.Common.{◌≡◌, ℕ, zero, suc, ◌+◌, ◌*◌, ◌-◌, ◌^◌, ◌<◌, ◌==◌, ◌&&◌, ◌||◌, Bool, true, false, not, nat_eq, List, [], ◌∷◌, ◌++◌, codes, decimal, drop, take, refl, sym, subst, ap, ◌∙◌, arith, append_assoc, Option, Some, None, if◌then◌else◌}
 use Rattle.std.specs.Prelude.{is_some, unwrap_or, IfSome}
 use Rattle.std.specs.Fmt.{digits}
@@ -60,7 +60,7 @@ mask_of_bits bits = if bits == 0 then None else Some (2 ^ 64 - 2 ^ bits)
 abbrev last_word : List ℕ
 last_word = codes "-2147483648"
 
--- all but the last are decimal
+-- each grain but the last is a decimal number
 abbrev is_word : ℕ → Bool
 is_word bits =
     bits == 31 || (not (bytes_eq (decimal (2 ^ bits)) last_word) && is_read (decimal_of (2 ^ 30) (decimal (2 ^ bits))) (2 ^ bits))
@@ -171,13 +171,13 @@ controller_at front controller none =
     ap (λ (o : Option (List ℕ)). read_then o behind_controller) (last_cut 41 (front ++ (codes " (mc:" ++ controller)))
     ∙ last_behind_mark front controller none
 
--- what is behind a byte stands in the whole text too
+-- a text that is after a byte is in the whole text too
 stands_whole : (byte : ℕ) (text : List ℕ) → Stands firmware_mark (after byte text) → Stands firmware_mark text
 stands_whole byte text stands =
     let k : ℕ = position_or_len (λ b. b == byte) text + 1 in
     subst (Stands firmware_mark) (take-append-drop k text) (stands_behind firmware_mark (take k text) (drop k text) stands)
 
--- what the detail begins with stands in the parentheses
+-- the detail's name is in the parentheses
 detail_stands : (controller places : List ℕ) → value_after firmware_mark (detail_in controller) ≡ Some places → Stands firmware_mark controller
 detail_stands controller places is =
     stands_whole 32 controller (stands_whole 32 (after 32 controller)
@@ -298,7 +298,7 @@ module _ (p : PrintedMemory) (is : IsMemory p) where
       (literal_lacks 40 (codes "card:") refl) is.places.location.card
       (number_none (codes "module:") p.location.«module» p.others (literal_lacks 40 (codes "module:") refl) is.places.location.«module» is.no_mark))
 
-  -- from the address on
+  -- the text from the grain on
   abbrev masked_text : List ℕ
   masked_text = grain ++ (codes " syndrome:0x00000000 APEI location: " ++ places)
 
@@ -331,7 +331,7 @@ module _ (p : PrintedMemory) (is : IsMemory p) where
   abbrev name : List ℕ
   name = severity_name p.severity
 
-  -- behind the message, and behind the severity
+  -- the text after the message
   abbrev ending : List ℕ
   ending = p.label ++ ((codes " (mc:" ++ controller_text p) ++ codes ")")
 

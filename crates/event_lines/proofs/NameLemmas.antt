@@ -1,4 +1,4 @@
--- An event's name behind a clock is never passed over, and the name of a process in columns says nothing.
+-- An event's name after a clock is never skipped, and the name of a process in columns says nothing.
 use Rattle.std.proofs.Common.{◌≡◌, ℕ, zero, suc, ◌<◌, ◌≤◌, ◌==◌, ◌&&◌, ◌||◌, Bool, true, false, List, [], ◌∷◌, ◌++◌, codes, drop, length, nat_eq, refl, sym, subst, ap, ◌∙◌, arith, append_assoc, Option, Some, None, if◌then◌else◌}
 use Rattle.std.specs.Prelude.{is_some, replicate, slice_index}
 use Rattle.std.specs.Char.{is_digit}
@@ -30,7 +30,7 @@ or_true true = refl
 or_true false = refl
 
 module _ (by_firmware : Bool) where
-  -- words before them change nothing
+  -- words before these change nothing
   has_behind : (words more : List (List ℕ)) → ((behind : Bool) → has_name by_firmware behind more ≡ true)
       → (behind : Bool) → has_name by_firmware behind (words ++ more) ≡ true
   has_behind [] more has behind = has behind
@@ -39,7 +39,7 @@ module _ (by_firmware : Bool) where
       ∙ or_true (behind && is_event_name by_firmware word)
 
   module _ (name text : List ℕ) (joined : Lacks 32 name) (named : is_event_name by_firmware name ≡ true) where
-    -- behind a clock and spaces
+    -- an event's name is found after a clock and spaces
     has_here : (spaces : ℕ) → has_name by_firmware true (cut_at 32 (replicate spaces 32 ++ (name ++ 32 ∷ text))) ≡ true
     has_here zero =
         ap (has_name by_firmware true) (split_between 32 name text)
@@ -86,7 +86,7 @@ module _ (by_firmware : Bool) where
 
 -- ---- a line
 
--- a text with an event's name behind a clock has no line without an event
+-- a line with an event's name after a clock isn't a line without an event
 not_absent : (text : List ℕ) (event : LineEvent) → has_event text ≡ true → ¬ (event_or_unread text event ≡ Absent)
 not_absent text Absent has is = absurd (unread_is (sym (ap (λ (b : Bool). if b then Unread else Absent) has) ∙ is))
   where
@@ -104,7 +104,7 @@ some_is : {A : Type 0} (o : Option A) → ¬ (o ≡ None) → is_some o ≡ true
 some_is None some = absurd (some refl)
 some_is (Some x) some = refl
 
--- the last ` (mc:` of a text is the last one of a longer text before it
+-- the last ` (mc:` of a text is also the last one after more text is put in front
 some_kept : (front text inside : List ℕ) → behind_controller text ≡ Some inside → behind_controller (front ++ text) ≡ Some inside
 some_kept [] text inside is = is
 some_kept (b ∷ front) text inside is =
@@ -129,7 +129,7 @@ module _ (tracer : Tracer) (front name text : List ℕ) (seconds micros spaces :
   abbrev line : List ℕ
   line = event_head tracer front seconds micros spaces ++ (name ++ 32 ∷ text)
 
-  -- the line behind a name in columns
+  -- the line after a name in columns
   abbrev unnamed : List ℕ
   unnamed = behind_name front ++ 32 ∷ tail
 
@@ -164,11 +164,11 @@ module _ (tracer : Tracer) (front name text : List ℕ) (seconds micros spaces :
       ∙ name_found by_firmware whole_name text joined named (behind_name front) seconds micros spaces most low in
       λ is. not_absent unnamed (clock_event unnamed) has (sym (ap (λ (text : List ℕ). event_or_unread text (clock_event text)) unnamed_is) ∙ is)
 
-  -- an event's name, whoever made the event
+  -- an event's name is found, whoever made the event
   pub kind_never_absent : ((by_firmware : Bool) → is_event_name by_firmware whole_name ≡ true) → ¬ (line_event_of line ≡ Absent)
   kind_never_absent named = never_absent (is_firmware unnamed) (named (is_firmware unnamed)) refl
 
-  -- a memory controller's event with the name of the firmware's detail
+  -- a memory controller's event is found, if it has the name of the firmware's detail
   pub firmware_never_absent : (inside : List ℕ) → behind_controller text ≡ Some inside → ¬ (mark_place firmware_mark inside ≡ None)
       → is_event_name true whole_name ≡ true → ¬ (line_event_of line ≡ Absent)
   firmware_never_absent inside is marked named =

@@ -1,4 +1,4 @@
--- Where a memory error is, as the kernel prints it, is read.
+-- The location of a memory error, as the kernel prints it, is read.
 use Rattle.std.proofs.Common.{◌≡◌, ℕ, ◌+◌, ◌^◌, ◌<◌, ◌==◌, false, List, [], ◌∷◌, ◌++◌, codes, decimal, drop, take, length, refl, ap, ◌∙◌, arith, append-nil, Option, Some, None}
 use Rattle.std.specs.Prelude.{IfSome}
 use Rattle.std.specs.List.{position_or_len}
@@ -45,7 +45,7 @@ more_is word (b ∷ more) lacks = after_is 32 word (b ∷ more) lacks
 
 -- ---- numbers after their names
 
--- a number is read, and so is what follows it
+-- a number is read, and so is the text after it
 numbered_is : (name : List ℕ) → ((x : List ℕ) → value_after name (name ++ x) ≡ Some x) → (o : Option ℕ) (more : List ℕ)
     → IfSome o (λ n. n < 2 ^ 16) → value_after name more ≡ None
     → (number_named name (number_before name o more) ≡ o) × (after_named name (number_before name o more) ≡ more)

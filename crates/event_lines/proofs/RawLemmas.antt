@@ -1,11 +1,11 @@
--- The bytes of a section are read one after the other.
+-- The bytes of a section are read one after another.
 use Rattle.std.proofs.Common.{◌≡◌, ℕ, ◌+◌, ◌%◌, ◌<◌, ◌≤◌, ◌==◌, Bool, true, false, List, [], ◌∷◌, ◌++◌, take, length, refl, sym, ap, ◌∙◌, arith, append_assoc, length-append, Option, Some, None, if◌then◌else◌}
 use Rattle.std.specs.Prelude.{unwrap_or}
 use Rattle.std.specs.Option.{option_map}
 use Rattle.ras_klog.specs.Reading.{provided, read_then}
 use Rattle.event_lines.specs.SectionEvent.{behind_byte, byte_of, bytes_from}
 
--- a byte that others follow
+-- a byte with more text after it is read
 step_read : (count : ℕ) (text behind : List ℕ) (b : ℕ) → 2 < length text → byte_of (take 2 text) ≡ Some b → behind_byte (count + 1) text ≡ Some behind
     → bytes_from count text ≡ option_map (λ bytes. b ∷ bytes) (bytes_from (count + 1) behind)
 step_read count [] behind b long is next = absurd (omega (arith, long))
@@ -24,7 +24,7 @@ step_read count (h ∷ l ∷ n ∷ text) behind b long is next =
     by false true next = ap (bytes_from (count + 1)) (some_is (n ∷ text) behind next)
     by false false next = absurd cc
 
--- no byte
+-- two characters that aren't a byte can't be read
 pub no_byte : (count : ℕ) (text : List ℕ) → 2 < length text → byte_of (take 2 text) ≡ None → bytes_from count text ≡ None
 no_byte count [] long is = absurd (omega (arith, long))
 no_byte count (h ∷ []) long is = absurd (omega (arith, long))
@@ -32,7 +32,7 @@ no_byte count (h ∷ l ∷ []) long is = absurd (omega (arith, long))
 no_byte count (h ∷ l ∷ n ∷ text) long is =
     ap (λ (o : Option ℕ). read_then o (λ b. option_map (λ bytes. b ∷ bytes) (if n == 32 then bytes_from (count + 1) text else if (count + 1) % 16 == 0 then bytes_from (count + 1) (n ∷ text) else None))) is
 
--- no space where one has to be
+-- bytes can't be read without a space where one has to be
 no_space : (count : ℕ) (text : List ℕ) (b : ℕ) → 2 < length text → byte_of (take 2 text) ≡ Some b → behind_byte (count + 1) text ≡ None → bytes_from count text ≡ None
 no_space count [] b long is next = absurd (omega (arith, long))
 no_space count (h ∷ []) b long is next = absurd (omega (arith, long))
@@ -47,7 +47,7 @@ no_space count (h ∷ l ∷ n ∷ text) b long is next =
     by false true next = absurd cc
     by false false next = refl
 
--- the last byte
+-- the last byte is read
 pub last_read : (count : ℕ) (text : List ℕ) → length text ≤ 2 → bytes_from count text ≡ option_map (λ b. b ∷ []) (byte_of text)
 last_read count [] short = refl
 last_read count (h ∷ []) short = refl

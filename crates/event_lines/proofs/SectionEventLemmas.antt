@@ -1,4 +1,4 @@
--- A section's event is read as the kernel prints it.
+-- A section's event, as the kernel prints it, is read.
 use Rattle.std.proofs.Common.{◌≡◌, ℕ, zero, suc, inl, inr, ◌⊎◌, ◌+◌, ◌-◌, ◌/◌, ◌%◌, ◌^◌, ◌<◌, ◌==◌, ◌&&◌, Bool, true, false, not, nat_le, nat_lt, List, [], ◌∷◌, ◌++◌, codes, decimal, drop, length, refl, sym, ap, ◌∙◌, arith, append_assoc, Option, Some, None, if◌then◌else◌}
 use Rattle.std.specs.Prelude.{unwrap_or}
 use Rattle.std.proofs.lemmas.Bool.Decides.{nat_tests}
@@ -77,7 +77,7 @@ byte_lacks b small =
       literal_lacks 59 word (and_right (list_all (λ b. not (b == 32)) word) (list_all (λ b. not (b == 59)) word) lacks),
     )
 
--- before a byte stands a space, or nothing behind a row
+-- the text before a byte: a space, or nothing after a full row
 abbrev gap : Bool → List ℕ
 gap full = if full then [] else 32 ∷ []
 
@@ -162,7 +162,7 @@ two_last : (pair : List ℕ × List ℕ) (parts : List (List ℕ)) (a b : List �
 two_last pair [] a b = refl
 two_last pair (part ∷ parts) a b = two_last (pair.1, part) parts a b
 
--- a text that ends with a semicolon and this
+-- a text ends with a semicolon and `last`
 pub record EndsIn (last text : List ℕ) : Type 0 where
   pub front : List ℕ
   pub is : text ≡ front ++ 59 ∷ last

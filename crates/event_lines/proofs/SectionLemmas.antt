@@ -234,7 +234,7 @@ module _ (severity : ℕ) (section : List ℕ) where
         (ap entries_of held ∙ entries_are)
         (rw not_refused refl)
 
-    -- its bytes
+    -- the block consists of bytes
     block_all : AllBytes section → AreBytes (section_block_bytes pcie_type severity section)
     unfolding section_block_bytes section_entry_bytes
     block_all all =

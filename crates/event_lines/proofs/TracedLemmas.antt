@@ -1,4 +1,4 @@
--- The event behind a line's clock is the line's.
+-- The event after a line's clock is the line's event.
 use Rattle.std.proofs.Common.{◌≡◌, ℕ, List, ap, ◌∙◌, Option, Some}
 use Rattle.std.specs.Option.{option_map_or}
 use Rattle.event_lines.specs.Traced.{clock_event, clock_place, event_behind, named_text, stamp_at}

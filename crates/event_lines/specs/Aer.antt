@@ -21,7 +21,7 @@ cper_severity NonFatal = 0
 cper_severity Fatal = 1
 cper_severity Corrected = 2
 
--- `<segment>:<bus>:<device>.<function>`, hexadecimal but for the function
+-- `<segment>:<bus>:<device>.<function>`; all but the function is hexadecimal
 abbrev pub aer_device_of : List ℕ → Option AerDevice
 aer_device_of name =
     let buses = after 58 name in
@@ -32,7 +32,7 @@ aer_device_of name =
     read_then (decimal_of 7 (after 46 devices)) (λ function.
     Some (record { segment = segment; bus = bus; device = device; function = function })))))
 
--- four words between commas
+-- four words, with commas between them
 abbrev pub logged_header : List ℕ → Option TlpHeader
 logged_header text =
     let second = after 44 text in
@@ -43,12 +43,12 @@ logged_header text =
     read_then (word_of (after 44 third)) (λ four.
     Some (Logged one two three four)))))
 
--- a text without this byte at its end, if it has it
+-- the text without this byte at its end, if it ends with it
 abbrev pub before_last : ℕ → List ℕ → Option (List ℕ)
 before_last byte text =
     provided (ends_with nat_eq text (byte ∷ [])) (Some (take (length text - 1) text))
 
--- `Not available`, or the words in braces
+-- `Not available`, or four words in braces
 abbrev pub header_of : List ℕ → Option TlpHeader
 header_of text =
     if bytes_eq text (codes "Not available") then Some Missing
@@ -62,14 +62,14 @@ aer_told device severity text =
     read_then (header_of header) (λ header.
     Some (record { device = device; severity = severity; status = status; header = header }))))
 
--- `<severity>, `, and what follows it
+-- `<severity>, `, followed by flags and header
 abbrev pub errors_told : AerDevice → List ℕ → Option AerEvent
 errors_told device text =
     option_map_or (aer_told device Corrected) (value_after (codes "Corrected, ") text) (
     option_map_or (aer_told device Fatal) (value_after (codes "Fatal, ") text) (
     read_then (value_after (codes "Uncorrected, non-fatal, ") text) (aer_told device NonFatal)))
 
--- `<device> PCIe Bus Error: severity=`, and what follows it
+-- `<device> PCIe Bus Error: severity=`, followed by the severity, flags and header
 abbrev pub aer_event_of : List ℕ → Option AerEvent
 aer_event_of text =
     read_then (aer_device_of (up_to 32 text)) (λ device.

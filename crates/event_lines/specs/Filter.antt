@@ -30,7 +30,7 @@ use Rattle.event_lines.specs.declared.traced.LineEvent.TheVariants.{Absent, Unre
 abbrev pub event_block : AerEvent → List ℕ
 event_block event = section_block_bytes pcie_type (cper_severity event.severity) (pcie_section_bytes event)
 
--- the line of its block, after a table if one is due
+-- the line of an event's block, after a table if one is due
 abbrev pub event_text : Reporting → FoundEvent → List ℕ
 event_text r found = source_block_text r TRACE_SOURCE found.stamp (event_block found.event)
 
@@ -41,19 +41,19 @@ section_block_of found line =
     let block = section_block_bytes found.head.kind found.head.severity bytes in
     provided (is_ok (block_of block)) (Some block))
 
--- the line of this block, after a table if one is due
+-- the line of a section's block, after a table if one is due
 abbrev pub section_event_text : Reporting → FoundSection → List ℕ → List ℕ
 section_event_text r found block = source_block_text r TRACE_SOURCE found.stamp block
 
--- the block of a memory error, as a report of the log with this error alone has it
+-- the block of a memory error, as the block of a report in the log with only this error
 abbrev pub memory_block : MemoryError → List ℕ
 memory_block error = block_bytes error.severity (error ∷ [])
 
--- the line of this block, after a table if one is due
+-- the line of a memory error's block, after a table if one is due
 abbrev pub memory_event_text : Reporting → FoundMemory → List ℕ
 memory_event_text r found = source_block_text r TRACE_SOURCE found.stamp (memory_block found.error)
 
--- after a line with an event: the reports of the log stay as they are
+-- the state after a line with an event: the reports of the log stay as they are
 abbrev pub after_event : BlockProgress → BlockProgress
 after_event p = record { reports = with_source p.reports TRACE_SOURCE; taken = p.taken + 1 }
 
@@ -86,12 +86,12 @@ after_line p line = after_by p line (line_event_of line)
 
 -- ---- the filter
 
--- the text of each line; no line is refused
+-- the text of each line; no line is rejected
 abbrev pub report_answers : BlockProgress → List (List ℕ) → List (Result (List ℕ) LineRefused)
 report_answers p [] = []
 report_answers p (line ∷ lines) = Ok (report_text_at p line) ∷ report_answers (after_line p line) lines
 
--- the text after all lines: about a report of the log that none of them ended
+-- the text after all lines: about a report of the log that no line ended
 abbrev pub report_rest : BlockProgress → List (List ℕ) → List ℕ
 report_rest p [] = rest_text p.reports
 report_rest p (line ∷ lines) = report_rest (after_line p line) lines

@@ -55,26 +55,26 @@ word_of text = read_then (value_after (codes "0x") text) (λ digits. hexadecimal
 
 -- ---- a status
 
--- with the bit of a name: names come from the lowest bit up, so the bit is greater than all bits before it
+-- the status with the bit of a name: names come from the lowest bit up, so the bit is greater than all bits before it
 abbrev pub with_bit : ℕ → ℕ → Option ℕ
 with_bit status bit = provided (nat_lt status bit) (Some (status + bit))
 
--- with bits that have no name
+-- the status with the bits that have no name
 abbrev pub with_others : ℕ → ℕ → Option ℕ
 with_others status others = provided (nat_lt (status + others) (2 ^ 32)) (Some (status + others))
 
--- with one more flag
+-- the status with one more flag
 abbrev pub flag_added : Flags → ℕ → List ℕ → Option ℕ
 flag_added table status flag =
     option_map_or (with_bit status) (lookup (bytes_eq flag) table) (read_then (word_of flag) (with_others status))
 
--- with more flags
+-- the status with more flags
 abbrev pub flags_added : Flags → ℕ → List (List ℕ) → Option ℕ
 flags_added table status [] = Some status
 flags_added table status (flag ∷ flags) =
     read_then (flag_added table status flag) (λ status. flags_added table status flags)
 
--- the status that a text stands for; without a bit it is empty
+-- the status that a text gives; a text without flags is empty
 abbrev pub status_of : AerSeverity → List ℕ → Option ℕ
 status_of severity text =
     if length text == 0 then Some 0 else flags_added (flags_of severity) 0 (cut_at 124 text)

@@ -94,7 +94,7 @@ abbrev pub event_head : Tracer → List ℕ → ℕ → ℕ → ℕ → List ℕ
 event_head tracer front seconds micros spaces =
     front ++ 32 ∷ (clock seconds micros ++ 58 ∷ 32 ∷ (replicate spaces 32 ++ ras_before tracer))
 
--- the events of which each line counts; a memory controller's event may be another driver's
+-- the events that count in each line; a memory controller's event doesn't count if another driver made it
 pub data EventKind : Type 0 where
   aer_kind : EventKind
   section_kind : EventKind

@@ -9,3 +9,4 @@ pub mod Kernel
 pub mod SectionKernel
 pub mod MemoryKernel
 pub mod ReadBack
+pub mod Events

@@ -31,11 +31,11 @@ named_types =
     ∷ (codes "single-symbol chipkill ECC", 4) ∷ (codes "multi-symbol chipkill ECC", 5) ∷ (codes "master abort", 6)
     ∷ (codes "target abort", 7) ∷ (codes "parity error", 8) ∷ late_types
 
--- the type by the kernel's name for it; `unknown` stands for several types, and for none
+-- the type by the kernel's name for it; `unknown` may be one of several types, or no type
 abbrev pub kind_named : List ℕ → Option ℕ
 kind_named name = lookup (bytes_eq name) named_types
 
--- the type that stands before a text
+-- the type whose name comes before a text
 abbrev pub kind_before : List ℕ → List ℕ → Option ℕ
 kind_before text message = option_map_or (λ place. kind_named (take place message)) (mark_place text message) None
 
@@ -48,8 +48,8 @@ grain_of word =
     if bytes_eq word (codes "-2147483648") then Some (2 ^ 31)
     else read_then (decimal_of (2 ^ 30) word) (λ grain. provided (is_power_of_two grain) (Some grain))
 
--- The mask of a grain. The kernel prints grain 1 without a mask too, and for a mask that isn't a grain's, so then
--- no bit is known to be valid.
+-- The mask of a grain. The kernel also prints grain 1 without a mask, and for a mask that isn't a grain's. So for
+-- grain 1 no bit is known to be valid.
 abbrev pub grain_mask : ℕ → Option ℕ
 grain_mask grain = if nat_lt grain 2 then None else Some (2 ^ 64 - grain)
 
@@ -70,7 +70,7 @@ whole_address_told address = if address == 2 ^ 64 - 1 then None else Some addres
 
 -- ---- `mc_event`
 
--- the severity by the kernel's name (`mc_event_error_type` of include/linux/edac.h), of the whole report; `Deferred`
+-- the severity of the whole report, by the kernel's name (`mc_event_error_type` of include/linux/edac.h); `Deferred`
 -- and `Info` are 3
 abbrev pub type_severity : List ℕ → ℕ
 type_severity word =
@@ -79,11 +79,11 @@ type_severity word =
     else if bytes_eq word (codes "Fatal") then 1
     else 3
 
--- what follows the first ` (mc:` of a text
+-- the text after the first ` (mc:`
 abbrev pub behind_first : List ℕ → Option (List ℕ)
 behind_first text = option_map (λ place. drop (place + 5) text) (mark_place (codes " (mc:") text)
 
--- what follows the last ` (mc:` of a text: a module's label before it may be any text
+-- the text after the last ` (mc:`: a module's label before it may be any text
 abbrev pub behind_controller : List ℕ → Option (List ℕ)
 behind_controller [] = None
 behind_controller (b ∷ text) =
@@ -91,19 +91,19 @@ behind_controller (b ∷ text) =
     (if starts_with nat_eq (b ∷ text) (codes " (mc:") then Some (drop 5 (b ∷ text)) else None)
 
 -- `<n> location:<layers> address:0x<address> grain:<grain> syndrome:0x<syndrome> <detail>`, between the last ` (mc:`
--- and the parenthesis at the end. A line that is cut lacks the parenthesis.
+-- and the parenthesis at the end. A line that was cut off lacks the parenthesis.
 abbrev pub controller_of : List ℕ → Option (List ℕ)
 controller_of text = read_then (before_last 41 text) behind_controller
 
--- from the address on, and from the driver's detail on
+-- the text from the address on, and the text from the driver's detail on
 abbrev pub addresses_in : List ℕ → List ℕ
 addresses_in controller = after 32 (after 32 controller)
 
 abbrev pub detail_in : List ℕ → List ℕ
 detail_in controller = after 32 (after 32 (after 32 (addresses_in controller)))
 
--- The error that the firmware's driver reported, from the text, what is in the parentheses, and what the detail has
--- after its name: `1 <severity> error: <type> on <label>`, and where the error is.
+-- The error that the firmware's driver reported, given the text `1 <severity> error: <type> on <label>`, the text in
+-- the parentheses, and the detail after its name, which says where the error is.
 abbrev pub controller_error_of : List ℕ → List ℕ → List ℕ → Option MemoryError
 controller_error_of text controller places =
     let addresses = addresses_in controller in
@@ -127,8 +127,8 @@ firmware_mark = codes "APEI location: "
 
 -- ---- `extlog_mem_event`
 
--- The mask and where the error is, `(mask lsb: <bit>) <places>FRU: `. The text of a unit, and of the module before it,
--- comes after all numbers, so a line that is cut within them lacks the `FRU: `.
+-- The mask and where the error is, `(mask lsb: <bit>) <places>FRU: `. The text of a unit, and of the module before
+-- it, comes after all numbers, so a line that was cut off within them lacks the `FRU: `.
 abbrev pub mask_and_location : List ℕ → Option (Option ℕ × ErrorLocation)
 mask_and_location text =
     read_then (value_after (codes "(mask lsb: ") text) (λ word.
@@ -150,7 +150,7 @@ addressed_error_of severity kind text =
       kind = kind;
     })))
 
--- `{<n>} <severity> error: <type> physical addr: <address> ` and so on
+-- `{<n>} <severity> error: <type> physical addr: <address> `, followed by mask and location
 abbrev pub extlog_error_of : List ℕ → Option MemoryError
 extlog_error_of text =
     read_then (value_after (codes "{") text) (λ numbered.

@@ -29,31 +29,31 @@ type_names =
 abbrev pub type_name : ℕ → List ℕ
 type_name kind = slice_index_or type_names kind (codes "unknown")
 
--- the type that is read: one with a name of its own
+-- the type that is read: only a type with a name of its own
 abbrev pub kind_told : Option ℕ → Option ℕ
 kind_told None = None
 kind_told (Some kind) = provided (nat_lt 0 kind && nat_lt kind 16) (Some kind)
 
 -- ---- where an error is
 
--- a space before more
+-- a space before more text, if there is more
 abbrev pub before_more : List ℕ → List ℕ
 before_more [] = []
 before_more (b ∷ more) = 32 ∷ b ∷ more
 
--- a number after its name and before more, if the number is known
+-- a number after its name and before more text, if the number is known
 abbrev pub number_before : List ℕ → Option ℕ → List ℕ → List ℕ
 number_before name None more = more
 number_before name (Some n) more = name ++ (decimal n ++ before_more more)
 
--- the numbers that the firmware gives, and others after them: rank, bank, row ..
+-- the numbers that the firmware gives, followed by others: rank, bank, row ..
 abbrev pub places_text : ErrorLocation → List ℕ → List ℕ
 places_text at others =
     number_before (codes "node:") at.node (
     number_before (codes "card:") at.card (
     number_before (codes "module:") at.«module» others))
 
--- the numbers fit their types, and the others begin with none of their names
+-- the numbers of a location fit their types, and the other text begins with none of their names
 pub record ArePlaces (at : ErrorLocation) (others : List ℕ) : Type 0 where
   pub location : IsLocation at
   pub node : value_after (codes "node:") others ≡ None
@@ -62,8 +62,8 @@ pub record ArePlaces (at : ErrorLocation) (others : List ℕ) : Type 0 where
 
 -- ---- `mc_event`
 
--- An event as the kernel prints it: the error as the firmware reports it, with as many bits of the address unknown as
--- the grain has; the label of its module; and the number of the memory controller and its layers.
+-- An event as the kernel prints it: the error as the firmware reports it, with as many lowest bits of the address
+-- unknown as the grain has bits; the label of its module; and the number of the memory controller and its layers.
 pub record PrintedMemory : Type 0 where
   pub severity : ℕ
   pub kind : Option ℕ
@@ -102,7 +102,7 @@ message_text (Some kind) = type_name kind
 abbrev pub grain_text : ℕ → List ℕ
 grain_text bits = if bits == 31 then codes "-2147483648" else decimal (2 ^ bits)
 
--- what is in the parentheses: `%d location:%d:%d:%d address:0x%08lx grain:%d syndrome:0x%08lx APEI location: %s`
+-- the text in the parentheses: `%d location:%d:%d:%d address:0x%08lx grain:%d syndrome:0x%08lx APEI location: %s`
 abbrev pub controller_text : PrintedMemory → List ℕ
 controller_text p =
     decimal p.controller ++ (codes " location:" ++ (p.layers
@@ -115,7 +115,7 @@ abbrev pub memory_front : PrintedMemory → List ℕ
 memory_front p =
     codes "1 " ++ (severity_name p.severity ++ (codes " error: " ++ (message_text p.kind ++ (codes " on " ++ p.label))))
 
--- the event's text: the front, ` (mc:`, and what is in the parentheses
+-- the event's text: the front, ` (mc:`, and the text in the parentheses
 abbrev pub printed_memory : PrintedMemory → List ℕ
 printed_memory p = (memory_front p ++ (codes " (mc:" ++ controller_text p)) ++ codes ")"
 
@@ -123,7 +123,7 @@ printed_memory p = (memory_front p ++ (codes " (mc:" ++ controller_text p)) ++ c
 abbrev pub memory_line : List ℕ → ℕ → PrintedMemory → List ℕ
 memory_line head spaces p = head ++ (codes "mc_event: " ++ (replicate spaces 32 ++ printed_memory p))
 
--- The numbers fit their types, and the grain is below 4 GiB. No ` (mc:` is among what follows the location's numbers.
+-- The numbers fit their types, and the grain is below 4 GiB. No ` (mc:` is in the text after the location's numbers.
 -- The label may be any text.
 pub record IsMemory (p : PrintedMemory) : Type 0 where
   pub severity : p.severity < 4
@@ -137,8 +137,8 @@ pub record IsMemory (p : PrintedMemory) : Type 0 where
 
 -- ---- `extlog_mem_event`
 
--- An event as the kernel prints it: its number, the error as the firmware reports it, with the lowest valid bit of the
--- address, 64 if none is valid; and the id and the text of its unit.
+-- An event as the kernel prints it: its number; the error as the firmware reports it, with the lowest valid bit of
+-- the address, 64 if no bit is valid; and the id and the text of its unit.
 pub record PrintedExtlog : Type 0 where
   pub number : ℕ
   pub severity : ℕ
@@ -160,7 +160,7 @@ error_of_extlog p = record {
   kind = kind_told p.kind;
 }
 
--- what follows the location's numbers
+-- the text after the location's numbers
 abbrev pub extlog_others : PrintedExtlog → List ℕ
 extlog_others p = p.others ++ (codes "FRU: " ++ p.unit)
 

@@ -1,5 +1,5 @@
--- The PCI Express section of an event: UEFI, appendix N, "PCI Express Error Section". What the event doesn't say
--- is 0, as the vendor's and the device's ids.
+-- The PCI Express section of an event: UEFI, appendix N, "PCI Express Error Section". The fields that the event
+-- doesn't give, such as the vendor's and the device's ids, are 0.
 use Rattle.std.specs.Prelude.{ℕ, List, [], ◌∷◌, ◌++◌, replicate}
 use Rattle.ras_base.specs.LittleEndian.{u16_bytes, u32_bytes, u64_bytes}
 use Rattle.event_lines.specs.declared.aer.AerDevice.{AerDevice}

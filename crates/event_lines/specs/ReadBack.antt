@@ -31,26 +31,26 @@ section_told event = record {
   cor = Some (correctable_by event.severity event.status);
 }
 
--- the entry of its block
+-- the entry of the event's block
 abbrev pub event_entry : AerEvent → List ℕ
 event_entry event = section_entry_bytes pcie_type (cper_severity event.severity) (pcie_section_bytes event)
 
--- what its line asks of a run, in this boot, which began at this second
+-- what the event's line asks of a run, in this boot, which began at this second
 abbrev pub event_asked : ℕ → ℕ → FoundEvent → Line
 event_asked boot began found =
     asks.Report (Block boot (began + found.stamp / MICROSECONDS) TRACE_SOURCE found.stamp (event_block found.event))
 
--- the name under which it counts
+-- the name under which the event is counted
 abbrev pub event_name : ℕ → FoundEvent → Name
 event_name boot found = names.Block boot TRACE_SOURCE found.stamp
 
 -- ---- a memory error
 
--- what its line asks of a run, in this boot, which began at this second
+-- what the memory error's line asks of a run, in this boot, which began at this second
 abbrev pub memory_asked : ℕ → ℕ → FoundMemory → Line
 memory_asked boot began found =
     asks.Report (Block boot (began + found.stamp / MICROSECONDS) TRACE_SOURCE found.stamp (memory_block found.error))
 
--- the name under which it counts
+-- the name under which the memory error is counted
 abbrev pub memory_name : ℕ → FoundMemory → Name
 memory_name boot found = names.Block boot TRACE_SOURCE found.stamp

@@ -1,5 +1,5 @@
--- What the text of the event `non_standard_event` says: include/ras/ras_event.h, `TRACE_EVENT(non_standard_event, ..)`.
--- It has the whole section, so nothing of it is lost.
+-- What the text of the event `non_standard_event` says: include/ras/ras_event.h, `TRACE_EVENT(non_standard_event,
+-- ..)`. The event has the whole section, so nothing of the section is lost.
 use Rattle.std.specs.Prelude.{ℕ, ◌+◌, ◌%◌, ◌==◌, ◌&&◌, List, [], ◌∷◌, codes, drop, length, nat_le, slice_index, Option, None, Some, unwrap_or, if◌then◌else◌}
 use Rattle.std.specs.Option.{option_map}
 use Rattle.uuid.specs.Text.{parsed}
@@ -19,7 +19,7 @@ cper_of_ghes severity =
 
 -- ---- parts between semicolons; the text of the unit (FRU) may have semicolons too
 
--- the last two of parts
+-- the last two of a text's parts
 abbrev pub last_two : List ℕ × List ℕ → List (List ℕ) → List ℕ × List ℕ
 last_two pair [] = pair
 last_two pair (part ∷ parts) = last_two (pair.1, part) parts
@@ -42,13 +42,13 @@ section_head_of text =
 abbrev pub byte_of : List ℕ → Option ℕ
 byte_of word = provided (length word == 2) (hexadecimal_to 255 word)
 
--- What follows a byte and the space behind it, of a text that begins with the byte and goes on. A row has 16 bytes, and
--- the space behind a row may be missing, so behind this many bytes.
+-- The text after a byte and the space after it; `text` begins with the byte and goes on. A row has 16 bytes. The
+-- space after a row, so after this many bytes, may be missing.
 abbrev pub behind_byte : ℕ → List ℕ → Option (List ℕ)
 behind_byte count text =
     if slice_index text 2 == 32 then Some (drop 3 text) else provided (count % 16 == 0) (Some (drop 2 text))
 
--- the bytes of a text that has this many bytes before it
+-- the bytes of a text, after this many bytes
 abbrev pub bytes_from : ℕ → List ℕ → Option (List ℕ)
 bytes_from count (high ∷ low ∷ next ∷ text) =
     read_then (byte_of (high ∷ low ∷ [])) (λ b.
@@ -58,11 +58,11 @@ bytes_from count (high ∷ low ∷ next ∷ text) =
     else None))
 bytes_from count last = option_map (λ b. b ∷ []) (byte_of last)
 
--- what a line has after `; raw data:`
+-- the text after `; raw data:`
 abbrev pub raw_text_of : List ℕ → List ℕ
 raw_text_of line = unwrap_or (value_after (codes " raw data:") (last_word [] (cut_at 59 line))) []
 
--- the bytes of a section, if they can be read and are as many as its event says
+-- the bytes of a section, if they can be read and are as many as the section's event says
 abbrev pub section_bytes_of : SectionHead → List ℕ → Option (List ℕ)
 section_bytes_of head line =
     read_then (bytes_from 0 (raw_text_of line)) (λ bytes.

@@ -13,8 +13,8 @@ pub data Rows : Type 0 where
   rows_joined : Rows
   rows_spaced : Rows
 
--- an event as the kernel prints it: its own number of the severity, the section's type, what follows `FRU: `, which
--- may be any text, the section's bytes, and how their rows are printed
+-- an event as the kernel prints it: the kernel's number of the severity, the section's type, the text after `FRU: `,
+-- which may be any text, the section's bytes, and how their rows are printed
 pub record PrintedSection : Type 0 where
   pub severity : ℕ
   pub kind : List ℕ
@@ -22,19 +22,19 @@ pub record PrintedSection : Type 0 where
   pub bytes : List ℕ
   pub rows : Rows
 
--- what is read of it besides the bytes
+-- what is read of the event, besides the bytes
 abbrev pub head_of_section : PrintedSection → SectionHead
 head_of_section p = record { kind = p.kind; severity = cper_of_ghes p.severity; size = length p.bytes }
 
 abbrev pub two_digits : ℕ → List ℕ
 two_digits b = digit_glyph false (b / 16) ∷ digit_glyph false (b % 16) ∷ []
 
--- what stands before a byte that has this many before it: in a row a space
+-- the text before a byte that comes after this many bytes: in a row a space
 abbrev pub before_byte : Rows → ℕ → List ℕ
 before_byte rows_joined count = if count % 16 == 0 then [] else 32 ∷ []
 before_byte rows_spaced count = if count == 0 then [] else 32 ∷ []
 
--- bytes that have this many before them
+-- the text of bytes that come after this many bytes
 abbrev pub bytes_text : Rows → ℕ → List ℕ → List ℕ
 bytes_text rows count [] = []
 bytes_text rows count (b ∷ bytes) = before_byte rows count ++ (two_digits b ++ bytes_text rows (count + 1) bytes)
@@ -45,7 +45,7 @@ raw_text p = codes " raw data:" ++ bytes_text p.rows 0 p.bytes
 abbrev pub size_text : List ℕ → List ℕ
 size_text bytes = codes " data len:" ++ decimal (length bytes)
 
--- what follows `FRU: `
+-- the text after `FRU: `
 abbrev pub unit_text : PrintedSection → List ℕ
 unit_text p = p.unit ++ 59 ∷ (size_text p.bytes ++ 59 ∷ raw_text p)
 
@@ -59,7 +59,7 @@ printed_section p =
 abbrev pub section_line : List ℕ → ℕ → PrintedSection → List ℕ
 section_line head spaces p = head ++ (codes "non_standard_event: " ++ (replicate spaces 32 ++ printed_section p))
 
--- the numbers fit their types, and the section a line of script
+-- the numbers fit their types, and the section fits a line of script
 pub record IsSection (p : PrintedSection) : Type 0 where
   pub severity : p.severity < 4
   pub kind : length p.kind ≡ 16

@@ -9,7 +9,7 @@ use crate::flags::{hexadecimal_to, status_of, word_of};
 use bank_lines::{cut, value_after};
 use ras_script::decimal;
 
-/// A PCI Express function, by its place.
+/// A PCI Express function, by its address.
 #[derive(Clone, Copy, Debug, PartialEq, Eq)]
 pub struct AerDevice {
     /// The segment.
@@ -47,7 +47,7 @@ pub enum TlpHeader {
     },
 }
 
-/// What the event of a PCI Express error says. The status has a bit for each kind of error: of the
+/// The event of a PCI Express error. The status has a bit for each kind of error: of the
 /// correctable errors if the error was corrected, otherwise of the uncorrectable errors.
 #[derive(Clone, Copy, Debug, PartialEq, Eq)]
 pub struct AerEvent {
@@ -62,7 +62,7 @@ pub struct AerEvent {
 }
 
 impl AerSeverity {
-    // Returns the number that stands for the severity in a block.
+    // Returns the severity's number in a block.
     pub(crate) fn number(self) -> u32
         ensures { result ≡ cper_severity self }
     {

@@ -1,12 +1,14 @@
 //! The command `lines ghes` as a filter of lines.
 
-ghost use Rattle.std.specs.Prelude.{◌≡◌, ◌≤◌, ◌++◌, IfOk, OnErr, OnOk};
+ghost use Rattle.std.specs.Prelude.{◌≡◌, ◌<◌, ◌≤◌, ◌++◌, IfOk, OnErr, OnOk};
 ghost use Rattle.std.specs.Option.{option_map};
 ghost use Rattle.bank_lines.specs.declared.log_line.TheConstants.{LAST_SECOND};
 ghost use Rattle.event_lines.specs.Filter.{after_event, after_line, event_text, memory_event_text, report_filter};
 ghost use Rattle.event_lines.specs.Filter.{after_by, event_text_by, report_text_at, reports_make, section_block_of};
 ghost use Rattle.event_lines.specs.declared.traced.LineEvent.TheVariants.{Section};
-ghost use Rattle.ras_script.specs.declared.reader.TheConstants.{LONGEST_SCRIPT};
+ghost use Rattle.line_filters.specs.declared.feeding.TheConstants.{MOST_INPUTS};
+ghost use Rattle.block_lines.specs.Reports.{no_reports, without_sources};
+ghost use Rattle.block_lines.specs.Texts.{rest_text};
 
 use crate::pcie_bytes::{PCIE_TYPE, push_pcie_section};
 use crate::section_event::section_bytes;
@@ -19,7 +21,7 @@ use ras_script::LineRefused;
 use std::alloc::Global;
 use std::marker::Model;
 
-/// The source of all blocks that are made of trace events: the number by which ACPI says that there
+/// The source of all blocks that are made of trace events. ACPI uses this number to say that there
 /// is no source, so no source of the firmware has it.
 pub const TRACE_SOURCE: u16 = 65_535;
 
@@ -27,7 +29,7 @@ pub const TRACE_SOURCE: u16 = 65_535;
 ///
 /// A line of a trace that has the event of a hardware error becomes a line `ghes` at once, after a
 /// line `hest` if the last table lacks `TRACE_SOURCE`. If it can't be read, or has no time stamp, it
-/// becomes a comment. Every other line is taken as a line of the log. No line is refused.
+/// becomes a comment. Every other line is taken as a line of the log. No line is rejected.
 #[derive(Drop)]
 pub struct ReportFilter {
     log: BlockFilter,
@@ -48,6 +50,7 @@ impl ReportFilter {
     pub fn new(alloc: Global, boot: u64, began: u64) -> ReportFilter
         requires { began ≤ LAST_SECOND }
         ensures makes { reports_make result ≡ report_filter boot began }
+        ensures begins { result ≡ record { reports = no_reports boot began; taken = 0 } }
         ensures taken { result.taken ≡ 0 }
     {
         ReportFilter {
@@ -55,9 +58,26 @@ impl ReportFilter {
         }
     }
 
-    // Takes a line, and appends its text.
-    fn take_line(&mut self, alloc: Global, line: &[u8], text: &mut Vec<u8>) -> Result<(), NoMemory>
-        requires { self.old.taken ≤ LONGEST_SCRIPT }
+    /// Forgets the last table, so that the next block brings a table of its own source, and goes on
+    /// as after this many lines.
+    pub fn begin_line(&mut self, taken: u64)
+        ensures { self.new ≡ record { reports = without_sources self.old.reports; taken = taken } }
+    {
+        self.log.begin_line(taken);
+    }
+
+    /// Takes a line, and appends its text.
+    ///
+    /// # Errors
+    ///
+    /// `NoMemory`: only if memory runs out.
+    pub fn take_line(
+        &mut self,
+        alloc: Global,
+        line: &[u8],
+        text: &mut Vec<u8>,
+    ) -> Result<(), NoMemory>
+        requires { self.old.taken < MOST_INPUTS }
         ensures text { OnOk result (text.new.items
             ≡ text.old.items ++ report_text_at self.old line.now) }
         ensures after { OnOk result (self.new ≡ after_line self.old line.now) }
@@ -80,7 +100,7 @@ impl ReportFilter {
         found: FoundEvent,
         text: &mut Vec<u8>,
     ) -> Result<(), NoMemory>
-        requires { self.old.taken ≤ LONGEST_SCRIPT }
+        requires { self.old.taken < MOST_INPUTS }
         ensures text { OnOk result (text.new.items
             ≡ text.old.items ++ event_text self.old.reports found) }
         ensures after { OnOk result (self.new ≡ after_event self.old) }
@@ -106,7 +126,7 @@ impl ReportFilter {
         line: &[u8],
         text: &mut Vec<u8>,
     ) -> Result<(), NoMemory>
-        requires { self.old.taken ≤ LONGEST_SCRIPT }
+        requires { self.old.taken < MOST_INPUTS }
         ensures text { OnOk result (text.new.items
             ≡ text.old.items ++ event_text_by self.old line.now (Section found)) }
         ensures after { OnOk result (self.new ≡ after_by self.old line.now (Section found)) }
@@ -129,7 +149,7 @@ impl ReportFilter {
         found: FoundMemory,
         text: &mut Vec<u8>,
     ) -> Result<(), NoMemory>
-        requires { self.old.taken ≤ LONGEST_SCRIPT }
+        requires { self.old.taken < MOST_INPUTS }
         ensures text { OnOk result (text.new.items
             ≡ text.old.items ++ memory_event_text self.old.reports found) }
         ensures after { OnOk result (self.new ≡ after_event self.old) }
@@ -143,7 +163,7 @@ impl ReportFilter {
 }
 
 // Returns the block of a section's event, if the section's bytes can be read, and a run can read
-// the block: of a section that its own type refuses a run ends.
+// the block: a run ends at a block whose section is invalid for its type.
 fn section_block(
     alloc: Global,
     found: FoundSection,
@@ -159,6 +179,19 @@ fn section_block(
     push_section_block(&mut block, &found.head.kind, found.head.severity, &section)?;
     let is_read = read_block(&block).is_ok();
     Ok(if is_read { Some(block) } else { None })
+}
+
+impl ReportFilter {
+    /// Appends the comment that the open report of the log, if there is one, may lack lines.
+    ///
+    /// # Errors
+    ///
+    /// `NoMemory`: only if memory runs out.
+    pub fn push_open(&self, text: &mut Vec<u8>) -> Result<(), NoMemory>
+        ensures { OnOk result (text.new.items ≡ text.old.items ++ rest_text self.now.reports) }
+    {
+        self.log.push_open(text)
+    }
 }
 
 impl LineFilter for ReportFilter {

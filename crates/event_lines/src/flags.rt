@@ -10,7 +10,7 @@ use crate::aer::AerSeverity;
 use bank_lines::{Parts, value_after};
 use ras_script::hexadecimal;
 
-// Returns the status that flags stand for, if they can be read.
+// Returns the status that flags give, if they can be read.
 pub(crate) fn status_of(severity: AerSeverity, text: &[u8]) -> Option<u32>
     ensures { result ≡ status_of severity text.now }
 {
@@ -36,7 +36,7 @@ fn flag_added(severity: AerSeverity, status: u32, flag: &[u8]) -> Option<u32>
     }
 }
 
-// Returns the bit that a name stands for.
+// Returns the bit of a name.
 fn bit_of(severity: AerSeverity, name: &[u8]) -> Option<u32>
     ensures value { result ≡ lookup (bytes_eq name.now) (flags_of severity) }
     ensures within { IfSome result (λ bit. bit ≤ 2 ^ 25) }
@@ -127,7 +127,7 @@ fn late_bit(name: &[u8]) -> Option<u32>
     }
 }
 
-// Returns the number in `0x<number>`, in hexadecimal, of 32 bits.
+// Returns the number of 32 bits in `0x<number>`, in hexadecimal.
 pub(crate) fn word_of(text: &[u8]) -> Option<u32>
     ensures { result ≡ word_of text.now }
 {

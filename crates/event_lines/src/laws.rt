@@ -1,4 +1,4 @@
-//! What the filter reads and makes.
+//! Laws on what the filter reads and makes.
 
 ghost use Rattle.std.specs.Prelude.{◌≡◌, ◌+◌, ◌*◌, ◌<◌, ◌≤◌, ◌^◌, ℕ, List, [], ◌∷◌, ◌++◌, codes};
 ghost use Rattle.std.specs.Prelude.{length, nat_eq, slice_index, Option, None, Some, Ok, false, true};
@@ -39,8 +39,8 @@ ghost use Rattle.event_lines.specs.declared.traced.FoundMemory.{FoundMemory};
 ghost use Rattle.event_lines.specs.declared.traced.LineEvent.TheVariants.{Absent, Found, Memory, Section, Unread};
 
 /// The event of a PCI Express error, as the kernel prints it, is read as that event, whichever bits
-/// of the status are set: by its text, and behind what each tracer prints before it, with the time
-/// stamp of the line.
+/// of the status are set. This holds of the event's text, and of its line, with the text that each
+/// tracer prints before the event and the line's time stamp.
 pub fn printed_events_are_read()
     ensures text { (p : PrintedAer) → IsEvent (event_of p)
         → aer_event_of (aer_text p) ≡ Some (event_of p) }
@@ -50,7 +50,7 @@ pub fn printed_events_are_read()
         → line_event_of (aer_line (event_head tracer front seconds micros spaces) more p)
         ≡ Found (record { stamp = 1000000 * seconds + micros; event = event_of p }) }
 
-    // The event of a section: its head, and its bytes, whatever the text of its unit is.
+    // The event of a section is read: its head and its bytes, whatever the text of its unit is.
     ensures section { (tracer : Tracer) (front : List ℕ) (seconds micros spaces more : ℕ)
         (p : PrintedSection) → IsFront front seconds micros → IsSection p
         → line_event_of (section_line (event_head tracer front seconds micros spaces) more p)
@@ -60,8 +60,8 @@ pub fn printed_events_are_read()
         → section_bytes_of (head_of_section p)
         (section_line (event_head tracer front seconds micros spaces) more p) ≡ Some p.bytes }
 
-    // The memory errors that the firmware reported, whatever the label of a module and the text of a
-    // unit are.
+    // The memory errors that the firmware reported are read, whatever the label of a module and the
+    // text of a unit are.
     ensures memory { (tracer : Tracer) (front : List ℕ) (seconds micros spaces more : ℕ)
         (p : PrintedMemory) → IsFront front seconds micros → IsMemory p
         → line_event_of (memory_line (event_head tracer front seconds micros spaces) more p)
@@ -72,10 +72,10 @@ pub fn printed_events_are_read()
         ≡ Memory (record { stamp = 1000000 * seconds + micros; error = error_of_extlog p }) }
 {}
 
-/// No event is passed over: a line that has an event's name behind a clock has an event, or can't be
-/// read. Whatever stands before the clock, as the name of a process, and whatever the event's text
-/// is. Of a memory controller's events these are the ones with the name of the firmware's detail
-/// behind the last ` (mc:`.
+/// No event is skipped: a line that has an event's name after a clock has an event, or is unread.
+/// This holds whatever comes before the clock, such as the name of a process, and whatever the
+/// event's text is. Of a memory controller's events it holds of those with the name of the
+/// firmware's detail after the last ` (mc:`.
 pub fn events_are_never_passed_over()
     ensures named { (kind : EventKind) (tracer : Tracer) (front text : List ℕ)
         (seconds micros spaces : ℕ) → seconds ≤ MOST_SECONDS → micros < 1000000
@@ -87,16 +87,16 @@ pub fn events_are_never_passed_over()
         → ¬ (line_event_of (event_head tracer front seconds micros spaces
         ++ (codes "mc_event:" ++ 32 ∷ (told ++ (codes " (mc:" ++ inside)))) ≡ Absent) }
 
-    // What a line has doesn't depend on the name of a process in its 16 columns. So no process makes
-    // or hides an event by its name.
+    // Which event a line has doesn't depend on the name of a process in its 16 columns. So no
+    // process makes or hides an event by its name.
     ensures names { (name other rest : List ℕ) → length name ≡ 16 → length other ≡ 16
         → is_digit (slice_index rest 0) 10 ≡ true
         → line_event_of (name ++ 45 ∷ rest) ≡ line_event_of (other ++ 45 ∷ rest) }
 {}
 
-/// Which events of a memory controller are no errors of the firmware: another driver's event, which
-/// lacks the name of the firmware's detail, says nothing, whatever is before its last ` (mc:`, and
-/// an event that is cut before the parenthesis at its end can't be read.
+/// Another driver's event of a memory controller, which lacks the name of the firmware's detail,
+/// says nothing, whatever comes before its last ` (mc:`. An event that was cut off before the
+/// parenthesis at its end is unread.
 pub fn other_controller_events_are_no_errors()
     ensures driver { (stamp : Option ℕ) (front controller : List ℕ)
         → behind_controller controller ≡ None → mark_place firmware_mark controller ≡ None
@@ -105,8 +105,8 @@ pub fn other_controller_events_are_no_errors()
         → controller_event stamp text ≡ Unread }
 {}
 
-/// What is made of an event is read back: its section as its function and its status, its block as
-/// one entry with its severity and this section, its line as a report of this block.
+/// An event's section is read back as its function and its status, its block as one entry with its
+/// severity and this section, its line as a report of this block.
 pub fn made_sections_are_read_back()
     ensures section { (event : AerEvent) → IsEvent event
         → pcie_of (pcie_section_bytes event) ≡ Ok (section_told event) }
@@ -125,8 +125,8 @@ pub fn made_sections_are_read_back()
         → same_name (event_name boot one) (event_name boot other) ≡ false }
 {}
 
-/// What is made of a memory error is read back: its block as one entry with the error's severity and
-/// a memory section of its address, mask, location and type, its line as a report of this block.
+/// A memory error's block is read back as one entry with the error's severity and a memory section
+/// of its address, mask, location and type, its line as a report of this block.
 pub fn made_memory_blocks_are_read_back()
     ensures block { (error : MemoryError) → IsError error
         → block_of (memory_block error) ≡ Ok (record {
@@ -155,7 +155,7 @@ pub fn made_memory_blocks_are_read_back()
         → same_name (memory_name boot one) (memory_name boot other) ≡ false }
 {}
 
-/// Over lines without an event the filter prints what the filter of the log alone prints.
+/// Over lines without an event the filter prints what the filter of the log prints.
 pub fn logs_are_filtered_as_before()
     ensures answers { (boot began : ℕ) (lines : List (List ℕ))
         → AllByRecursion (λ line. line_event_of line ≡ Absent) lines

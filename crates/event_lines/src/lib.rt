@@ -21,3 +21,4 @@ pub use laws::{
     events_are_never_passed_over, logs_are_filtered_as_before, made_memory_blocks_are_read_back,
     made_sections_are_read_back, other_controller_events_are_no_errors, printed_events_are_read,
 };
+pub use traced::is_extlog;

@@ -20,14 +20,15 @@ use ras_script::hexadecimal;
 // The name of the firmware's detail in an event of a memory controller.
 pub(crate) const FIRMWARE_MARK: &[u8] = b"APEI location: ";
 
-// Returns what a memory controller's event has in its parentheses, if a parenthesis ends it.
+// Returns the text in the parentheses of a memory controller's event, if a parenthesis ends the
+// event.
 pub(crate) fn controller_of(text: &[u8]) -> Option<&[u8]>
     ensures { option_map (λ controller. controller.now) result ≡ controller_of text.now }
 {
     behind_controller(text.strip_suffix(b")")?)
 }
 
-// Returns what follows the last ` (mc:` of a text.
+// Returns the text after the last ` (mc:`.
 pub(crate) fn behind_controller(text: &[u8]) -> Option<&[u8]>
     ensures { option_map (λ behind. behind.now) result ≡ behind_controller text.now }
 {
@@ -40,7 +41,7 @@ pub(crate) fn behind_controller(text: &[u8]) -> Option<&[u8]>
     found
 }
 
-// Returns what follows the first ` (mc:` of a text.
+// Returns the text after the first ` (mc:`.
 fn behind_first(text: &[u8]) -> Option<&[u8]>
     ensures behind { option_map (λ behind. behind.now) result ≡ behind_first text.now }
     ensures shorter { IfSome result (λ behind. length behind.now < length text.now) }
@@ -49,7 +50,7 @@ fn behind_first(text: &[u8]) -> Option<&[u8]>
     Some(&text[place + 5..])
 }
 
-// Returns what an event has in its parentheses from the address on.
+// Returns the text in an event's parentheses, from the address on.
 fn addresses_in(controller: &[u8]) -> &[u8]
     ensures { result.now ≡ addresses_in controller.now }
 {
@@ -57,7 +58,7 @@ fn addresses_in(controller: &[u8]) -> &[u8]
     cut(b' ', layers).1
 }
 
-// Returns the driver's detail of what an event has in its parentheses.
+// Returns the driver's detail from the text in an event's parentheses.
 pub(crate) fn detail_in(controller: &[u8]) -> &[u8]
     ensures { result.now ≡ detail_in controller.now }
 {
@@ -66,8 +67,8 @@ pub(crate) fn detail_in(controller: &[u8]) -> &[u8]
     cut(b' ', syndrome).1
 }
 
-// Returns the error of an event that the firmware's driver made, if it can be read: from the text,
-// what is in the parentheses, and what the detail has after its name.
+// Returns the error of an event that the firmware's driver made, if it can be read from the text,
+// the text in the parentheses, and the detail after its name.
 pub(crate) fn controller_error(text: &[u8], controller: &[u8], places: &[u8]) -> Option<MemoryError>
     ensures { result ≡ controller_error_of text.now controller.now places.now }
 {
@@ -86,7 +87,7 @@ pub(crate) fn controller_error(text: &[u8], controller: &[u8], places: &[u8]) ->
     })
 }
 
-// Returns the type of error whose name stands before a text, if the name stands for one type.
+// Returns the type of error whose name comes before a text, if only one type has this name.
 fn kind_before(text: &[u8; 4], message: &[u8]) -> Option<u8>
     ensures { result ≡ kind_before text.now message.now }
 {
@@ -133,13 +134,14 @@ fn mask_and_location(text: &[u8]) -> Option<(Option<u64>, ErrorLocation)>
     let (bit, rest) = cut(b')', value_after(b"(mask lsb: ", text)?);
     let bit = low_bit_of(bit)?;
     let places = value_after(b" ", rest)?;
-    // A line that is cut lacks it.
+    // A line that was cut off lacks it.
     place_of(b"FRU: ", places)?;
     Some((low_bit_mask(bit), location_of(places)))
 }
 
-// Returns the first place of a text within another, as `mark_place` does. The compiler inlines
-// `mark_place`, which every line of a trace calls, only while all its calls look for one text.
+// Returns the index of the first occurrence of a text in another, as `mark_place` does. The
+// compiler inlines `mark_place`, which every line of a trace calls, only while all its calls search
+// for one text.
 pub(crate) fn place_of(text: &[u8], within: &[u8]) -> Option<usize>
     requires { 0 < length text.now }
     ensures place { result ≡ mark_place text.now within.now }

@@ -1,5 +1,5 @@
-//! Reads the words by which the kernel tells of a memory error: its type, its severity, and which
-//! bits of its address are valid.
+//! Reads the kernel's words for a memory error: its type, its severity, and which bits of its
+//! address are valid.
 
 ghost use Rattle.std.specs.Prelude.{◌≡◌, ◌≤◌, ◌^◌, ◌⊎◌, IfSome};
 ghost use Rattle.std.specs.Map.{lookup};
@@ -10,7 +10,7 @@ ghost use Rattle.event_lines.specs.Memory.{low_bit_of, type_severity, whole_addr
 use crate::flags::hexadecimal_to;
 use ras_script::decimal;
 
-// Returns the type of error by the kernel's name for it, if the name stands for one type.
+// Returns the type of error by the kernel's name for it, if only one type has this name.
 pub(crate) fn kind_named(name: &[u8]) -> Option<u8>
     ensures { result ≡ kind_named name.now }
 {
@@ -58,8 +58,8 @@ fn late_kind(name: &[u8]) -> Option<u8>
     }
 }
 
-// Returns the number that stands for a severity in a block, by the kernel's name for it in the event
-// of a memory controller.
+// Returns a severity's number in a block, by the kernel's name for the severity in the event of a
+// memory controller.
 pub(crate) fn type_severity(word: &[u8]) -> u32
     ensures { result ≡ type_severity word.now }
 {
@@ -102,7 +102,7 @@ pub(crate) fn grain_mask(grain: u64) -> Option<u64>
     }
 }
 
-// Returns the address of a memory controller's event, in which 0 stands for none.
+// Returns the address of a memory controller's event, in which 0 means that there is no address.
 pub(crate) fn address_told(address: u64) -> Option<u64>
     ensures { result ≡ address_told address }
 {
@@ -134,7 +134,7 @@ pub(crate) fn low_bit_mask(bit: u64) -> Option<u64>
     }
 }
 
-// Returns the address of the extended log's event, in which all ones stand for none.
+// Returns the address of the extended log's event, in which all ones mean that there is no address.
 pub(crate) fn whole_address_told(address: u64) -> Option<u64>
     ensures { result ≡ whole_address_told address }
 {

@@ -1,5 +1,5 @@
-//! Reads the text of the event `non_standard_event`, a section of a firmware's report that the
-//! kernel doesn't know, with all of its bytes.
+//! Reads the text of the event `non_standard_event`: a section of a firmware's report, with all of
+//! its bytes, whose type the kernel doesn't know.
 
 ghost use Rattle.std.specs.Prelude.{◌≡◌, ◌<◌, ◌≤◌, [], length, IfOk, IfSome};
 ghost use Rattle.block_lines.specs.declared.blocks.TheConstants.{LONGEST_SECTION};
@@ -17,8 +17,8 @@ use ras_script::decimal;
 use std::alloc::Global;
 use uuid::Uuid;
 
-/// What the event of a section says of it, besides its bytes: its type, the number that stands for
-/// its severity in a block, and how many bytes it has.
+/// What the event of a section says, besides the section's bytes: its type, its severity's number
+/// in a block, and how many bytes it has.
 #[derive(Clone, Copy, Debug, PartialEq, Eq)]
 pub(crate) struct SectionHead {
     pub(crate) kind: [u8; 16],
@@ -51,7 +51,7 @@ fn guid_of(text: &[u8]) -> Option<[u8; 16]>
     }
 }
 
-// Returns the number that stands for a severity in a block, by the kernel's number.
+// Returns a severity's number in a block, by the kernel's number.
 fn cper_of_ghes(severity: u64) -> u32
     ensures { result ≡ cper_of_ghes severity }
 {
@@ -63,7 +63,7 @@ fn cper_of_ghes(severity: u64) -> u32
     }
 }
 
-// Returns the last part but one of a text, whose parts are between semicolons.
+// Returns the last part but one of a text that semicolons separate.
 fn size_part(text: &[u8]) -> &[u8]
     ensures { result.now ≡ (last_two ([], []) (cut_at 59 text.now)).0 }
 {
@@ -109,8 +109,8 @@ pub(crate) fn section_bytes(
     }
 }
 
-// Returns the bytes of a text that has two hexadecimal digits for each, with a space between two;
-// between two rows of 16 bytes the space may be missing, since Linux 6.1 prints none there.
+// Returns the bytes of a text that has two hexadecimal digits for each, with a space between two
+// bytes. Between two rows of 16 bytes the space may be missing, since Linux 6.1 prints none there.
 fn raw_bytes(alloc: Global, text: &[u8]) -> Result<Option<Vec<u8>>, NoMemory>
     ensures { IfOk result (λ read. option_map (λ bytes. bytes.items) read ≡ bytes_from 0 text.now) }
 {
@@ -133,7 +133,7 @@ fn raw_bytes(alloc: Global, text: &[u8]) -> Result<Option<Vec<u8>>, NoMemory>
     Ok(Some(bytes))
 }
 
-// Returns what follows a byte and the space behind it. `count` bytes end with this one.
+// Returns the text after a byte and the space after it. The byte is the last of `count`.
 fn behind_byte(count: usize, text: &[u8]) -> Option<&[u8]>
     requires { 2 < length text.now }
     ensures value { option_map (λ rest. rest.now) result ≡ behind_byte count text.now }
@@ -148,7 +148,7 @@ fn behind_byte(count: usize, text: &[u8]) -> Option<&[u8]>
     }
 }
 
-// Returns the byte that two hexadecimal digits stand for.
+// Returns the byte that two hexadecimal digits give.
 fn byte_of(word: &[u8]) -> Option<u8>
     ensures { result ≡ byte_of word.now }
 {

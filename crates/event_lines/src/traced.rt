@@ -4,7 +4,7 @@ ghost use Rattle.std.specs.Prelude.{◌≡◌, ◌+◌, ◌≤◌, false, length
 ghost use Rattle.bank_lines.specs.Parts.{cut_at};
 ghost use Rattle.event_lines.specs.Traced.{clock_event, clock_place, controller_event, event_behind, found_event};
 ghost use Rattle.event_lines.specs.Traced.{found_memory, found_section, has_event, has_name, shows_clock, is_event_name};
-ghost use Rattle.event_lines.specs.Traced.{is_firmware, line_event_of, named_text, other_event, stamp_at};
+ghost use Rattle.event_lines.specs.Traced.{is_extlog, is_firmware, line_event_of, named_text, other_event, stamp_at};
 
 use crate::aer::{AerEvent, aer_event};
 use crate::memory_event::{
@@ -17,6 +17,9 @@ use bank_lines::{
 };
 use block_lines::MemoryError;
 
+// The name of the event of a memory error that a driver decoded.
+const EXTLOG_NAME: &[u8] = b"extlog_mem_event: ";
+
 /// An event, and the time stamp of its line in microseconds since the boot.
 #[derive(Clone, Copy, Debug, PartialEq, Eq)]
 pub(crate) struct FoundEvent {
@@ -24,7 +27,7 @@ pub(crate) struct FoundEvent {
     pub(crate) event: AerEvent,
 }
 
-/// An event that has a section whole, besides the section's bytes, and the time stamp of its line.
+/// An event with a whole section, without the section's bytes, and the time stamp of its line.
 #[derive(Clone, Copy, Debug, PartialEq, Eq)]
 pub(crate) struct FoundSection {
     pub(crate) stamp: u64,
@@ -71,7 +74,18 @@ pub(crate) fn line_event(line: &[u8]) -> LineEvent
     }
 }
 
-// Returns the event behind the first clock of a text.
+/// Returns whether a line has an `extlog_mem_event` where tracers print an event. Allocates nothing.
+pub fn is_extlog(line: &[u8]) -> bool
+    ensures { result ≡ is_extlog line.now }
+{
+    let behind = behind_name(line);
+    match clock_place(behind) {
+        Some(place) => named_text(place, behind).starts_with(EXTLOG_NAME),
+        None => false,
+    }
+}
+
+// Returns the event after the first clock of a text.
 fn clock_event(text: &[u8]) -> LineEvent
     ensures { result ≡ clock_event text.now }
 {
@@ -81,7 +95,7 @@ fn clock_event(text: &[u8]) -> LineEvent
     }
 }
 
-// Returns whether a text has an event's name behind a clock, wherever both stand.
+// Returns whether a text has an event's name after a clock, wherever both are.
 fn has_event(text: &[u8]) -> bool
     ensures { result ≡ has_event text.now }
 {
@@ -91,8 +105,8 @@ fn has_event(text: &[u8]) -> bool
     has_name(is_firmware(text), text)
 }
 
-// Returns whether a text has the name of the firmware's detail behind its last ` (mc:`, or no
-// ` (mc:`.
+// Returns whether a text has the name of the firmware's detail after its last ` (mc:`, or no `
+// (mc:`.
 fn is_firmware(text: &[u8]) -> bool
     ensures { result ≡ is_firmware text.now }
 {
@@ -127,8 +141,8 @@ fn shows_clock(word: &[u8]) -> bool
     }
 }
 
-// Returns whether a word is an event's name and its colon; `mc_event:` only if the firmware's driver
-// made that event.
+// Returns whether a word is an event's name and its colon; `mc_event:` only if the firmware's
+// driver made the event.
 fn is_event_name(by_firmware: bool, word: &[u8]) -> bool
     ensures { result ≡ is_event_name by_firmware word.now }
 {
@@ -139,7 +153,7 @@ fn is_event_name(by_firmware: bool, word: &[u8]) -> bool
         || by_firmware && name == b"mc_event:".as_slice()
 }
 
-// Returns the place of the first colon before a space, if the word before the colon is what a
+// Returns the index of the first colon before a space, if the word before the colon is what a
 // tracer's clock shows.
 fn clock_place(line: &[u8]) -> Option<usize>
     ensures place { result ≡ clock_place line.now }
@@ -153,7 +167,7 @@ fn clock_place(line: &[u8]) -> Option<usize>
     }
 }
 
-// Returns the time stamp that a clock with its colon at this place shows.
+// Returns the time stamp that a clock with its colon at this index shows.
 fn stamp_at(place: usize, line: &[u8]) -> Option<u64>
     requires { place + 2 ≤ length line.now }
     ensures { result ≡ stamp_at place line.now }
@@ -161,7 +175,7 @@ fn stamp_at(place: usize, line: &[u8]) -> Option<u64>
     stamp_of(last_word(&line[..place + 1]))
 }
 
-// Returns the text behind a clock with its colon at this place, from the event's name on.
+// Returns the text after a clock with its colon at this index, from the event's name on.
 fn named_text(place: usize, line: &[u8]) -> &[u8]
     requires { place + 2 ≤ length line.now }
     ensures { result.now ≡ named_text place line.now }
@@ -173,7 +187,7 @@ fn named_text(place: usize, line: &[u8]) -> &[u8]
     }
 }
 
-// Returns which event a text behind a clock has, from the event's name on.
+// Returns which event a text after a clock has, from the event's name on.
 fn event_behind(stamp: Option<u64>, text: &[u8]) -> LineEvent
     ensures { result ≡ event_behind stamp text.now }
 {
@@ -186,7 +200,7 @@ fn event_behind(stamp: Option<u64>, text: &[u8]) -> LineEvent
     if let Some(told) = value_after(b"mc_event: ", text) {
         return controller_event(stamp, without_spaces(told));
     }
-    match value_after(b"extlog_mem_event: ", text) {
+    match value_after(EXTLOG_NAME, text) {
         Some(told) => found_memory(stamp, extlog_error(without_spaces(told))),
         None => LineEvent::Absent,
     }
@@ -205,8 +219,8 @@ fn controller_event(stamp: Option<u64>, text: &[u8]) -> LineEvent
     }
 }
 
-// Returns which event has this in its parentheses, if the driver's detail doesn't begin with the
-// name of the firmware's.
+// Returns which event has this text in its parentheses, if the driver's detail doesn't begin with
+// the name of the firmware's detail.
 fn other_event(controller: &[u8]) -> LineEvent
     ensures { result ≡ other_event controller.now }
 {

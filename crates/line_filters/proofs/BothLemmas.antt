@@ -1,4 +1,4 @@
--- The steps of a filter's call, if source and board tell.
+-- The steps of a filter's call, if source and board are modelled.
 use Rattle.std.proofs.Common.{◌≡◌, ℕ, Bool, true, false, List, [], Option, None, Some, IfSome, IsSomeAnd, Result, Ok, Err, refl, ◌∙◌, subst, inl, inr}
 use Rattle.std.specs.Prelude.{◌⊎◌, Contains}
 use Rattle.board_core.specs.Cause.{Faults}
@@ -25,11 +25,11 @@ abbrev pub AlongBoth : Filter → List ℕ → Told → Clock → Numbered → F
 AlongBoth whole script before old lines filter waiting left told new =
     IsSomeAnd left (λ rest. IsSomeAnd told (λ now. Along whole script before old lines filter waiting rest now new))
 
--- what a call for a line gave
+-- what a call for a line returned
 abbrev pub Gave : Result Bool Exit → Numbered → Numbered → Option (List ℕ) → Option (List ℕ) → Type 0
 Gave result lines new left later = IfSome left (λ before. IfSome later (λ rest. GivesNumbered result (lines_to_come lines.reader before) lines.number new.reader rest))
 
--- what it gave, by what was found of its answer
+-- what a call returned, in another form of its result
 pub gave_as : (result found : Result Bool Exit) (lines new : Numbered) (left later : Option (List ℕ)) → result ≡ found → Gave result lines new left later → Gave found lines new left later
 gave_as result found lines new left later is gave = subst (λ r. Gave r lines new left later) is gave
 
@@ -135,7 +135,7 @@ module _ (whole : Filter) (script : List ℕ) (before : Told) (a : Clock) (lines
       (ahead_next whole script before a lines filter waiting left t b along Held new rest given.took nothing free (λ held. same_left left rest (first held)) counts.bytes.ahead)
       counts.number gave takes stops))
 
-  -- none is given
+  -- no line is returned
   pub none_on : (left later : Option (List ℕ)) (told : Option Told) → AlongBoth whole script before a lines filter waiting left told b → (Held → later ≡ left) → Gave (Ok false) lines new left later → MovesLine {E = Exit} (Ok false) lines.reader new.reader left later
       → IsSomeAnd later (HasTaken script new.reader) → Counts (Ok false) lines new → GathersBoth whole script before a Done filter waiting new.reader later told b
   none_on None later told along first gave moves has counts = absurd along
@@ -148,7 +148,7 @@ module _ (whole : Filter) (script : List ℕ) (before : Told) (a : Clock) (lines
       (ahead_next whole script before a lines filter waiting left t b along Held new rest took nothing free (λ held. same_left left rest (first held)) counts.bytes.ahead)
       nothing gave refl)
 
-  -- or how their list ends isn't with the script
+  -- the list of lines ends, and not with the script
   pub failed_on : (exit : Exit) (left later : Option (List ℕ)) (told : Option Told) → AlongBoth whole script before a lines filter waiting left told b → (Held → later ≡ left) → Gave (Err exit) lines new left later
       → MovesLine {E = Exit} (Err exit) lines.reader new.reader left later → IsSomeAnd later (HasTaken script new.reader) → Counts (Err exit) lines new → IsNextExit exit
       → GathersBoth whole script before a exit filter waiting new.reader later told b
@@ -160,7 +160,7 @@ module _ (whole : Filter) (script : List ℕ) (before : Told) (a : Clock) (lines
       took : HasTaken script new.reader rest
       took = takes_on [] script lines.reader new.reader left rest moves along.given.took
 
-      -- it was read, so no line was held
+      -- a line was read, so the buffer had no line, and nothing waits
       nothing_waits : Lacks 10 new.reader.held → waiting ≡ []
       nothing_waits lacks = at free
         where

@@ -1,4 +1,4 @@
--- A call of a filter as a whole.
+-- A whole call of a filter.
 use Rattle.std.proofs.Common.{◌≡◌, ℕ, true, false, List, [], ◌++◌, Option, None, Some, IfSome, IsSomeAnd, Result, Ok, Err, refl, ap, sym, ◌∙◌, subst, append_assoc, append-nil, arith, inl, inr}
 use Rattle.board_core.specs.Cause.{Faults, print_call}
 use Rattle.board_core.specs.Clock.{Adds, Clock, Leads, Passes}
@@ -20,7 +20,7 @@ use Rattle.line_filters.specs.Steps.Filtering.{Ends, EndsBoth, LinesEnd, has_fai
 use Rattle.line_filters.proofs.MomentLemmas.{stops_more}
 use Rattle.line_filters.proofs.StepLemmas.{on_more}
 
--- what holds at an answer
+-- a statement about answers holds at an answer
 answer_holds : (exit : Exit) (P : Type 0) → IsAnswer exit → OnAnswer exit P → P
 answer_holds exit P answer holds = by (ending_of exit) answer holds
   where
@@ -28,11 +28,11 @@ answer_holds exit P answer holds = by (ending_of exit) answer holds
     by answered answer holds = holds
     by ending answer holds = absurd cc
 
--- ---- what is told
+-- ---- the model
 
 module _ (whole : Filter) (script : List ℕ) (before : Told) (exit : Exit) (filter : Filter) (reader : Reader) (rest : List ℕ) (mid : Told) (a b : Clock)
     (ends : LinesEnd whole script before a exit filter reader rest mid b) where
-  -- what an answer of the lines says
+  -- what is known if the lines end with an answer
   abbrev AtAnswer : Type 0
   AtAnswer = (exit ≡ filter_exit whole script) × (filter_output whole script ≡ ends.printed ++ closing_text filter [] exit) × Leads (InOut (Appends ends.printed)) a b
 
@@ -92,7 +92,7 @@ filters_on see whole script before a exit result filter reader (Some rest) x y e
     by None tells never = absurd never
     by (Some t) tells there = filters_end whole script before exit filter reader rest t a (see x).clock there see x y result tells says
 
--- ---- what stops leave
+-- ---- what crashes leave
 
 module _ {X : Type 0} (see : X → Seen) (whole : Filter) (script : List ℕ) (before : Told) (a : Clock) (exit result : Exit) (filter : Filter) (reader : Reader) (rest : List ℕ) (now : Told) (x y : X) (ends : LinesEnd whole script before a exit filter reader rest now (see x).clock) where
   abbrev whole_text : List ℕ
@@ -134,7 +134,7 @@ of_both P None later told now holds = tt
 of_both P (Some script) later None now holds = tt
 of_both P (Some script) later (Some t) now holds = holds script t refl refl
 
--- nothing was read or printed
+-- a call that read and printed nothing
 pub filters_nothing : (whole : Filter) (left : Option (List ℕ)) (told : Option Told) → whole.answers [] ≡ [] → OfBoth (Filters whole NoMemory) left left told told
 filters_nothing whole None told nothing = tt
 filters_nothing whole (Some script) None nothing = tt
@@ -176,7 +176,7 @@ takes_at see exit result text x y (Some script) (Some rest) ends takes = record 
   all = λ done. takes.all (done_before see exit result text x y ends done);
 }
 
--- a print that failed took nothing more
+-- a print that failed took no more of the source
 pub takes_fault : (fault found : Exit) (first left : Option (List ℕ)) → fault ≡ PrintFault → IfSome first (λ script. IsSomeAnd left (TakesOf found script)) → IfSome first (λ script. IsSomeAnd left (TakesOf fault script))
 takes_fault fault found None left is takes = tt
 takes_fault fault found (Some script) None is takes = absurd takes
@@ -187,7 +187,7 @@ takes_fault fault found (Some script) (Some rest) is takes = record {
   all = λ done. (let e = sym is ∙ done in absurd cc);
 }
 
--- ---- why the lines ended so
+-- ---- why the lines ended
 
 pub causes_of : (ended : Result (Unit {0}) Exit) (count count' : ℕ) (before now : Faults) → Causes {C = ℕ} SourceCause ended count count' × Causes {C = Faults} BoardCause ended before now
     → SourceCause (exit_of ended) count count' × BoardCause (exit_of ended) before now
@@ -198,7 +198,7 @@ pub causes_printed : (ended : Result (Unit {0}) Exit) (count count' : ℕ) (befo
     → SourceCause (exit_of ended) count count' × BoardCause (exit_of ended) before later
 causes_printed ended count count' before now later causes same = rw same (causes_of ended count count' before now causes)
 
--- no call had failed before the print did
+-- no call had failed before the print failed
 pub causes_unprinted : (ended : Result (Unit {0}) Exit) (count count' : ℕ) (before now later : Faults) → has_failed (exit_of ended) ≡ false → IsFilterExit (exit_of ended) → Causes {C = ℕ} SourceCause ended count count' × Causes {C = Faults} BoardCause ended before now
     → Raises print_call now later → SourceCause PrintFault count count' × BoardCause PrintFault before later
 causes_unprinted (Ok done) count count' before now later well filters causes raises = (causes.0, subst (λ f. Raises print_call f later) causes.1 raises)

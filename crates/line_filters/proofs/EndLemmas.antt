@@ -1,4 +1,4 @@
--- How the lines come to an end.
+-- How the lines end.
 use Rattle.std.proofs.Common.{◌≡◌, ℕ, suc, ◌+◌, ◌-◌, ◌≤◌, true, false, List, [], ◌∷◌, ◌++◌, length, take, ap, sym, ◌∙◌, subst, append_assoc, arith, inl, inr}
 use Rattle.std.specs.List.{flat_map}
 use Rattle.board_core.specs.Clock.{Clock, Leads, Passes}
@@ -20,7 +20,7 @@ use Rattle.line_filters.specs.Steps.Filtering.{Along, Gathers, IsTakeExit, Lines
 use Rattle.line_filters.proofs.MomentLemmas.{stops_more}
 use Rattle.line_filters.proofs.StepLemmas.{on_as, on_more, printed_all, said_more}
 
--- the list of the lines doesn't end with a fault of the source, and nor does a line
+-- neither the list of the lines nor a line ends with a fault of the source
 not_fault : (count : ℕ) (ending : Ending) → ending_exit count ending ≡ SourceFault → ⊥
 not_fault count script_ended is = absurd cc
 not_fault count line_too_long is = absurd cc
@@ -33,7 +33,7 @@ module _ (whole : Filter) (script : List ℕ) (before : Told) (a : Clock) (lines
   abbrev AtAnswer : Exit → Type 0
   AtAnswer exit = (exit ≡ filter_exit whole script) × (filter_output whole script ≡ (along.printed ++ waiting) ++ closing_text filter [] exit)
 
-  -- the call ends behind the lines, or before one that isn't given
+  -- the call ends after the lines, or before a line that isn't returned
   pub ends_here : (ending : Ending) (exit : Exit) (reader : Reader) (rest : List ℕ) (took : HasTaken script reader rest) → PrintsOn ⊥ whole script took.taken along.printed → filter.answers [] ≡ []
       → lines_to_come lines.reader left ≡ no_line ending → exit ≡ ending_exit lines.number ending → Waits whole script before a exit filter waiting reader rest now b
   ends_here ending exit reader rest took ahead nothing none is =
@@ -55,7 +55,7 @@ module _ (whole : Filter) (script : List ℕ) (before : Told) (a : Clock) (lines
         );
       }
 
-  -- the source failed, while nothing waited
+  -- the source failed while nothing waited
   pub failed_here : (reader : Reader) (rest : List ℕ) (took : HasTaken script reader rest) → filter.answers [] ≡ [] → waiting ≡ [] → length lines.reader.held + (reader.taken - lines.reader.taken) ≤ LONGEST_LINE + 1 → line_feeds took.taken ≤ length along.done
       → Waits whole script before a SourceFault filter waiting reader rest now b
   failed_here reader rest took nothing none few feeds = record {
@@ -98,7 +98,7 @@ module _ (whole : Filter) (script : List ℕ) (before : Told) (a : Clock) (lines
         );
       })
 
-  -- what waits couldn't be printed
+  -- the waiting texts couldn't be printed
   pub unprinted_here : (part missing : List ℕ) (c : Clock) → part ++ missing ≡ waiting → Passes (InOut (Begins waiting)) b c → LinesEnd whole script before a PrintFault filter lines.reader left (after_print part now) c
   unprinted_here part missing c splits passes =
       let later : List ℕ = along.said.begins.0 in

@@ -1,4 +1,4 @@
--- Inputs are taken one after another, and their texts wait or are printed.
+-- Inputs are taken one after another; their texts wait or are printed.
 use Rattle.std.proofs.Common.{◌≡◌, ℕ, Bool, true, false, List, [], ◌∷◌, ◌++◌, length, Some, Result, Ok, Err, refl, ap, sym, ◌∙◌, subst, append_assoc, append-nil, length-append, arith, inl, inr}
 use Rattle.std.specs.Prelude.{◌⊎◌}
 use Rattle.std.proofs.lemmas.Grind.{flat_map-append}
@@ -47,7 +47,7 @@ ahead_more feed taken printed part on = record {
   few = on.few;
 }
 
--- at the start
+-- the start of a call
 pub fed_none : (whole : Feed) (script : List ℕ) (t : Told) (clock : Clock) → whole.texts [] ≡ [] → Fed whole script t clock no_inputs whole [] script t clock
 fed_none whole script t clock nothing = record {
   done = [];
@@ -85,13 +85,13 @@ module _ (whole : Feed) (script : List ℕ) (before : Told) (a : Clock) (buffer 
       ∙ append_assoc (texts_joined fed.texts) (texts_joined (feed.texts come.whole)) last
       ∙ ap (λ (text : List ℕ). text ++ later) fed.all
 
-  -- the same, with a part that waits and the text after it
+  -- the whole text, with a part that waits and the text after this part
   parts_of : (w text : List ℕ) (fed : Fed whole script before a buffer feed (w ++ text) left now b) → fed.printed ++ (w ++ (text ++ later)) ≡ whole_text
   parts_of w text fed =
       ap (λ (out : List ℕ). fed.printed ++ out) (sym (append_assoc w text later)) ∙ sym (append_assoc fed.printed (w ++ text) later)
       ∙ sym (output_of (w ++ text) fed)
 
-  -- the texts of what was read, whose rest ends no input
+  -- the texts of the bytes that were read, the last of which end no input
   texts_read : (waiting more : List ℕ) (fed : Fed whole script before a buffer feed waiting left now b) → feed.texts [] ≡ [] → (inputs_behind buffer.dropping more).whole ≡ []
       → texts_joined (whole.texts (inputs_of (fed.done ++ more)).whole) ≡ fed.printed ++ waiting
   texts_read waiting more fed nothing none =
@@ -102,7 +102,7 @@ module _ (whole : Feed) (script : List ℕ) (before : Told) (a : Clock) (buffer 
       ∙ ap (λ (texts : List (List ℕ)). texts_joined texts) (append-nil fed.texts)
       ∙ fed.all
 
-  -- a part of what waits was printed
+  -- a part of the waiting texts was printed
   pub fed_printed : (w text : List ℕ) (c : Clock) → Fed whole script before a buffer feed (w ++ text) left now b → Passes (InOut (Begins w)) b c → Leads (InOut (Appends w)) b c
       → Fed whole script before a buffer feed text left (after_print w now) c
   fed_printed w text c fed passes leads = record {
@@ -121,7 +121,7 @@ module _ (whole : Feed) (script : List ℕ) (before : Told) (a : Clock) (buffer 
     ahead = ahead_more whole (fed.done ++ buffer.held) fed.printed w fed.ahead;
   }
 
-  -- or printing it failed
+  -- printing a part of the waiting texts failed
   pub fed_unprinted : (w text part missing : List ℕ) (other : Feed) (rest : List ℕ) (c : Clock) → Fed whole script before a buffer feed (w ++ text) left now b → part ++ missing ≡ w → Passes (InOut (Begins w)) b c
       → FeedEnds whole script before a (Err PrintFault) other rest left (after_print part now) c
   fed_unprinted w text part missing other rest c fed splits passes = record {
@@ -156,7 +156,7 @@ module _ (whole : Feed) (script : List ℕ) (before : Told) (a : Clock) (buffer 
       ∙ ap (λ (text : List ℕ). fed.done ++ text) (append_assoc buffer.held moves.bytes rest ∙ ap (λ (text : List ℕ). buffer.held ++ text) (sym taken))
       ∙ sym (append_assoc fed.done buffer.held left) ∙ fed.splits
 
-  -- It was asked for an input, while nothing waited or it had a line feed and read nothing.
+  -- The reader was asked for an input while nothing waited, or while it had a line feed and so read nothing.
   pub ahead_next : (Held : Type 0) (waiting given : List ℕ) (new : InputBuffer) (rest : List ℕ) (fed : Fed whole script before a buffer feed waiting left now b) → feed.texts [] ≡ [] → (waiting ≡ []) ⊎ Held → (Held → rest ≡ left)
       → MovesPast given buffer new (Some left) (Some rest) → FeedsOn whole ((fed.done ++ given) ++ new.held) fed.printed
   ahead_next Held waiting given new rest fed nothing (inl none) same moves = record {
@@ -179,7 +179,7 @@ module _ (whole : Feed) (script : List ℕ) (before : Told) (a : Clock) (buffer 
       ∙ ap (λ (text : List ℕ). fed.done ++ text) (append-nil buffer.held) in
       subst (λ (text : List ℕ). FeedsOn whole text fed.printed) (sym is) fed.ahead
 
-  -- inputs came, and their texts wait
+  -- inputs were read, and their texts wait
   fed_goes : (waiting given : List ℕ) (new : InputBuffer) (rest : List ℕ) (after : Feed) (inputs : List Input) (texts : List (List ℕ)) (text : List ℕ) (fed : Fed whole script before a buffer feed waiting left now b)
       → MovesPast given buffer new (Some left) (Some rest)
       → ((more : List ℕ) → inputs_behind buffer.dropping (given ++ more) ≡ with_inputs inputs (inputs_behind new.dropping more))
@@ -274,7 +274,7 @@ module _ (whole : Feed) (script : List ℕ) (before : Told) (a : Clock) (buffer 
           ends_at (Err NoMemory) other waiting [] ((ended.done ++ given) ++ new.held) rest ended (splits_on (waiting ++ []) given new rest ended moved)
           (ahead_next Held (waiting ++ []) given new rest ended nothing free_nil same moved) (λ cut is. absurd cc) (λ is. absurd cc)
 
-  -- the source failed, while nothing waited
+  -- the source failed while nothing waited
   pub fed_source : (other : Feed) (waiting : List ℕ) (new : InputBuffer) (rest : List ℕ) → Fed whole script before a buffer feed waiting left now b → feed.texts [] ≡ [] → waiting ≡ [] → MovesPast [] buffer new (Some left) (Some rest)
       → Lacks 10 new.held → new.dropping ≡ buffer.dropping → FeedEnds whole script before a (Err SourceFault) other waiting rest now b
   fed_source other waiting new rest fed nothing none moves lacks same =
@@ -289,7 +289,7 @@ module _ (whole : Feed) (script : List ℕ) (before : Told) (a : Clock) (buffer 
       ∙ texts_read (waiting ++ []) new.held ended nothing ends_none
       ∙ ap (λ (text : List ℕ). ended.printed ++ text) empty ∙ append-nil ended.printed))
 
-  -- the source came to its end
+  -- the source ended
   pub fed_ends : (cut : Bool) (Held : Type 0) (waiting : List ℕ) (new : InputBuffer) (rest : List ℕ) → Fed whole script before a buffer feed waiting left now b → feed.texts [] ≡ [] → (waiting ≡ []) ⊎ Held → (Held → rest ≡ left)
       → MovesInput (Ok (End cut)) buffer new (Some left) (Some rest) → FeedEnds whole script before a (Ok cut) feed waiting rest now b
   fed_ends cut Held waiting new rest fed nothing free same moves =

@@ -26,7 +26,7 @@ use Rattle.line_filters.proofs.StepLemmas.{print-both}
 
 -- ---- printing
 
--- no text was printed
+-- printing no text changes nothing
 printed_nothing : {X : Type 0} (see : X → Seen) (x : X) → Printed see [] x x
 printed_nothing see x = record {
   told = by (see x).told;
@@ -38,7 +38,7 @@ printed_nothing see x = record {
     by None = refl
     by (Some t) = ap (λ (out : List ℕ). Some (record t { here = record t.here { out = out } })) (sym (append-nil t.here.out))
 
--- what waits was printed, since it may not wait
+-- the waiting texts were printed, since they may not wait
 pub printed_all : {X : Type 0} (see : X → Seen) (Held : Type 0) (text rest : List ℕ) (x y : X) → (Held → ⊥) → PrintsWaiting see (Ok tt) Held text rest x y → Printed see text x y
 printed_all see Held text rest x y never (inl (none, printed)) = printed
 printed_all see Held text rest x y never (inr (same, stays, inl none)) = rw (none, stays) (printed_nothing see x)
@@ -46,7 +46,7 @@ printed_all see Held text rest x y never (inr (same, stays, inr held)) = absurd 
 
 -- ---- what a step came past
 
--- a source that is modelled stays so
+-- a modelled source stays modelled
 stays_known : (result : Result InputStep Failed) (old new : InputBuffer) (left : List ℕ) → MovesInput result old new (Some left) None → ⊥
 stays_known (Ok Line) old new left moves = absurd moves.0.taken
 stays_known (Ok Long) old new left (part, moves, lacks, was, next) = absurd moves.taken
@@ -61,7 +61,7 @@ pub fed_start : (whole : Feed) (script : List ℕ) (t : Told) (buffer : InputBuf
 fed_start whole script t buffer waiting left told clock fresh nothing none is tells = rw (is, tells, none, fresh) (fed_none whole script t clock nothing)
 
 module _ (whole : Feed) (script : List ℕ) (before : Told) (a : Clock) (buffer : InputBuffer) (feed : Feed) where
-  -- ---- what waits is printed, or may wait
+  -- ---- the waiting texts are printed, or may wait
 
   module _ {X : Type 0} (see : X → Seen) (w text rest : List ℕ) (Held : Type 0) (x y : X) where
     pub wait_on : (left : Option (List ℕ)) → FedBoth whole script before a buffer feed (w ++ text) left (see x).told (see x).clock → PrintsWaiting see (Ok tt) Held w rest x y
@@ -151,7 +151,7 @@ module _ (whole : Feed) (script : List ℕ) (before : Told) (a : Clock) (buffer 
   stop_on other w text (Some left) None b fed = absurd fed
   stop_on other w text (Some left) (Some t) b fed = fed_stop whole script before a buffer feed left t b other w text fed
 
--- what waits was printed, or the source isn't read yet
+-- the waiting texts were printed, or the source isn't read yet
 pub free_of : {X : Type 0} (see : X → Seen) (Held : Type 0) (text rest : List ℕ) (x y : X) → PrintsWaiting see (Ok tt) Held text rest x y → (rest ≡ []) ⊎ Held
 free_of see Held text rest x y (inl (none, printed)) = inl none
 free_of see Held text rest x y (inr (same, stays, inl none)) = inl (same ∙ none)

@@ -1,4 +1,4 @@
--- A call of a filter over an input of any length as a whole.
+-- A whole call of a filter over an input of any length.
 use Rattle.std.proofs.Common.{◌≡◌, ℕ, Bool, List, [], ◌++◌, Option, None, Some, IsSomeAnd, Ok, Err, refl, ap, sym, ◌∙◌, subst, append_assoc, append-nil, arith, inl, inr}
 use Rattle.board_core.specs.Clock.{Adds, Clock, Passes}
 use Rattle.board_core.specs.Doing.{Seen}
@@ -21,7 +21,7 @@ use Rattle.line_filters.proofs.MomentLemmas.{stops_more}
 use Rattle.line_filters.proofs.FedLemmas.{ahead_more}
 use Rattle.line_filters.proofs.StepLemmas.{print-both}
 
--- ---- what is told
+-- ---- the model
 
 module _ (whole : Feed) (script : List ℕ) (before : Told) where
   abbrev output : List ℕ
@@ -43,14 +43,14 @@ module _ (whole : Feed) (script : List ℕ) (before : Told) where
   })
 
   module _ (a : Clock) (feed : Feed) (left : List ℕ) (mid : Told) (b : Clock) where
-    -- the inputs didn't come to their end
+    -- the inputs didn't end
     feeds_err : (exit : Exit) → IsFeedStop exit → FeedEnds whole script before a (Err exit) feed [] left mid b → Feeds whole exit script left before mid
     feeds_err SourceFault is ends = feeds_made SourceFault ends.printed ends.taken left mid ends.is ends.begins tt tt ends.splits ends.ahead (λ e. absurd cc) (λ e. ends.read refl)
     feeds_err PrintFault is ends = feeds_made PrintFault ends.printed ends.taken left mid ends.is ends.begins tt tt ends.splits ends.ahead (λ e. absurd cc) (λ e. absurd cc)
     feeds_err NoMemory is ends = feeds_made NoMemory ends.printed ends.taken left mid ends.is ends.begins tt tt ends.splits ends.ahead (λ e. absurd cc) (λ e. absurd cc)
     feeds_err exit is ends = absurd is
 
-    -- they did, and the last text was printed or not
+    -- the inputs ended, and the last text was printed or not
     last_output : (cut : Bool) (ends : FeedEnds whole script before a (Ok cut) feed [] left mid b) → output ≡ ends.printed ++ feed.last [] cut
     last_output cut ends = (ends.done cut refl).0 ∙ ap (λ (text : List ℕ). text ++ feed.last [] cut) (append-nil ends.printed)
 
@@ -128,7 +128,7 @@ stops_feeding feed None told a b holds = tt
 stops_feeding feed (Some script) None a b holds = tt
 stops_feeding feed (Some script) (Some t) a b holds = holds script t refl refl
 
--- nothing was read or printed
+-- a call that read and printed nothing
 pub feeds_nothing : (whole : Feed) (left : Option (List ℕ)) (told : Option Told) → whole.texts [] ≡ [] → OfBoth (Feeds whole NoMemory) left left told told
 feeds_nothing whole None told nothing = tt
 feeds_nothing whole (Some script) None nothing = tt
@@ -138,7 +138,7 @@ feeds_nothing whole (Some script) (Some t) nothing =
     (record { front = []; more = []; text = sym (ap (λ (texts : List (List ℕ)). texts_joined texts ++ []) nothing); rest = []; splits = refl; few = omega arith })
     (λ e. absurd cc) (λ e. absurd cc)
 
--- ---- why it ended so
+-- ---- why the call ended
 
 pub stop_is_exit : (exit : Exit) → IsFeedStop exit → IsFeedExit exit
 stop_is_exit SourceFault is = tt
@@ -146,7 +146,7 @@ stop_is_exit PrintFault is = tt
 stop_is_exit NoMemory is = tt
 stop_is_exit exit is = absurd is
 
--- the last text was printed or not, which doesn't read the source
+-- the last text was printed or not, and the source wasn't read
 pub said_source : {X : Type 0} (see : X → Seen) (result : Exit) (text : List ℕ) (x y : X) (count count' : ℕ) → Says see Done result text x y → count' ≡ count → SourceCause result count count'
 said_source see result text x y count count' (inl (is, says)) same = rw is same
 said_source see result text x y count count' (inr (inl (is, fails))) same = rw is same

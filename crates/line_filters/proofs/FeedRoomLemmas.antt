@@ -1,4 +1,4 @@
--- What waits and the next text, and when the source is read.
+-- Whether the waiting texts leave room for the next text, and when the source is read.
 use Rattle.std.proofs.Common.{◌≡◌, ℕ, ◌+◌, ◌≤◌, Bool, true, IsTrue, ◌↔◌, List, [], length, Ok, ap, arith, inl, inr}
 use Rattle.std.specs.Prelude.{◌⊎◌, Contains}
 use Rattle.board_core.specs.Doing.{Seen}
@@ -21,7 +21,7 @@ pub free_line : (found : Bool) (held waiting : List ℕ) → (IsTrue found ↔ C
 free_line found held waiting means (inl none) = inl none
 free_line found held waiting means (inr is) = inr (means.0 is)
 
--- one call can print what waits with the next text
+-- one call can print the waiting texts and the next text
 pub room : {X : Type 0} (see : X → Seen) (Held : Type 0) (w rest text : List ℕ) (x y : X) → PrintsWaiting see (Ok tt) Held w rest x y → (Held → length w + length text ≤ MOST_AT_ONCE) → length text ≤ MOST_AT_ONCE
     → length rest + length text ≤ MOST_AT_ONCE
 room see Held w rest text x y (inl (none, printed)) fits short = omega (arith, ap length none)

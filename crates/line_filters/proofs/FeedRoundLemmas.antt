@@ -1,5 +1,5 @@
--- A round of a filter's call over an input of any length: what waits is printed, or may wait, and then the reader goes
--- on.
+-- A round of a filter's call over an input of any length: the waiting texts are printed, or may wait, and then the
+-- reader goes on.
 use Rattle.std.proofs.Common.{◌≡◌, ℕ, Bool, true, IsTrue, ◌↔◌, List, [], ◌++◌, Option, Ok, Err}
 use Rattle.std.specs.Prelude.{◌⊎◌, Contains}
 use Rattle.board_core.specs.Clock.{Clock}

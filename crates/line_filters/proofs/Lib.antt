@@ -11,3 +11,4 @@ pub mod FeedBothLemmas
 pub mod FeedCallLemmas
 pub mod FeedRoomLemmas
 pub mod FeedRoundLemmas
+pub mod LeftLemmas

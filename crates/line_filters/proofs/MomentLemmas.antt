@@ -1,4 +1,4 @@
--- What stops leave of texts that are printed one after another, each a part of one text.
+-- What crashes leave while parts of a text are printed one after another.
 use Rattle.std.proofs.Common.{◌≡◌, ℕ, List, [], ◌++◌, sym, ap, ◌∙◌, refl, append_assoc, append-nil}
 use Rattle.board_core.specs.Clock.{Adds, After, Clock, Leads, Passes}
 use Rattle.board_core.specs.Steps.ClockLemmas.{adds_after, adds_both}
@@ -22,7 +22,7 @@ leads_more one two a b c first second left now =
       };
     }
 
--- A beginning of a part behind what was printed is a beginning of the whole.
+-- What was printed, with a beginning of the next part, is a beginning of the whole text.
 pub begun_more : (whole one text later : List ℕ) (a b : Clock) → one ++ (text ++ later) ≡ whole → Leads (InOut (Appends one)) a b → (left : Left) → After b (InOut (Begins text)) left → PrintMoment a whole left
 begun_more whole one text later a b is first left after =
     let before : After a (InOut (Appends one)) after.from = first after.from after.was in

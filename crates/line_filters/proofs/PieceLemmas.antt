@@ -1,4 +1,4 @@
--- How texts are gathered.
+-- How texts are gathered into pieces.
 use Rattle.std.proofs.Common.{◌≡◌, ℕ, ◌+◌, ◌≤◌, Bool, true, false, nat_lt, List, [], ◌∷◌, ◌++◌, length, refl, ap, ◌∙◌, arith, append_assoc, length-append, if◌then◌else◌}
 use Rattle.std.proofs.lemmas.Bool.Decides.{nat_tests}
 use Rattle.line_filters.specs.declared.feeding.TheConstants.{MOST_AT_ONCE}

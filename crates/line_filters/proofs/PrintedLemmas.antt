@@ -1,4 +1,4 @@
--- A text of a filter is printed, or printing it failed.
+-- A filter's text is printed, or printing it failed.
 use Rattle.std.proofs.Common.{◌≡◌, ℕ, ◌==◌, true, List, [], ◌∷◌, length, Result, Ok, Err, inl, inr, refl, arith}
 use Rattle.std.specs.Prelude.{◌⊎◌}
 use Rattle.std.proofs.lemmas.Bool.Decides.{nat_tests}

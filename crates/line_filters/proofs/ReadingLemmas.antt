@@ -1,4 +1,4 @@
--- What a reader took of a script, over its calls, and which lines it gave.
+-- What a reader took of a script, call by call, and which lines it returned.
 use Rattle.std.proofs.Common.{◌≡◌, ℕ, ◌+◌, ◌≤◌, ◌==◌, Bool, true, false, List, [], ◌∷◌, ◌++◌, length, filter, Option, None, Some, IfSome, IsSomeAnd, Result, Ok, Err, refl, ap, sym, ◌∙◌, append_assoc, append-nil, length-append, arith, inl, inr}
 use Rattle.std.proofs.lemmas.Bool.Decides.{nat_tests}
 use Rattle.std.proofs.lemmas.Grind.{flat_map-append}
@@ -43,7 +43,7 @@ moves_of (Ok true) old new before now (inr moved) = (new.line, moved.0)
 moves_of (Ok false) old new before now moved = ([], moved.0)
 moves_of (Err why) old new before now moved = ([], moved)
 
--- a source that tells goes on to tell
+-- a modelled source stays modelled
 pub takes_more : (result : Result Bool Exit) (script : List ℕ) (old new : Reader) (before now : Option (List ℕ)) → MovesLine result old new before now → IsSomeAnd before (HasTaken script old) → IsSomeAnd now (HasTaken script new)
 takes_more result script old new None now moves has = absurd has
 takes_more result script old new (Some left) None moves has = absurd ((moves_of result old new (Some left) None moves).1.taken)
@@ -54,7 +54,7 @@ takes_more result script old new (Some left) (Some rest) moves has =
 pub takes_none : (script : List ℕ) (reader : Reader) (left : Option (List ℕ)) → reader ≡ no_lines.reader → left ≡ Some script → IsSomeAnd left (HasTaken script reader)
 takes_none script reader left fresh is = rw (is, fresh) (record { taken = []; splits = refl; count = refl })
 
--- a call that ends so took that much
+-- what a call took of its source, by its reader's counts
 pub takes_of : (exit : Exit) (script : List ℕ) (reader : Reader) (left : Option (List ℕ)) → reader.taken ≤ LONGEST_SCRIPT + 1 → (exit ≡ Done → IfSome left (λ rest. rest ≡ [])) → IsSomeAnd left (HasTaken script reader) → IsSomeAnd left (TakesOf exit script)
 takes_of exit script reader None few all has = absurd has
 takes_of exit script reader (Some rest) few all has = record {
@@ -72,7 +72,7 @@ given_by given old new before now moved =
     let count = moved.count in
     omega arith
 
--- where none is given
+-- a call that returns no line changes no count
 pub given_same : (old new : Reader) (before now : Option (List ℕ)) → Moves [] old new before now → given_count new ≡ given_count old
 given_same old new before now moved =
     let kept : length old.held + length moved.bytes ≡ length new.held = sym (length-append old.held moved.bytes) ∙ ap length moved.kept in
@@ -121,7 +121,8 @@ given_on script lines new left rest done has (inl moved) line number come =
 given_on script lines new left rest done has (inr moved) line number come =
     given_so script lines new left rest done has new.reader.line moved.0 (omega arith) (let none = no_feeds new.reader.line line.0 in omega arith) number come
 
--- none was given, and no line feed is held: so each that was taken belongs to a line that was given
+-- If no line is returned and the buffer has no line feed, each line feed that was taken belongs to a line that was
+-- returned.
 pub feeds_given : (script : List ℕ) (lines new : Numbered) (left rest : List ℕ) (done : List (List ℕ)) (has : HasGiven script lines left done) (moved : Moves [] lines.reader new.reader (Some left) (Some rest)) → Lacks 10 new.reader.held
     → line_feeds (takes_on [] script lines.reader new.reader left rest moved has.took).taken ≤ length done
 feeds_given script lines new left rest done has moved lacks =

@@ -1,4 +1,4 @@
--- Lines are taken one after another, and their texts wait or are printed.
+-- Lines are taken one after another; their texts wait or are printed.
 use Rattle.std.proofs.Common.{◌≡◌, ℕ, suc, ◌+◌, ◌-◌, ◌≤◌, List, [], ◌∷◌, ◌++◌, length, map, take, Ok, refl, ap, sym, ◌∙◌, append_assoc, append-nil, length-append, arith, inl, inr}
 use Rattle.std.specs.Prelude.{◌⊎◌}
 use Rattle.std.specs.List.{flat_map}
@@ -62,7 +62,7 @@ said_none text t clock = record {
   leads = leads_none clock;
 }
 
--- what waited was printed
+-- the waiting texts were printed
 pub said_more : (text : List ℕ) (before : Told) (a : Clock) (printed waiting : List ℕ) (now : Told) (b c : Clock) → Said text before a printed waiting now b → Passes (InOut (Begins waiting)) b c → Leads (InOut (Appends waiting)) b c
     → Said text before a (printed ++ waiting) [] (after_print waiting now) c
 said_more text before a printed waiting now b c said passes leads = record {
@@ -72,7 +72,7 @@ said_more text before a printed waiting now b c said passes leads = record {
   leads = leads_more printed waiting a b c said.leads leads;
 }
 
--- something else waits
+-- another text waits
 said_as : (text : List ℕ) (before : Told) (a : Clock) (printed waiting other : List ℕ) (now : Told) (b : Clock) → Said text before a printed waiting now b → IsPrefixOf (printed ++ other) text → Said text before a printed other now b
 said_as text before a printed waiting other now b said begins = record { is = said.is; begins = begins; stops = said.stops; leads = said.leads }
 
@@ -117,7 +117,7 @@ on_taken filter script taken other printed few on = record {
 -- ---- the steps
 
 module _ (whole : Filter) (script : List ℕ) (before : Told) (a : Clock) (lines : Numbered) (filter : Filter) (waiting left : List ℕ) (now : Told) (b : Clock) (along : Along whole script before a lines filter waiting left now b) where
-  -- Nothing waits, so the texts of all lines are printed.
+  -- If nothing waits, the texts of all lines are printed.
   pub printed_all : (Failed : Type 0) → filter.answers [] ≡ [] → waiting ≡ [] → (taken : List ℕ) → length taken ≤ given_count lines.reader + (LONGEST_LINE + 1) → (Failed → line_feeds taken ≤ length along.done)
       → PrintsOn Failed whole script taken along.printed
   printed_all Failed nothing none taken few all = record {
@@ -131,7 +131,7 @@ module _ (whole : Filter) (script : List ℕ) (before : Told) (a : Clock) (lines
     all = all;
   }
 
-  -- what waits was printed
+  -- the waiting texts were printed, while lines are taken
   pub along_printed : (c : Clock) → Passes (InOut (Begins waiting)) b c → Leads (InOut (Appends waiting)) b c → Along whole script before a lines filter [] left (after_print waiting now) c
   along_printed c passes leads = record {
     done = along.done;
@@ -146,7 +146,7 @@ module _ (whole : Filter) (script : List ℕ) (before : Told) (a : Clock) (lines
     ahead = on_more ⊥ ⊥ whole script along.given.took.taken along.printed waiting (λ never. never) along.ahead;
   }
 
-  -- The reader was asked for a line, while nothing waited or it held one.
+  -- The reader was asked for a line while nothing waited, or while its buffer had a line.
   pub ahead_next : (Held : Type 0) (new : Numbered) (rest : List ℕ) (took : HasTaken script new.reader rest) → filter.answers [] ≡ [] → (waiting ≡ []) ⊎ Held → (Held → rest ≡ left) → length lines.reader.held + (new.reader.taken - lines.reader.taken) ≤ LONGEST_LINE + 1
       → PrintsOn ⊥ whole script took.taken along.printed
   ahead_next Held new rest took nothing (inl none) same few = printed_all ⊥ nothing none took.taken (let count = took.count in omega arith) (λ never. absurd never)
@@ -194,7 +194,7 @@ module _ (whole : Filter) (script : List ℕ) (before : Told) (a : Clock) (lines
         ahead = ahead;
       }
 
--- at the start
+-- the start of a call
 pub along_none : (whole : Filter) (script : List ℕ) (t : Told) (lines : Numbered) (clock : Clock) → lines ≡ no_lines → whole.answers [] ≡ [] → Along whole script t clock lines whole [] script t clock
 along_none whole script t lines clock fresh nothing = rw fresh (record {
   done = [];

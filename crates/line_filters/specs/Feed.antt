@@ -6,23 +6,23 @@ use Rattle.line_filters.specs.declared.feeding.TheConstants.{MOST_AT_ONCE}
 use Rattle.line_filters.specs.declared.input_filter.InputLine.{InputLine}
 use Rattle.line_filters.specs.declared.input_filter.InputLine.TheVariants.{Line, Long}
 
--- What a filter prints for the inputs to come: the text of each, and the text at their end, which also depends on
--- whether bytes stand after the last line feed. No input is refused.
+-- What a filter prints for its next inputs: the text of each, and the text at their end, which also depends on
+-- whether bytes come after the last line feed. No input is rejected.
 pub record Feed : Type 0 where
   pub texts : List Input → List (List ℕ)
   pub last : List Input → Bool → List ℕ
 
--- the input that a filter is given
+-- the input given to a filter
 abbrev pub input_in : InputLine → Input
 input_in (Line bytes) = line bytes.now
 input_in Long = long
 
--- a line has no more bytes than a line may have
+-- An input's line has at most as many bytes as a line may have.
 abbrev pub IsShortInput : Input → Type 0
 IsShortInput (line bytes) = length bytes ≤ LONGEST_LINE
 IsShortInput long = ⊤
 
--- An input was taken and its text appended, which one call can print: the filter goes on with the inputs after it.
+-- An input was taken, and its text appended, which one call can print: the filter goes on with the inputs after it.
 pub record TookInput (input : Input) (before after : Feed) (old new : List ℕ) : Type 0 where
   pub text : List ℕ
   pub out : new ≡ old ++ text

@@ -16,7 +16,7 @@ feed_output feed input =
     let inputs = inputs_of input in
     texts_joined (feed.texts inputs.whole) ++ feed.last inputs.whole inputs.cut
 
--- How far an input was read when this was printed: no text of a line waits while its source is read.
+-- How far an input was read when this text was printed: no line's text waits while the source is read.
 pub record FeedsOn (feed : Feed) (taken printed : List ℕ) : Type 0 where
   -- The texts of all lines in the front of what was taken are printed,
   pub front : List ℕ
@@ -27,7 +27,7 @@ pub record FeedsOn (feed : Feed) (taken printed : List ℕ) : Type 0 where
   pub splits : front ++ rest ≡ taken
   pub few : length rest ≤ LONGEST_LINE + 1
 
--- What a call of a filter prints for an input of which these bytes are left, and how it ends. In the model only the
+-- What a filter's call prints for an input, of which `left` isn't read, and how the call ends. In the model only the
 -- printed text changes.
 pub record Feeds (feed : Feed) (result : Exit) (input left : List ℕ) (before now : Told) : Type 0 where
   pub tells : Tells Done (feed_output feed input) result before now
@@ -37,18 +37,24 @@ pub record Feeds (feed : Feed) (result : Exit) (input left : List ℕ) (before n
   pub printed : List ℕ
   pub text : now.here.out ≡ before.here.out ++ printed
   pub ahead : FeedsOn feed taken printed
-  -- If the call is done, all was read.
+  -- If the call succeeds, the whole input was read.
   pub all : result ≡ Done → left ≡ []
   -- If the source failed, the texts of all lines that were read are printed.
   pub read : result ≡ SourceFault → printed ≡ texts_joined (feed.texts (inputs_of taken).whole)
 
--- Whatever a crash during a call leaves, it differs only by a beginning of what is printed for the input. Says nothing
--- of a source or a board that isn't modelled.
+-- What is read of an input, of which these bytes are left: a beginning of it, and all of it if the call is done.
+pub record TakesInput (result : Exit) (input left : List ℕ) : Type 0 where
+  pub taken : List ℕ
+  pub splits : taken ++ left ≡ input
+  pub all : result ≡ Done → left ≡ []
+
+-- A crash during a call leaves, as its only new text, a beginning of what is printed for the input. Says nothing of a
+-- source or a board that isn't modelled.
 abbrev pub StopsFeeding : Feed → Option (List ℕ) → Option Told → Clock → Clock → Type 0
 StopsFeeding feed (Some input) (Some before) old new = Adds (PrintMoment old (feed_output feed input)) old new
 StopsFeeding feed input before old new = ⊤
 
--- the exits of a filter's call
+-- how a filter's call may end
 abbrev pub IsFeedExit : Exit → Type 0
 IsFeedExit Done = ⊤
 IsFeedExit SourceFault = ⊤

@@ -1,4 +1,4 @@
--- The lines of a source, each with its number, and how a call ends that takes them.
+-- The lines of a source, each with its number, and how a call ends that takes these lines.
 use Rattle.std.specs.Prelude.{◌≡◌, ℕ, ◌+◌, Bool, true, false, List, [], Result, Ok, Err, IfErr, ⊤}
 use Rattle.ras_script.specs.Lines.{Ending, Lines, no_line, script_ended, with_line}
 use Rattle.ras_script.specs.Reader.{Advances, Reader, lines_to_come}
@@ -12,12 +12,12 @@ pub record Numbered : Type 0 where
   pub reader : Reader
   pub number : ℕ
 
--- before the first line
+-- the state before the first line
 abbrev pub no_lines : Numbered
 no_lines = record { reader = record { line = []; held = []; taken = 0 }; number = 0 }
 
--- What a call returns of the lines to come, after that many: the next line, or no line, because the script ended or
--- their list ends otherwise. A source that fails takes none of them away.
+-- What a call returns of the lines to come, after `number` lines: the next line; or no line, because the script ended
+-- or the list of its lines ends otherwise. A source that fails takes no line away.
 abbrev pub GivesNumbered : Result Bool Exit → Lines → ℕ → Reader → List ℕ → Type 0
 GivesNumbered (Ok true) lines number reader left =
     lines ≡ with_line reader.line (lines_to_come reader left)
@@ -26,7 +26,7 @@ GivesNumbered (Err SourceFault) lines number reader left = lines ≡ lines_to_co
 GivesNumbered (Err exit) lines number reader left =
     (ending : Ending) × (lines ≡ no_line ending) × (exit ≡ ending_exit number ending)
 
--- how many lines were returned after a call
+-- how many lines were returned, after one more call
 abbrev pub number_after : Result Bool Exit → ℕ → ℕ
 number_after (Ok true) number = number + 1
 number_after result number = number
@@ -36,14 +36,14 @@ pub record Counts (result : Result Bool Exit) (old new : Numbered) : Type 0 wher
   pub number : new.number ≡ number_after result old.number
   pub bytes : Advances (result ≡ Ok true) (result ≡ Err SourceFault) old.reader new.reader
 
--- how a list of lines ends a call, except at the script's end
+-- how the list of lines may end a call, except at the script's end
 abbrev pub IsNextExit : Exit → Type 0
 IsNextExit (BadLine line reason) = ⊤
 IsNextExit SourceFault = ⊤
 IsNextExit TooLong = ⊤
 IsNextExit exit = ⊥
 
--- how a call ends over every source, and why
+-- how a call ends over any source, and why
 pub record EndsNext (result : Result Bool Exit) (count count' : ℕ) : Type 0 where
   pub exits : IfErr result IsNextExit
   pub source : Causes SourceCause result count count'

@@ -3,11 +3,11 @@ use Rattle.std.specs.Prelude.{ℕ, ◌+◌, ◌≤◌, List, [], ◌∷◌, ◌+
 use Rattle.std.specs.List.{AllByRecursion, flat_map}
 use Rattle.line_filters.specs.declared.feeding.TheConstants.{MOST_AT_ONCE}
 
--- texts one after another
+-- the texts, one after another
 abbrev pub texts_joined : List (List ℕ) → List ℕ
 texts_joined texts = flat_map (λ text. text) texts
 
--- the calls that print these texts after gathered ones: as many texts together as one call may print
+-- the calls that print these texts after the gathered ones: each prints as many texts together as it may
 abbrev pub pieces_after : List ℕ → List (List ℕ) → List (List ℕ)
 pieces_after gathered [] = gathered ∷ []
 pieces_after gathered (text ∷ texts) =
@@ -18,6 +18,6 @@ pieces_after gathered (text ∷ texts) =
 abbrev pub pieces_of : List (List ℕ) → List (List ℕ)
 pieces_of texts = pieces_after [] texts
 
--- one call can print each of these texts
+-- whether one call can print each of these texts
 abbrev pub AreShort : List (List ℕ) → Type 0
 AreShort texts = AllByRecursion (λ (text : List ℕ). length text ≤ MOST_AT_ONCE) texts

@@ -1,16 +1,16 @@
-//! The lines of an input of any length, each filtered, with their texts printed before the source
-//! is read again.
+//! Filters the lines of an input of any length, and prints their texts before the source is read
+//! again.
 
-ghost use Rattle.std.specs.Prelude.{◌≡◌, ◌↔◌, ◌+◌, ◌≤◌, ◌<◌, ℕ, List, [], true, length, Err, IfErr, IsTrue, OnErr, OnOk, Some};
+ghost use Rattle.std.specs.Prelude.{◌≡◌, ◌↔◌, ◌+◌, ◌≤◌, ◌<◌, ℕ, List, [], true, length, Err, IfErr, IfSome, IsSomeAnd, IsTrue, OnErr, OnOk, Some};
 ghost use Rattle.std.specs.List.{AllByRecursion};
 ghost use Rattle.board_core.specs.Device.{LeavesDevice};
 ghost use Rattle.board_core.specs.Told.{Told};
 ghost use Rattle.ras_exit.specs.Causes.{BoardCause, Causes, SourceCause};
 ghost use Rattle.ras_script.specs.declared.reader.TheConstants.{LONGEST_LINE};
-ghost use Rattle.line_filters.specs.Feeds.{Feeds, IsFeedExit, StopsFeeding};
+ghost use Rattle.line_filters.specs.Feeds.{Feeds, IsFeedExit, StopsFeeding, TakesInput};
 ghost use Rattle.line_filters.specs.Filters.{OfBoth};
 ghost use Rattle.line_filters.specs.Pieces.{AreShort, pieces_of, texts_joined};
-ghost use Rattle.line_filters.specs.Steps.Feeding.{FeedEndsBoth, IsFeedStop, TakesStep, is_fault, no_inputs};
+ghost use Rattle.line_filters.specs.Steps.Feeding.{FeedEndsBoth, IsFeedStop, LeavesEnd, TakesStep, is_fault, no_inputs};
 ghost use Rattle.line_filters.specs.Steps.Filtering.{PrintsWaiting, Says};
 
 use crate::{InputFilter, InputLine};
@@ -20,28 +20,28 @@ use ras_exit::{Exit, print};
 use ras_script::{InputReader, InputStep};
 use std::alloc::Global;
 
-/// The most bytes that are printed by one call. Linux writes so many bytes into a pipe as a whole,
-/// whoever else writes into it (`PIPE_BUF` in limits.h).
+/// The most bytes that one call prints. Linux writes so many bytes into a pipe as a whole, whoever
+/// else writes into the pipe (`PIPE_BUF` in limits.h).
 pub const MOST_AT_ONCE: usize = 4_096;
 
-/// The most steps of the reader that one call takes. Each step comes past at least one byte, so no
-/// source gets there: at a billion bytes a second it would take 584 years.
+/// The most steps of the reader in one call. Each step passes at least one byte, so no source gets
+/// there: at a billion bytes a second it would take 584 years.
 pub const MOST_INPUTS: u64 = u64::MAX;
 
-/// Texts are gathered into pieces that one call each prints: whole, in order, and at most 4,096 bytes
-/// in a piece if no text is longer. This is about the definition; `print_unless`, through which all
-/// is printed here, requires such pieces.
+/// A law: texts are gathered into pieces, and one call prints each piece. Together the pieces are
+/// all texts, whole and in order; a piece has at most 4,096 bytes if no text is longer. This is
+/// about the definition; `print_unless`, which prints everything here, requires such pieces.
 pub fn pieces_laws()
     ensures all { (texts : List (List ℕ)) → texts_joined (pieces_of texts) ≡ texts_joined texts }
     ensures short { (texts : List (List ℕ)) → AreShort texts
         → AllByRecursion (λ (piece : List ℕ). length piece ≤ 4096) (pieces_of texts) }
 {}
 
-/// Filters the lines of `source` until it ends, and returns how that ended. No line is refused. The
-/// texts of all lines that were read are printed before the next read, so none waits during a read.
-/// Each call prints whole texts, of at most 4,096 bytes together.
+/// Filters the lines of `source` until the source ends, and returns how that ended. No line is
+/// rejected. The texts of all lines that were read are printed before the next read, so none waits
+/// during a read. Each call prints whole texts, of at most 4,096 bytes together.
 ///
-/// `NoMemory` is returned if memory runs out, or after `MOST_INPUTS` steps, which no source gives.
+/// Returns `NoMemory` if memory runs out, or after `MOST_INPUTS` steps, which no source reaches.
 pub fn feed_lines<S: Source, B: Board, F: InputFilter>(
     alloc: Global,
     filter: &mut F,
@@ -51,6 +51,8 @@ pub fn feed_lines<S: Source, B: Board, F: InputFilter>(
     requires { F.taken filter.old ≡ 0 }
     ensures feeds { OfBoth (Feeds (F.makes filter.old) result) (S.left source.old)
         (S.left source.new) (B.seen board.old).told (B.seen board.new).told }
+    ensures takes { IfSome (S.left source.old)
+        (λ input. IsSomeAnd (S.left source.new) (TakesInput result input)) }
     // This holds even if a crash before might have left something other than the model says.
     ensures stops { StopsFeeding (F.makes filter.old) (S.left source.old) (B.seen board.old).told
         (B.seen board.old).clock (B.seen board.new).clock }
@@ -70,7 +72,7 @@ pub fn feed_lines<S: Source, B: Board, F: InputFilter>(
     }
 }
 
-// Takes the inputs in order, and prints the text of each. Returns whether the input is cut.
+// Takes the inputs in order, and prints the text of each. Returns whether the input is cut off.
 fn take_inputs<S: Source, B: Board, F: InputFilter>(
     alloc: Global,
     inputs: &mut InputReader,
@@ -83,6 +85,8 @@ fn take_inputs<S: Source, B: Board, F: InputFilter>(
         → (B.seen board.old).told ≡ Some t → FeedEndsBoth (F.makes filter.old) script t
         (B.seen board.old).clock result (F.makes filter.new) [] (S.left source.new)
         (B.seen board.new).told (B.seen board.new).clock }
+    ensures takes { LeavesEnd (S.left source.old) (S.left source.new) }
+    ensures all { OnOk result (IfSome (S.left source.new) (λ left. left ≡ [])) }
     ensures few { OnOk result (F.taken filter.new < MOST_INPUTS) }
     ensures exits { IfErr result IsFeedStop }
     ensures causes { Causes SourceCause result (S.faults source.old) (S.faults source.new)
@@ -101,15 +105,15 @@ fn take_inputs<S: Source, B: Board, F: InputFilter>(
     }
 }
 
-// Whether a call of the source or the board failed; then no other follows.
+// Returns whether a call of the source or the board failed; then no other call follows.
 fn is_fault(ended: &Result<bool, Exit>) -> bool
     ensures { result ≡ is_fault ended.now }
 {
     matches!(ended, Err(Exit::SourceFault | Exit::PrintFault))
 }
 
-// Takes the inputs in order. Their texts are gathered, and printed before one call would print too
-// many bytes and before the source is read. At the end some may be left to print.
+// Takes the inputs in order, and gathers their texts. Prints the gathered texts before they get too
+// long for one call, and before the source is read. At the end some texts may be left to print.
 fn gather_inputs<S: Source, B: Board, F: InputFilter>(
     alloc: Global,
     inputs: &mut InputReader,
@@ -125,6 +129,8 @@ fn gather_inputs<S: Source, B: Board, F: InputFilter>(
         (B.seen board.old).clock result (F.makes filter.new) waiting.new.items
         (S.left source.new) (B.seen board.new).told (B.seen board.new).clock }
     ensures short { length waiting.new.items ≤ MOST_AT_ONCE }
+    ensures takes { LeavesEnd (S.left source.old) (S.left source.new) }
+    ensures all { OnOk result (IfSome (S.left source.new) (λ left. left ≡ [])) }
     ensures few { OnOk result (F.taken filter.new < MOST_INPUTS) }
     ensures exits { IfErr result IsFeedStop }
     ensures causes { Causes SourceCause result (S.faults source.old) (S.faults source.new)
@@ -156,7 +162,8 @@ fn gather_inputs<S: Source, B: Board, F: InputFilter>(
     Err(Exit::NoMemory)
 }
 
-// Makes the text of an input that was read. There is none while bytes of a long line are dropped.
+// Makes the text of an input that was read. There is no text while bytes of a long line are
+// dropped.
 fn take_step<F: InputFilter>(
     alloc: Global,
     step: InputStep,
@@ -178,7 +185,7 @@ fn take_step<F: InputFilter>(
     }
 }
 
-// Whether one call can print the gathered texts with the next one.
+// Returns whether one call can print the gathered texts and the next one.
 fn fits(waiting: &[u8], text: &[u8]) -> bool
     requires short { (length waiting.now ≤ MOST_AT_ONCE) × (length text.now ≤ MOST_AT_ONCE) }
     ensures { IsTrue result ↔ (length waiting.now + length text.now ≤ MOST_AT_ONCE) }
@@ -209,7 +216,7 @@ fn print_unless<B: Board>(may_wait: bool, waiting: &mut Vec<u8>, board: &mut B) 
     }
 }
 
-// Prints the text that comes last.
+// Prints the last text.
 fn end_inputs<B: Board, F: InputFilter>(alloc: Global, cut: bool, filter: &F, board: &mut B) -> Exit
     requires { F.taken filter.now < MOST_INPUTS }
     ensures says { Says B.seen Exit.Done result ((F.makes filter.now).last [] cut) board.old

@@ -10,7 +10,7 @@ use std::alloc::Global;
 
 /// A filter: a text for each line of a script, and a text at its end.
 pub trait LineFilter {
-    /// What the filter prints for the lines to come.
+    /// What the filter prints for its next lines.
     ghost makes: { Self → Filter };
 
     /// How many lines the filter has taken.
@@ -20,7 +20,7 @@ pub trait LineFilter {
     ///
     /// # Errors
     ///
-    /// Why the line is refused; nothing changes then. `NoMemory`: only if memory runs out.
+    /// Why the line is rejected; nothing changes then. `NoMemory`: only if memory runs out.
     fn take(&mut self, alloc: Global, line: &[u8], text: &mut Vec<u8>) -> Result<(), LineRefused>
         requires short { length line.now ≤ LONGEST_LINE }
         requires few { taken self.old ≤ LONGEST_SCRIPT }
@@ -29,7 +29,7 @@ pub trait LineFilter {
         ensures taken { OnOk result (taken self.new ≡ taken self.old + 1) }
         ensures kept { OnErr result (taken self.new ≡ taken self.old) };
 
-    /// Appends the text that comes after all lines, whether or not a line was refused.
+    /// Appends the text that comes after all lines, whether or not a line was rejected.
     ///
     /// # Errors
     ///
@@ -38,7 +38,7 @@ pub trait LineFilter {
         requires { taken self.now ≤ LONGEST_SCRIPT + 1 }
         ensures { OnOk result (text.new.items ≡ text.old.items ++ (makes self.now).rest []) };
 
-    /// Appends the text that comes last if no line was refused.
+    /// Appends the text that comes last if no line was rejected.
     ///
     /// # Errors
     ///
@@ -47,6 +47,6 @@ pub trait LineFilter {
         requires { taken self.now ≤ LONGEST_SCRIPT + 1 }
         ensures { OnOk result (text.new.items ≡ text.old.items ++ (makes self.now).last []) };
 
-    /// For no lines there are no answers.
+    /// Without lines there are no answers.
     ghost none: { (filter : Self) → (makes filter).answers [] ≡ [] };
 }

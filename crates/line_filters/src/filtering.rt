@@ -1,4 +1,4 @@
-//! The lines of a source, each filtered, with their texts printed before the source is read again.
+//! Filters the lines of a source, and prints their texts before the source is read again.
 
 ghost use Rattle.std.specs.Prelude.{◌≡◌, ◌+◌, ◌≤◌, ◌++◌, ℕ, List, [], length, Contains, OnOk, Some, IfErr, IfSome, IsSomeAnd};
 ghost use Rattle.board_core.specs.Told.{Told};
@@ -16,9 +16,9 @@ use ras_base::NoMemory;
 use ras_exit::{Exit, print, stop_line};
 use std::alloc::Global;
 
-/// Filters lines from `source` until one is refused or the source ends, and returns how that ended.
-/// The texts of all lines read so far are printed by one call before the next read, so none waits
-/// during a read.
+/// Filters lines from `source` until one is rejected or the source ends, and returns how that
+/// ended. The texts of all lines read so far are printed by one call before the next read, so none
+/// waits during a read.
 pub fn filter_lines<S: Source, B: Board, F: LineFilter>(
     alloc: Global,
     filter: &mut F,
@@ -83,7 +83,7 @@ fn take_lines<S: Source, B: Board, F: LineFilter>(
     }
 }
 
-/// Returns how a call ends whose lines ended so.
+/// Returns how a call ends, given how its lines ended.
 pub fn exit_of(ended: Result<(), Exit>) -> Exit
     ensures { result ≡ exit_of ended }
 {
@@ -93,15 +93,15 @@ pub fn exit_of(ended: Result<(), Exit>) -> Exit
     }
 }
 
-// Whether a call of the source or the board failed; then no other follows.
+// Returns whether a call of the source or the board failed; then no other call follows.
 fn has_failed(exit: Exit) -> bool
     ensures { result ≡ has_failed exit }
 {
     matches!(exit, Exit::SourceFault | Exit::PrintFault)
 }
 
-// Takes the lines in order. Their texts are gathered, and printed before the source is read. At the
-// end some may be left to print.
+// Takes the lines in order, and gathers their texts. Prints the gathered texts before the source is
+// read. At the end some texts may be left to print.
 fn gather<S: Source, B: Board, F: LineFilter>(
     alloc: Global,
     lines: &mut NumberedLines,
@@ -134,7 +134,7 @@ fn gather<S: Source, B: Board, F: LineFilter>(
     }
 }
 
-// Prints the gathered texts, unless a whole line is in the buffer, which is taken before the source
+// Prints the gathered texts, unless the buffer has a whole line, which is taken before the source
 // is read.
 fn print_waiting<B: Board>(
     lines: &NumberedLines,
@@ -183,8 +183,7 @@ fn take_line<F: LineFilter>(
     }
 }
 
-// Prints what comes after the texts of the lines, unless a fault cut the call short or memory ran
-// out.
+// Prints the text after the lines' texts, unless a fault cut the call short or memory ran out.
 fn end_lines<B: Board, F: LineFilter>(
     alloc: Global,
     exit: Exit,
@@ -216,7 +215,7 @@ fn end_lines<B: Board, F: LineFilter>(
     }
 }
 
-// Adds the text after the lines, and then the last text or the `stop` line.
+// Appends the text after the lines, and then the last text or the `stop` line.
 fn push_closing<F: LineFilter>(
     alloc: Global,
     exit: Exit,

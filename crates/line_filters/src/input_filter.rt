@@ -7,18 +7,18 @@ ghost use Rattle.line_filters.specs.declared.feeding.TheConstants.{MOST_AT_ONCE,
 use ras_base::NoMemory;
 use std::alloc::Global;
 
-/// A line of an input of any length, or what stands for one that is too long.
+/// A line of an input of any length, or `Long` for a line that is too long.
 #[derive(Clone, Copy)]
 pub enum InputLine<'a> {
     /// A line of at most 40,000 bytes, without its line feed.
     Line(&'a [u8]),
-    /// A line of more than 40,000 bytes. None of its bytes is kept.
+    /// A line of more than 40,000 bytes, none of which is kept.
     Long,
 }
 
-/// A filter of inputs: a text for each, and a text at their end. It refuses none.
+/// A filter of inputs: a text for each, and a text at their end. It rejects no input.
 pub trait InputFilter {
-    /// What the filter prints for the inputs to come.
+    /// What the filter prints for its next inputs.
     ghost makes: { Self → Feed };
 
     /// How many inputs the filter has taken.
@@ -43,7 +43,7 @@ pub trait InputFilter {
         ensures taken { OnOk result (taken self.new ≡ taken self.old + 1) };
 
     /// Appends the text that comes last, which has at most `MOST_AT_ONCE` bytes. `cut` says whether
-    /// bytes stand after the last line feed. Requires a filter that has taken fewer than
+    /// bytes come after the last line feed. Requires a filter that has taken fewer than
     /// `MOST_INPUTS` inputs.
     ///
     /// # Errors
@@ -55,6 +55,6 @@ pub trait InputFilter {
             (text.new.items ≡ text.old.items ++ (makes self.now).last [] cut) }
         ensures short { OnOk result (length ((makes self.now).last [] cut) ≤ MOST_AT_ONCE) };
 
-    /// For no inputs there are no texts.
+    /// Without inputs there are no texts.
     ghost none: { (filter : Self) → (makes filter).texts [] ≡ [] };
 }

@@ -1,5 +1,5 @@
-//! Filters of lines: what a filter prints for the lines of a script is printed before the script is
-//! read further.
+//! Filters of lines: a filter's text for the lines of a script is printed before the script is read
+//! further.
 #![tactic(auto)]
 
 mod feeding;

@@ -1,4 +1,4 @@
-//! The lines of a source, each with its number.
+//! Reads the lines of a source, each with its number.
 
 ghost use Rattle.std.specs.Prelude.{◌≡◌, ◌↔◌, Contains, IfOk, IfSome, IsTrue};
 ghost use Rattle.ras_script.specs.Reader.{MovesLine, lines_to_come};
@@ -12,7 +12,7 @@ use std::alloc::Global;
 use std::marker::Model;
 
 /// The lines of a source, from the first on, and how their list ends, which is how a call that
-/// takes them ends.
+/// takes the lines ends.
 #[derive(Drop)]
 pub struct NumberedLines {
     reader: LineReader,
@@ -32,8 +32,8 @@ impl Model for NumberedLines {
 }
 
 impl NumberedLines {
-    /// Returns the lines of a source, before the first. It allocates everything it needs: a line
-    /// and a byte.
+    /// Returns the lines of a source, before the first. Allocates everything it needs: a line and a
+    /// byte.
     ///
     /// # Errors
     ///
@@ -52,7 +52,7 @@ impl NumberedLines {
         self.reader.line()
     }
 
-    /// Returns the number of that line, from 1, which is how many lines were read.
+    /// Returns the number of the line that `next` read last, counted from 1.
     pub fn number(&self) -> u64
         ensures { result ≡ self.now.number }
     {

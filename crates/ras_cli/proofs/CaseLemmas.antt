@@ -7,7 +7,7 @@ use Rattle.ras_account.specs.Account.{State}
 use Rattle.ras_cli.specs.OverFolder.{AheadOver, Ends, KeepsFew, NeverOpened, OpenedOver, Outlives, OutlivesOpened, OverDamaged, OverFolder, RanOver, begun_over}
 use Rattle.ras_daemon.specs.RunStatus.{start_of}
 use Rattle.ras_daemon.specs.declared.word.Task.{Task}
-use Rattle.ras_daemon.specs.declared.word.Task.TheVariants.{Run, Report, Load, Pcie, Klog, TraceLines, KlogLines, GhesLines, MceLine, Help, Version}
+use Rattle.ras_daemon.specs.declared.word.Task.TheVariants.{Run, Report, Load, Pcie, Klog, TraceFeed, LogFeed, TraceLines, KlogLines, GhesLines, MceLine, Help, Version}
 use Rattle.ras_exit.specs.declared.exit.Exit.{Exit}
 use Rattle.ras_journal.specs.Recovered.{Recovers}
 use Rattle.ras_run.specs.Files.{files_refusal}
@@ -23,6 +23,8 @@ over_folder P (Some (Report listing)) left past gives = tt
 over_folder P (Some (Load n)) left past gives = tt
 over_folder P (Some Pcie) left past gives = tt
 over_folder P (Some (Klog boot cap)) left past gives = tt
+over_folder P (Some (TraceFeed boot cap began)) left past gives = tt
+over_folder P (Some (LogFeed boot cap began borders)) left past gives = tt
 over_folder P (Some (TraceLines boot)) left past gives = tt
 over_folder P (Some (KlogLines boot cap)) left past gives = tt
 over_folder P (Some (GhesLines boot began)) left past gives = tt
@@ -46,6 +48,8 @@ over_damaged P (Some (Report listing)) past gives = tt
 over_damaged P (Some (Load n)) past gives = tt
 over_damaged P (Some Pcie) past gives = tt
 over_damaged P (Some (Klog boot cap)) past gives = tt
+over_damaged P (Some (TraceFeed boot cap began)) past gives = tt
+over_damaged P (Some (LogFeed boot cap began borders)) past gives = tt
 over_damaged P (Some (TraceLines boot)) past gives = tt
 over_damaged P (Some (KlogLines boot cap)) past gives = tt
 over_damaged P (Some (GhesLines boot began)) past gives = tt

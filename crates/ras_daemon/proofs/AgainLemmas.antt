@@ -1,4 +1,4 @@
--- Entries that come again change an account in nothing but the number of its entries.
+-- Entries that come again change nothing in an account except the number of its entries.
 use Rattle.std.proofs.Common.{◌≡◌, ℕ, ◌≤◌, max, nat_lt, Bool, true, false, not, ◌||◌, ◌&&◌, List, [], ◌∷◌, ◌++◌, refl, sym, ap, ◌∙◌, subst, append-nil, inl, inr, arith, map}
 use Rattle.std.specs.Prelude.{◌⊎◌, if◌then◌else◌}
 use Rattle.std.specs.List.{AllByRecursion, sum_by}
@@ -20,7 +20,7 @@ use Rattle.ras_daemon.proofs.HistoryLemmas.{or-true, with_entries-append}
 
 -- ---- histories that are alike
 
--- but for the limits in force
+-- two histories are alike, apart from the limits in force
 pub record IsLike (one other : History) : Type 0 where
   pub among : (name : Name) → is_among (names_in one) name ≡ is_among (names_in other) name
   pub floor : floor_after one ≡ floor_after other
@@ -28,13 +28,13 @@ pub record IsLike (one other : History) : Type 0 where
   pub items : sightings one ≡ sightings other
   pub since : sightings_since_mark one ≡ sightings_since_mark other
 
--- and with them
+-- two histories are alike, and have the same limits in force
 pub record IsSame (one other : History) : Type 0 where
   pub like : IsLike one other
   pub limit : limit_after one ≡ limit_after other
   pub module_limit : module_limit_after one ≡ module_limit_after other
 
--- facts have names, and these are the names of entries
+-- the names of entries are the names of their facts
 pub names-facts : (es : List Entry) → names_of es ≡ map (λ (fact : FactOf). fact.name) (facts_of es)
 names-facts [] = refl
 names-facts (Fact fact ∷ es) = ap (λ (ns : List Name). fact.name ∷ ns) (names-facts es)
@@ -172,13 +172,13 @@ old-all : (h : History) (es : List Entry) → AllByRecursion (IsOld (with_entrie
 old-all h [] = tt
 old-all h (e ∷ es) = (old-entries es (with_entry h e) e (old-self h e), old-all (with_entry h e) es)
 
--- ---- they leave a history alike
+-- ---- entries that keep two histories alike
 
 either-same : {A : Type 0} (b : Bool) (x : A) → (if b then x else x) ≡ x
 either-same true x = refl
 either-same false x = refl
 
--- g and h: whether a name is among those of one history and of the other; s: whether it is the last
+-- `g` and `h`: whether a name is in one history and in the other; `s`: whether it is the last name
 name-known : (g s h : Bool) → g ≡ h → (s ≡ true → h ≡ true) → (g || (s || false)) ≡ h
 name-known g true h same known = or-true g ∙ sym (known refl)
 name-known g false h same known = or-false g ∙ same
@@ -200,7 +200,7 @@ module _ (one other : History) (like : IsLike one other) where
             ∙ append-nil (sightings_since_mark one) ∙ like.since;
       }
 
-  -- an entry that brings no name and no item
+  -- an entry that brings no name and no item keeps two histories alike
   like-quiet : (e : Entry) → facts_of (e ∷ []) ≡ [] → sightings_in (limit_after one) (module_limit_after one) e ≡ [] → names_in (with_entry one e) ≡ names_in one
       → floor_after (with_entry one e) ≡ floor_after other → IsLike (with_entry one e) other
   like-quiet e factless itemless names floor =
@@ -225,7 +225,7 @@ like-olds : (es : List Entry) (one other : History) → IsLike one other → All
 like-olds [] one other like old = like
 like-olds (e ∷ es) one other like old = like-olds es (with_entry one e) other (like-old one other like e old.0) old.1
 
--- ---- the limits in force after entries: the last ones of the entries, or those before them
+-- ---- the limits in force after entries: the entries' last ones, or else the earlier ones
 
 module _ (limit_of : History → Limit) (step : (e : Entry) → ((g h : History) → limit_of (with_entry g e) ≡ limit_of (with_entry h e)) ⊎ ((g : History) → limit_of (with_entry g e) ≡ limit_of g)) where
   settled : (es : List Entry) → ((g h : History) → limit_of (with_entries g es) ≡ limit_of (with_entries h es)) ⊎ ((g : History) → limit_of (with_entries g es) ≡ limit_of g)
@@ -259,7 +259,7 @@ module_limit-step (PageLimit limit) = inr (λ g. refl)
 module_limit-step (Retire boot) = inr (λ g. refl)
 module_limit-step (ModuleLimit limit) = inl (λ g h. refl)
 
--- ---- entries that come again, and others behind them
+-- ---- entries that come again, and others after them
 
 same-again : (h : History) (es : List Entry) → IsSame (with_entries (with_entries h es) es) (with_entries h es)
 same-again h es = record {
@@ -276,7 +276,7 @@ counts-again h xs ys =
     (same-counts (with_entries (with_entries (with_entries h xs) xs) ys) (with_entries (with_entries h xs) ys)
     (same-entries ys (with_entries (with_entries h xs) xs) (with_entries h xs) (same-again h xs))))
 
--- the facts that are news of entries and then of all of them again are those of all of them
+-- if some entries come, and then all entries, the new facts are the new facts of all entries
 pub facts-again : (h : History) (xs ys : List Entry) → facts_of (fresh_entries (with_entries (with_entries h xs) (xs ++ ys))) ≡ facts_of (fresh_entries (with_entries h (xs ++ ys)))
 facts-again h xs ys =
     ap (λ (g : History). facts_of (fresh_entries g)) (with_entries-append (with_entries h xs) xs ys)

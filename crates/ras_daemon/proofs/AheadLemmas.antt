@@ -1,4 +1,4 @@
--- How far ahead a run reads its source, to its end.
+-- How far a whole run reads its source ahead.
 use Rattle.std.proofs.Common.{◌≡◌, ℕ, suc, ◌+◌, ◌-◌, ◌≤◌, ◌==◌, ◌&&◌, Bool, true, false, List, [], ◌∷◌, ◌++◌, length, Option, None, Some, IfSome, IsSomeAnd, map, refl, ap, ◌∙◌, append_assoc, length-append, arith, inl, inr, cond, sym}
 use Rattle.std.specs.List.{enumerate_from}
 use Rattle.std.specs.Prelude.{◌⊎◌}
@@ -28,7 +28,7 @@ use Rattle.ras_daemon.proofs.CountLemmas.{count-first, events_among}
 
 -- ---- the last line
 
--- the text went on
+-- more text was printed
 ahead_more : (Fault Later : Type 0) → (Later → Fault) → (start : Start) (script from rest : List ℕ) (u now : Told) (part : List ℕ) → now.here.out ≡ u.here.out ++ part → ReadAhead Fault start script from rest u → ReadAhead Later start script from rest now
 ahead_more Fault Later back start script from rest u now part is ahead = record {
   done = ahead.done;
@@ -43,7 +43,7 @@ ahead_more Fault Later back start script from rest u now part is ahead = record 
 }
 
 module _ (Fault Later : Type 0) (back : Later → Fault) (start : Start) (script from rest : List ℕ) where
-  -- a last line, after lines were taken
+  -- a last line was printed after lines were taken
   ahead_line : (exit result : Exit) (line : List ℕ) (old new : Option Told) → Relates (Printed exit result line) old new → IsSomeAnd old (ReadAhead Fault start script from rest) → IsSomeAnd new (ReadAhead Later start script from rest)
   ahead_line exit result line None new printed ahead = absurd ahead
   ahead_line exit result line (Some u) None printed ahead = absurd printed
@@ -54,7 +54,7 @@ pub ahead_end : (Fault Later : Type 0) → (Later → Fault) → (start : Start)
 ahead_end Fault Later back start script from None exit result line old new printed ahead = absurd ahead
 ahead_end Fault Later back start script from (Some rest) exit result line old new printed ahead = ahead_line Fault Later back start script from rest exit result line old new printed ahead
 
--- a run ends by a fault of its source only where the lines did
+-- a run ends with a fault of its source only if its lines did
 pub fault_before : {X : Type 0} (see : X → Seen) (exit result : Exit) (line : List ℕ) (a b : X) → Ends see exit result line a b → result ≡ SourceFault → exit ≡ SourceFault
 fault_before see exit result line a b (inr cut) fault = sym cut.1 ∙ fault
 fault_before see exit result line a b (inl (answer, inl said)) fault = sym said.0 ∙ fault
@@ -92,7 +92,7 @@ end_behind line done more m least =
     if_least (option_map (λ end. length line + 1 + end) (end_of_event m (done ++ more))) (length line + 1 + (length (script_of done) + first_size more)) (length (script_of (line ∷ done)) + first_size more)
     (omega arith) (if_mapped (end_of_event m (done ++ more)) (length line + 1) (length (script_of done) + first_size more) least)
 
--- its end lies behind the lines that are done, and behind the one after them
+-- the end of the next event is after the lines that are done and the line after them
 end_after : (done more : List (List ℕ)) (n : ℕ) → events_in done ≤ n → IfSome (end_of_event n (done ++ more)) (λ end. length (script_of done) + first_size more ≤ end)
 end_after [] [] n few = tt
 end_after [] (line ∷ lines) n few = by (is_event_line line && (n == 0))
@@ -115,7 +115,7 @@ end_after (line ∷ done) more n few = by (is_event_line line) refl (λ m less. 
 
 -- ---- the clause
 
--- what was read ahead where lines were taken
+-- what was read ahead if lines were taken
 takes_ahead : (exit : Exit) (start : Start) (script left : List ℕ) (t now : Told) → IsAccount start.account → ReadAhead (exit ≡ SourceFault) start script (lines_from start t.here.out) left now → TakesAhead exit script left t now
 takes_ahead exit start script left t now account ahead =
     let orders : List ℕ = standing_lines start.account in
@@ -144,7 +144,7 @@ takes_ahead exit start script left t now account ahead =
         let sizes : length ahead.taken + length left ≡ length script = sym (length-append ahead.taken left) ∙ ap length ahead.splits in
         omega arith
 
--- and where nothing was
+-- what was read ahead if nothing was taken
 takes_none : (exit : Exit) (script : List ℕ) (t now : Told) (output : List ℕ) → PrintsPart output t.here.out now.here.out → TakesAhead exit script script t now
 takes_none exit script t now output part = record {
   printed = part.0;

@@ -1,4 +1,4 @@
--- The acts of lines one after another: what they come to, and that each line has some.
+-- The acts of lines, one line after another: what they lead to, and that each line has acts.
 use Rattle.std.proofs.Common.{◌≡◌, ℕ, Option, None, Some, List, [], ◌∷◌, ◌++◌, refl, ap, sym, ◌∙◌, subst, append_assoc, append-nil, inl, inr}
 use Rattle.std.specs.List.{AllByRecursion, flat_map}
 use Rattle.board_core.specs.Doing.{Act, Moment, after_acts}
@@ -26,7 +26,7 @@ use Rattle.ras_daemon.proofs.PlaceLemmas.{accepted-snoc, line_refused, outputs-s
 
 -- ---- lists of them
 
--- what is told behind acts that are these and then those
+-- the model after acts that are `here` and then `rest`
 acts-then : (acts here rest : List Act) (t : Told) → acts ≡ here ++ rest → after_acts acts t ≡ after_acts rest (after_acts here t)
 acts-then acts here rest t is = ap (λ (zs : List Act). after_acts zs t) is ∙ after-append here rest t
 
@@ -40,7 +40,7 @@ along-append Are (p ∷ ps) qs t xs ys (here, rest, is, at, along) second = (
   along-append Are ps qs (after_acts here t) rest ys along (subst (λ (u : Told). AreAlong Are qs u ys) (acts-then xs here rest t is) second),
 )
 
--- the acts of one line more
+-- the acts of one more line
 pub done-snoc : (site : Site) (before : List NumberedLine) (read : NumberedLine) (t : Told) (xs ys : List Act) → AreDoneAlong (places_from site before) t xs → IsDoneAt (site_along site before, read) (after_acts xs t) ys
     → AreDoneAlong (places_from site (before ++ read ∷ [])) t (xs ++ ys)
 done-snoc site before read t xs ys along at =
@@ -58,9 +58,9 @@ along_some (p ∷ ps) t =
     let rest = along_some ps (after_acts here.0 t) in
     (here.0 ++ rest.0, (here.0, rest.0, refl, here.1, rest.1))
 
--- ---- what they come to, each line being accepted
+-- ---- what the acts lead to, if each line is accepted
 
--- Once they are done, the files hold the account of these lines, and their text is printed.
+-- Once these lines are done, the files contain their account, and their text is printed.
 pub along_done : (site : Site) (reads : List NumberedLine) (t : Told) (acts : List Act) → AllByRecursion IsAccepted (places_from site reads) → HoldsAt site t
     → AreDoneAlong (places_from site reads) t acts → HoldsAt (site_along site reads) (after_acts acts t)
 along_done site [] t acts all holds is = rw is holds
@@ -77,9 +77,9 @@ along_prints (p ∷ ps) t acts all (here, rest, is, at, along) =
     ∙ ap (λ out. out ++ flat_map output_at ps) (line_out p t here all.0 at)
     ∙ append_assoc t.here.out (output_at p) (flat_map output_at ps)
 
--- ---- what a stop leaves at a moment of them
+-- ---- what a crash at a moment of the acts leaves
 
--- lines were done from a site on, each of them accepted
+-- lines were done from a site on, and each was accepted
 abbrev AreDoneFrom : Site → List NumberedLine → Told → List Act → Type 0
 AreDoneFrom site reads t acts = AllByRecursion IsAccepted (places_from site reads) × HoldsAt site t × AreDoneAlong (places_from site reads) t acts
 
@@ -116,7 +116,7 @@ module _ (start : Start) (script out : List ℕ) where
 
 -- ---- first lines among all
 
--- their acts are a beginning of those of all
+-- the acts of first lines are a beginning of the acts of all lines
 pub along_begun : (start : Start) (script : List ℕ) (before : List NumberedLine) (t : Told) (xs : List Act) → AreFirst start script before → AreActsAlong (places_from (first_site start) before) t xs
     → (ys : List Act) × AreActsAlong (places_taken start script) t (xs ++ ys)
 along_begun start script before t xs first along =
@@ -124,9 +124,9 @@ along_begun start script before t xs first along =
     let rest = along_some later (after_acts xs t) in
     (rest.0, rw (first-before start script before first) (along-append AreLineActs (places_from (first_site start) before) later t xs rest.0 along rest.1))
 
--- ---- the line behind them
+-- ---- the line after them
 
--- a line that is refused does no more than ask
+-- a line that is rejected only asks
 pub asks_alone : (place : Place) (exit : Exit) (t : Told) (acts : List Act) → refusal_at place ≡ Some exit → AreLineActs place t acts → acts ≡ asking_acts place t
 asks_alone place exit t acts refused are =
     are.is
@@ -134,7 +134,7 @@ asks_alone place exit t acts refused are =
     (refused_rest place t acts are exit refused)
     ∙ append-nil (asking_acts place t)
 
--- A line of which the first acts were done is one of those up to the first refused one.
+-- A line of which the first acts were done is among the lines up to the first rejected one.
 module _ (start : Start) (script : List ℕ) (t : Told) (before rest : List NumberedLine) (read : NumberedLine) (splits : before ++ read ∷ rest ≡ reads_of script) (accepted : AreAccepted start before)
     (acts : List Act) (along : AreActsAlong (places_from (first_site start) before) t acts) where
   abbrev place : Place

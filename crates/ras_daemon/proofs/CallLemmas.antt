@@ -1,4 +1,4 @@
--- What `rasd` promises of a run, from what it did.
+-- What `rasd` promises of a run follows from what the run did.
 use Rattle.std.proofs.Common.{◌≡◌, ℕ, ◌≤◌, List, [], ◌++◌, Option, Some, None, refl, sym, ap, ◌∙◌, subst, append_assoc, append-nil, arith, inl, inr}
 use Rattle.std.specs.Prelude.{◌⊎◌, IsSomeAnd, ⊤}
 use Rattle.std.specs.List.{flat_map}
@@ -49,15 +49,15 @@ use Rattle.ras_daemon.proofs.MachineLemmas.{account-same}
 use Rattle.ras_exit.specs.declared.exit.Exit.TheVariants.{DiskFault, ErstBusy, NoMemory, SourceFault}
 use Rattle.ras_events.proofs.DoneLemmas.{none_done}
 
--- ---- where a run comes to an answer
+-- ---- a run that ends with an answer
 
--- all that it prints
+-- all that the run prints
 text-so : (start : Start) (script : List ℕ) (exit : Exit) (before : List NumberedLine) → AreAll start script exit before
     → standing_lines start.account ++ (outputs start before ++ closing_line (site_at start before).account exit) ≡ run_output start script
 text-so start script exit before all = λ i.
     standing_lines start.account ++ (flat_map output_at (sym all.all i) ++ closing-same start script exit before all i)
 
--- by all that it prints, the events of its lines are done
+-- all that the run prints says that the events of its lines are done
 pub lines-counted : (start : Start) (script : List ℕ) (exit : Exit) (before : List NumberedLine) → AreAll start script exit before → IsAccount start.account → done_count (run_output start script) ≡ events_before start before
 lines-counted start script exit before all account =
     let last : List ℕ = closing_line (site_at start before).account exit in
@@ -66,12 +66,12 @@ lines-counted start script exit before all account =
     ∙ count-first start script before all.first account last
     ∙ omega (arith, none)
 
--- it was printed
+-- the run's output was printed
 output-so : (start : Start) (script : List ℕ) (exit : Exit) (old now : Told) → EndsSo start script exit old.here.out now → now.here.out ≡ old.here.out ++ run_output start script
 output-so start script exit old now ends = ends.text ∙ ap (λ (text : List ℕ). old.here.out ++ text) (text-so start script exit ends.before ends.all)
 
 module _ (start : Start) (script : List ℕ) (old now : Told) where
-  -- what an answer says
+  -- a statement about the end of a run with an answer
   ends-answer : (exit : Exit) (P : Type 0) → (EndsSo start script exit old.here.out now → P) → RunEnds start script exit old.here.out now → OnAnswer exit P
   ends-answer exit P so ends = by (ending_of exit) ends
     where
@@ -85,7 +85,7 @@ module _ (start : Start) (script : List ℕ) (old now : Told) where
   pub ends-output : (exit : Exit) → RunEnds start script exit old.here.out now → OnAnswer exit (now.here.out ≡ old.here.out ++ run_output start script)
   ends-output exit = ends-answer exit (now.here.out ≡ old.here.out ++ run_output start script) (output-so start script exit old now)
 
-  -- whole events, those of first lines
+  -- only whole events were done: the events of first lines
   whole-lines : (exit : Exit) (before : List NumberedLine) (printed : List ℕ) → AreFirst start script before → Recovers (site_at start before).account now.here
       → now.here.store ≡ store_at_end exit (change_next (run_of start script) (events_before start before)) (store_upto (run_of start script) (events_before start before))
       → done_count printed ≡ events_before start before → now.here.out ≡ old.here.out ++ printed → IsWhole (run_of start script) exit old now
@@ -126,9 +126,9 @@ module _ (start : Start) (script : List ℕ) (old now : Told) where
       by source_failed is ends = early-lines exit (λ busy. let e = sym is ∙ ap ending_of busy in cc) ends
       by starved is ends = early-lines exit (λ busy. let e = sym is ∙ ap ending_of busy in cc) ends
 
--- ---- over moments
+-- ---- what crashes leave
 
--- what a stop since the start of a run leaves
+-- what a crash since the start of a run leaves
 pub always-headline : (old new : Clock) (start : Start) (script : List ℕ) (here : Left) → StopsRecover start old
     → ((left : Left) → LeftNow old left → left.out ≡ here.out)
     → Adds (RunMoment old start script here) old new → Always new old.now (Headline (run_of start script) here)
@@ -138,7 +138,7 @@ always-headline old new start script here stops text adds left may = by (adds.ea
     by (inl before) = headline old start script here left stops (text left) (inl before)
     by (inr moment) = headline old start script here left stops (text left) moment
 
--- what is told now is what a stop now may leave
+-- the model now is what a crash now may leave
 pub begun-now : (old new : Clock) (start : Start) (script : List ℕ) (here now : Left) → ((left : Left) → LeftNow old left → left.out ≡ here.out)
     → Adds (RunMoment old start script here) old new → new.may_leave_since old.now now → PrintsPart (run_output start script) here.out now.out
 begun-now old new start script here now text adds may = by (adds.each old.now now (omega arith) may)
@@ -170,7 +170,7 @@ module _ {X : Type 0} (see : X → Seen) (account : State) (script : List ℕ) (
     since = adds_weaker (OpeningSynced t.here) (AtOpening start t.here.out) (see s.synced).clock (see mid).clock s.since (λ left opening. synced_at account t left recovers opening);
   }
 
-  -- from the moment on at which both files were synced
+  -- the run settles, from the point at which both files were synced
   run-settles : Opens see start script exit t old new → Settles see start script t old new
   unfolding synced-start
   run-settles d = record {
@@ -214,9 +214,9 @@ module _ {X : Type 0} (see : X → Seen) (account : State) (script : List ℕ) (
       by (inl d) (inr read) = inl (run-settles read.0)
       by (inr d) reads = inl (run-settles d)
 
--- ---- the records of a run, from what it did
+-- ---- the promised records, from what a run did
 
--- What the laws of a board say of what a stop between its calls leaves.
+-- What a board's laws say of what a crash between its calls leaves.
 pub record LeavesTold (told : Option Told) (clock : Clock) : Type 0 where
   pub text : (t : Told) (left : Left) → told ≡ Some t → LeftNow clock left → left.out ≡ t.here.out
   pub now : (t : Told) → told ≡ Some t → LeftNow clock t.here
@@ -230,7 +230,7 @@ module _ {X : Type 0} (see : X → Seen) (Same : Type 0) (account : State) (scri
   stops : Adds (RunMoment (see old).clock begins script t.here) (see old).clock (see new).clock
   stops = run_stops see account script exit t old new recovers comes.does
 
-  -- what stops leave
+  -- what crashes of the run leave
   pub run-stops : RunStops see exit Same begins script t old new
   run-stops = record {
     later = stops.later;
@@ -239,7 +239,7 @@ module _ {X : Type 0} (see : X → Seen) (Same : Type 0) (account : State) (scri
     few = λ few. run-few see begins script exit t old new few comes.does;
   }
 
-  -- what is told at its end
+  -- what the model says at the run's end
   module _ (last : LeavesTold (see new).told (see new).clock) where
     ran-now : (rest : List ℕ) (now : Told) → (see new).told ≡ Some now → RunEnds begins script exit t.here.out now → DidRun begins script (ending_of exit) t now → TakesAhead exit script rest t now
         → Same ⊎ HasOpened begins t now → Ran exit Same begins script t rest now

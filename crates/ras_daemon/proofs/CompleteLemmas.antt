@@ -1,4 +1,4 @@
--- What else holds of a run, by what `rasd` promises of it.
+-- What else the promises of `rasd` say of a run.
 use Rattle.std.proofs.Common.{◌≡◌, ℕ, List, length, Option, None, Some, ◌∙◌, refl, sym, ap, subst, inl, inr}
 use Rattle.std.proofs.lemmas.List.{append_cancel_left}
 use Rattle.std.specs.Prelude.{◌≢◌, ◌⊎◌}
@@ -18,7 +18,7 @@ use Rattle.ras_exit.proofs.EndingLemmas.{memory_ran_out}
 use Rattle.ras_events.specs.DoneLines.{done_count}
 use Rattle.ras_daemon.specs.Commands.{MayEnd}
 use Rattle.ras_daemon.specs.declared.word.Task.{Task}
-use Rattle.ras_daemon.specs.declared.word.Task.TheVariants.{Run, Report, Load, Pcie, Klog, TraceLines, KlogLines, GhesLines, MceLine, Help, Version}
+use Rattle.ras_daemon.specs.declared.word.Task.TheVariants.{Run, Report, Load, Pcie, Klog, TraceFeed, LogFeed, TraceLines, KlogLines, GhesLines, MceLine, Help, Version}
 use Rattle.ras_daemon.specs.Headline.{laid_with}
 use Rattle.ras_daemon.specs.Promises.{Caused, IsQuiet, IsQuietBoard, Ran, RunStops}
 use Rattle.ras_daemon.specs.RunActs.{DidAll, DidRun}
@@ -70,7 +70,7 @@ pub ran_complete : (exit : Exit) (Same : Type 0) (start : Start) (script left : 
 ran_complete exit Same start script left before now count count' faults faults' ran caused quiet_source quiet_board done =
     exit-done count count' faults faults' quiet_source quiet_board exit (run_exit start script) ran.status caused.source caused.board done
 
--- ---- no command tells a status of 0
+-- ---- no command reports a device's status of 0
 
 pub may_code : (task : Option Task) (exit : Exit) (code : ℕ) → MayEnd task exit → exit ≡ ErstStatus code → code ≢ 0
 may_code task exit code may is = by task (subst (MayEnd task) is may)
@@ -85,6 +85,8 @@ may_code task exit code may is = by task (subst (MayEnd task) is may)
     by (Some (Load n)) (inr (inr is)) = absurd cc
     by (Some Pcie) never = absurd never
     by (Some (Klog boot mask)) never = absurd never
+    by (Some (TraceFeed boot mask began)) never = absurd never
+    by (Some (LogFeed boot mask began borders)) never = absurd never
     by (Some (TraceLines boot)) never = absurd never
     by (Some (KlogLines boot mask)) never = absurd never
     by (Some (GhesLines boot began)) never = absurd never

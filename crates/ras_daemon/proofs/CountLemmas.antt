@@ -1,4 +1,4 @@
--- How many events a printed text says are done, and what these report and have printed.
+-- How many events are done by a printed text, and what these events report and have printed.
 use Rattle.std.proofs.Common.{◌≡◌, ℕ, ◌+◌, List, [], ◌∷◌, ◌++◌, length, take, sym, ap, ◌∙◌, append_assoc, arith, inl, inr}
 use Rattle.std.specs.Prelude.{filter}
 use Rattle.std.specs.List.{AllByRecursion, flat_map}
@@ -24,11 +24,11 @@ use Rattle.ras_daemon.proofs.RunLawLemmas.{prints-none, reports-none}
 use Rattle.ras_events.proofs.DoneLemmas.{done_counts, quiet_count}
 use Rattle.ras_events.proofs.WholeLineLemmas.{standing_quiet}
 
--- how many lines of places are events
+-- how many of these places are events
 abbrev pub events_among : List Place → ℕ
 events_among ps = length (filter is_event ps)
 
--- the places of the first lines of a script, and how many events are among these
+-- the places of the first lines of a script, and how many of them are events
 abbrev pub placed : Start → List NumberedLine → List Place
 placed start before = places_from (first_site start) before
 
@@ -61,19 +61,19 @@ module _ (start : Start) (script : List ℕ) (before : List NumberedLine) (first
   pub first-events : take (events_before start before) (events_of start script) ≡ filter is_event (placed start before)
   first-events = ap (λ (ps : List Place). take (events_before start before) (filter is_event ps)) (first-before start script before first) ∙ take-passing is_event (placed start before) _
 
-  -- their account
+  -- the account of the first lines
   pub account-first : account_with start script (events_before start before) ≡ (site_at start before).account
   account-first =
       ap (λ (es : List Entry). account_after_all start.account es) (ap (flat_map entries_at) first-events ∙ flat_map-passing is_event entries_at reports-none (placed start before))
       ∙ sym (site-account (first_site start) before)
 
-  -- what they have printed
+  -- what the first lines have printed
   pub output-first : output_upto start script (events_before start before) ≡ standing_lines start.account ++ outputs start before
   output-first =
       ap (λ (text : List ℕ). standing_lines start.account ++ text)
       (ap (flat_map output_at) first-events ∙ flat_map-passing is_event output_at prints-none (placed start before))
 
-  -- and how many it says are done
+  -- how many events are done by the text of the first lines
   pub count-first : IsAccount start.account → (more : List ℕ) → done_count ((standing_lines start.account ++ outputs start before) ++ more) ≡ events_before start before + done_count more
   count-first account more =
       ap done_count (append_assoc (standing_lines start.account) (outputs start before) more)

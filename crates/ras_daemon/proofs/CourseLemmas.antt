@@ -1,4 +1,4 @@
--- What stands of the record store at each moment of a line, and where a run ends.
+-- The record store at each moment of a line, and at the end of a run.
 use Rattle.std.proofs.Common.{◌≡◌, ◌≤◌, ℕ, zero, suc, Bool, true, false, not, cond, if◌then◌else◌, List, [], ◌∷◌, ◌++◌, length, Option, None, Some, Result, Ok, Err, refl, sym, ap, ◌∙◌, inl, inr, append_assoc, arith}
 use Rattle.std.specs.Prelude.{◌⊎◌}
 use Rattle.erst_store.specs.Store.{Stored}
@@ -37,7 +37,7 @@ use Rattle.ras_daemon.proofs.StoreLemmas.{IsBegunWith, line-next, store-first}
 
 -- ---- the moments of a line
 
--- a line that has no done line leaves the store
+-- a line that has no done line leaves the store as it is
 no-done : (number count : ℕ) (store : List Stored) (event : Result Event LineRefusal) → deed_done number (deed_of event) ≡ []
     → (if clears_store event then without_first count (stored_by event store) else stored_by event store)
     ≡ (if clears_store event then unreadable (stored_by event store) else stored_by event store)
@@ -45,7 +45,7 @@ no-done number count store (Ok (Polled seconds)) none = absurd (let is : done_li
 no-done number count store (Ok event) none = refl
 no-done number count store (Err why) none = refl
 
--- all that is cleared
+-- all readable records are cleared
 without-all : (rs : List Stored) → without_first (length rs) rs ≡ unreadable rs
 without-all rs = without-most rs (length rs) (omega arith)
   where
@@ -60,8 +60,8 @@ without-all rs = without-most rs (length rs) (omega arith)
         by true less more = less
         by false less more = ap (λ (others : List Stored). r ∷ others) more
 
--- A line is accepted, its news are kept, the first of the records that it clears are cleared, and a
--- beginning of its output is printed. All are cleared before the last of it is printed.
+-- A line is accepted, its new entries are stored, the first of the records that it clears are cleared, and a
+-- beginning of its output is printed. All are cleared before the last of its output is printed.
 pub record InLine (place : Place) (out : List ℕ) (left : Left) : Type 0 where
   pub accepted : IsAccepted place
   pub recovers : Recovers (site_after place.0 place.1).account left
@@ -74,7 +74,7 @@ module _ (place : Place) (out : List ℕ) (left : Left) where
   abbrev course : Course
   course = course_at place
 
-  -- before the done line
+  -- the store before the done line
   uncleared : (count : ℕ) (missing : List ℕ) → left.store ≡ store_cleared course count → missing ++ course.done ≡ [] → left.store ≡ store_left course
   uncleared count missing is none = is ∙ no-done place.1.0 count place.0.store (event_at place) (nothing-behind missing course.done none)
     where
@@ -136,24 +136,24 @@ module _ (place : Place) (out : List ℕ) (left : Left) where
 
 -- ---- a line among those of a script
 
--- what an event puts is put
+-- a record that an event puts is put
 put-passes : (Known : Name → Type 0) (asks : Asking) (laid store : List Stored) → store ≡ store_asked asks laid → StoreNow (change_by asks) Known laid store
 put-passes Known (puts r) laid store is = inr is
 put-passes Known (saves r) laid store is = inr is
 put-passes Known asks laid store is = inl is
 
--- what the device of one that is refused did, if it was busy for too long
+-- the store after a rejected event whose device was busy for too long
 busy-left : (asks : Asking) (laid : List Stored) → store_asked asks laid ≡ store_at_end ErstBusy (change_by asks) laid
 busy-left (puts r) laid = refl
 busy-left (saves r) laid = refl
 busy-left asks laid = refl
 
--- a line that is refused is an event
+-- a line that is rejected is an event
 refused-event : (place : Place) (exit : Exit) → refusal_at place ≡ Some exit → is_event place ≡ true
 refused-event (site, (number, Ok asks.Nothing)) exit refused = absurd cc
 refused-event place exit refused = refl
 
--- where no device was busy
+-- the store at the end of a run whose device wasn't busy for too long
 pub kept-at-end : (exit : Exit) (next : StoreChange) (store : List Stored) → (exit ≡ ErstBusy → ⊥) → store_at_end exit next store ≡ store
 kept-at-end ErstBusy next store free = absurd (free refl)
 kept-at-end exit next store free = refl
@@ -192,7 +192,7 @@ module _ (start : Start) (script : List ℕ) (before rest : List NumberedLine) (
   pub part-now : (store : List Stored) (count : ℕ) → is_event line ≡ true → refusal_at line ≡ None → store ≡ store_cleared (course_at line) count → StoreNow next KnownBehind laid store
   part-now store count event taken is = rw (laid-here, next-is event (rw taken tt)) (asks-pass (deed_at line).asks store count refl is)
 
-  -- ---- while it is begun
+  -- ---- while the event is begun
 
   module _ (Known : Name → Type 0) (store : List Stored) where
     put-now : is_event line ≡ true → IsBegunWith (refusal_at line) → store ≡ stored_by (event_at line) here.store → StoreNow next Known laid store
@@ -217,7 +217,7 @@ module _ (start : Start) (script : List ℕ) (before rest : List NumberedLine) (
   pub begun-now : (Known : Name → Type 0) (left : Left) (out : List ℕ) → IsBegun (course_at line) out left → StoreNow next Known laid left.store
   begun-now Known left out begun = elim begun.store [ inl same ↦ inl (same ∙ sym laid-here) | inr became ↦ stored-now Known left.store became ]
 
-  -- ---- where the run ends with it
+  -- ---- the run ends with the event
 
   pub refused-end : (store : List Stored) (exit : Exit) → refusal_at line ≡ Some exit → store ≡ refused_store exit (event_at line) here.store → store ≡ store_at_end exit next laid
   refused-end store ErstBusy refused is = rw (laid-here, next-is (refused-event line ErstBusy refused) (rw refused tt)) (is ∙ busy-left (deed_at line).asks here.store)
@@ -225,7 +225,7 @@ module _ (start : Start) (script : List ℕ) (before rest : List NumberedLine) (
 
 -- ---- where a run ends
 
--- a script's own end is none of a device that is busy
+-- a script's list of lines doesn't end with a busy device
 script-end : (script : List ℕ) → script_exit script ≡ ErstBusy → ⊥
 script-end script = by (length (script_lines script).whole) (script_lines script).ending
   where
@@ -241,12 +241,12 @@ module _ (start : Start) (script : List ℕ) (exit : Exit) (before : List Number
   abbrev laid_last : List Stored
   laid_last = store_upto (run_of start script) (events_before start before)
 
-  -- a run that comes to an answer
+  -- the store of a run that ends with an answer
   pub end-store : StoreAtEnd start script before exit store → store ≡ store_at_end exit last laid_last
   end-store (inl (ends, same)) = same ∙ sym (store-first start script before all.first) ∙ sym (kept-at-end exit last laid_last (λ busy. script-end script (sym ends ∙ busy)))
   end-store (inr left) = refused-end start script before left.rest left.read left.splits all.first.accepted store exit left.refused left.is
 
-  -- while its last line is printed
+  -- the store while the run's last line is printed
   pub end-now : (Known : Name → Type 0) → StoreAtEnd start script before exit store → StoreNow last Known laid_last store
   end-now Known (inl (ends, same)) = inl (same ∙ sym (store-first start script before all.first))
   end-now Known (inr left) = refused-left start script before left.rest left.read left.splits all.first.accepted Known store exit left.is

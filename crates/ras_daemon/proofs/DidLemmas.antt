@@ -1,4 +1,4 @@
--- Which acts of a run were done, and which disk calls these made.
+-- Which acts of a run were done, and which disk calls they made.
 use Rattle.std.proofs.Common.{◌≡◌, ℕ, List, [], ◌++◌, map, Option, None, Some, IsSomeAnd, refl, ap, sym, ◌∙◌, subst, append_assoc, append-nil, inl, inr}
 use Rattle.std.specs.Prelude.{⊤}
 use Rattle.std.proofs.lemmas.List.{map-append}
@@ -33,14 +33,14 @@ use Rattle.ras_daemon.proofs.ScriptLemmas.{script_some, takes_did, took_all}
 use Rattle.ras_daemon.proofs.AlongActLemmas.{acts_along}
 use Rattle.ras_run.proofs.PrintActLemmas.{calls_both}
 
--- what holds of what is told now
+-- a weaker statement about the model now
 some-weaker : (P Q : Told → Type 0) (told : Option Told) → ((t : Told) → P t → Q t) → IsSomeAnd told P → IsSomeAnd told Q
 some-weaker P Q None weaker has = absurd has
 some-weaker P Q (Some t) weaker has = weaker t has
 
--- ---- behind an opening
+-- ---- after an opening
 
--- acts behind others
+-- acts after other acts
 did_behind : (first acts : List Act) (ending : CallEnding) (t now : Told) → DidOf acts ending (after_acts first t) now → DidOf (first ++ acts) ending t now
 did_behind first acts answered t now is = is ∙ sym (after-append first acts t)
 did_behind first acts (faulted kind) t now fails = fails_then kind first acts t now fails
@@ -69,13 +69,13 @@ opened_did start script ending t there now makes (acts, are, did) =
       did_behind first.0 acts ending t now (subst (λ (u : Told). DidOf acts ending u now) first.2 did),
     )
 
--- all that a run did
+-- all acts of a run were done
 opened_all : (start : Start) (script : List ℕ) (t there now : Told) → MakesOpening t there → HoldsAt (first_site start) there → TookAll start script there now → DidAll start script t now
 opened_all start script t there now makes holds took =
     let first = opened_acts t there makes in
     record { first = first.0; opens = first.1; holds = subst (HoldsAt (first_site start)) first.2 holds; takes = subst (λ (u : Told). TookAll start script u now) first.2 took }
 
--- whether or not, acts of a run
+-- the acts of a run were done, all or some
 pub did_acts : (start : Start) (script : List ℕ) (ending : CallEnding) (t now : Told) → DidRun start script ending t now → RunDid start script ending t now
 did_acts start script answered t now d =
     let u : Told = after_acts d.first t in
@@ -91,7 +91,7 @@ did_acts start script starved t now d = d
 
 -- ---- of an opening alone
 
--- with acts of a script behind it
+-- the calls of a recovery, followed by acts of a script, are acts of a run
 opening_some : (start : Start) (script : List ℕ) (t : Told) (recovery : List DiskCall) → IsRecoveryOf t.here recovery → (more : List Act) × AreRunActs start script t (map calls recovery ++ more)
 opening_some start script t recovery recovers =
     let first : List Act = map calls recovery ++ opening_acts t.here in
@@ -100,7 +100,7 @@ opening_some start script t recovery recovers =
       subst (AreRunActs start script t) (append_assoc (map calls recovery) (opening_acts t.here) rest.0) (run_acts start script t first rest.0 (record { recovery = recovery; recovers = recovers; is = refl }) rest.1),
     )
 
--- how a run ends whose journal isn't opened
+-- how a run ends whose journal wasn't opened
 module _ (start : Start) (script : List ℕ) (t u : Told) where
   -- memory ran out
   read_some : AfterRecovery t u → DidRun start script starved t u
@@ -190,7 +190,7 @@ opened_first see start script exit t (Some rest) old new d ahead = by (see new).
 
 -- ---- accesses
 
--- at an answer they are those of all acts
+-- if a run ended with an answer, its accesses are the accesses of all its acts
 pub did_access : (start : Start) (script : List ℕ) (ending : CallEnding) (t now : Told) → DidRun start script ending t now → IfAnswered ending (ListsAccesses start script t now)
 did_access start script answered t now did =
     let d = did_acts start script answered t now did in

@@ -1,4 +1,4 @@
--- What an accepted line prints: an event prints quiet lines and then its done line, and a line that is no event prints
+-- What an accepted line prints: an event prints quiet lines and then its done line, and any other line prints
 -- nothing.
 use Rattle.std.proofs.Common.{◌≡◌, ℕ, Bool, true, false, List, [], ◌∷◌, ◌++◌, Option, Some, None, Result, Ok, Err, refl, ap, ◌∙◌, inl, inr}
 use Rattle.std.specs.Prelude.{◌⊎◌, if◌then◌else◌, IfOk, unwrap_or}
@@ -38,7 +38,7 @@ use Rattle.ras_run.proofs.LineLawLemmas.{taken_account}
 
 -- ---- what a line asks for
 
--- a line that asks for something has a done line, if it isn't refused
+-- a line that asks for something has a done line, if it isn't rejected
 abbrev HasDoneLine : Result Event LineRefusal → Type 0
 HasDoneLine event = IfOk event (λ asked. (deed_of (Ok asked)).has_done_line ≡ true)
 
@@ -61,7 +61,7 @@ place-done (site, (number, Ok line)) taken is = by (event_of site.settings line)
     by (Ok event) has taken = ap (λ (b : Bool). if b then done_line number else []) has
     by (Err why) has taken = absurd cc
 
--- what a line that doesn't poll reports hangs on no record store
+-- what a line reports doesn't depend on the record store, unless the line polls
 made-unpolled : (settings : Settings) (one other : List Stored) (number : ℕ) (line : Line) → IsNoPoll (number, Ok line)
     → made_in settings.topology one (event_of settings line) ≡ made_in settings.topology other (event_of settings line)
 made-unpolled settings one other number line not = of-line Same (λ why. refl) settings line (by line not)
@@ -75,7 +75,7 @@ made-unpolled settings one other number line not = of-line Same (λ why. refl) s
     by (asks.Panic id bank) not = λ lists is none. refl
     by line not = refl
 
--- and it hangs on the machine description alone, and not on its number
+-- what such a line reports depends only on the machine description, and not on the line's number
 pub entries-unpolled : (one other : Site) (k m : ℕ) (read : Result Line LineRefused) → IsNoPoll (m, read) → one.settings ≡ other.settings → entries_at (one, (k, read)) ≡ entries_at (other, (m, read))
 entries-unpolled one other k m (Err why) not same = refl
 entries-unpolled one other k m (Ok line) not same =
@@ -84,14 +84,14 @@ entries-unpolled one other k m (Ok line) not same =
 
 -- ---- what is printed
 
--- an event: quiet lines, and then the done line of its number
+-- an event prints quiet lines and then the done line of its number
 pub record PrintsEvent (place : Place) : Type 0 where
   pub event : is_event place ≡ true
   pub text : List ℕ
   pub quiet : AreQuietLines text
   pub printed : output_at place ≡ text ++ done_line place.1.0
 
--- no event
+-- a line that isn't an event prints nothing
 pub record PrintsNothing (place : Place) : Type 0 where
   pub event : is_event place ≡ false
   pub silent : output_at place ≡ []
@@ -104,7 +104,7 @@ text-quiet account reopens counted fit is = standing_quiet account is
 text-quiet account asks (Some made) fit is = event_quiet_in account made is fit
 text-quiet account asks None fit is = no_lines_quiet
 
--- an accepted line
+-- an accepted line prints one or the other
 pub tells : (p : Place) → IsAccepted p → IsAccount p.0.account → Tells p
 tells (site, (number, Ok asks.Nothing)) accepted account = inr (record { event = refl; silent = refl })
 tells (site, (number, Err why)) accepted account = absurd (let refused : Some (BadLine number (reason.Line why)) ≡ None = accepted.taken in cc)
@@ -117,7 +117,7 @@ tells (site, (number, Ok line)) accepted account =
       printed = ap (λ (done : List ℕ). text_at p ++ done) (place-done p accepted.taken refl);
     })
 
--- accepted lines in order
+-- accepted lines print so in order
 pub tells-along : (site : Site) (reads : List NumberedLine) → AllByRecursion IsAccepted (places_from site reads) → IsAccount site.account → AllByRecursion Tells (places_from site reads)
 tells-along site [] accepted account = tt
 tells-along site (read ∷ reads) accepted account =

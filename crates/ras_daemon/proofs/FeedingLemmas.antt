@@ -1,4 +1,4 @@
--- What a run makes of the lines that are printed of what was found.
+-- What a run makes of the lines that are printed for findings.
 use Rattle.std.proofs.Common.{◌≡◌, ℕ, ◌+◌, List, [], ◌∷◌, ◌++◌, None, Some, Option, Result, Ok, refl, sym, ap, subst, ◌∙◌, length, map}
 use Rattle.std.specs.Prelude.{filter}
 use Rattle.std.specs.List.{cons_option, enumerate_from, filter_map}
@@ -36,7 +36,7 @@ use Rattle.ras_daemon.proofs.RunLawLemmas.{reported-whole, reports-append, taken
 
 -- ---- the events
 
--- an event is a line that asks for something, wherever it stands
+-- an event is a line that asks for something, whatever its place
 asked-along : (site : Site) (k : ℕ) (reads : List (Result Line LineRefused)) → asked_by (filter is_event (places_from site (enumerate_from k reads))) ≡ filter is_asking reads
 asked-along site k [] = refl
 asked-along site k (Ok asks.Nothing ∷ reads) = asked-along (site_after site (k, Ok asks.Nothing)) (k + 1) reads
@@ -45,9 +45,9 @@ asked-along site k (read ∷ reads) = ap (λ (others : List (Result Line LineRef
 pub taken-asks : (start : Start) (script : List ℕ) → IsTakenWhole start script → asked_by (events_of start script) ≡ asks_in (script_lines script).whole
 taken-asks start script taken = ap asked_by (taken-events start script taken) ∙ asked-along (first_site start) 1 (map line_of (script_lines script).whole)
 
--- ---- what they report
+-- ---- what the lines report
 
--- a bank's report is an entry by the rows of the machine, if the bank holds an error
+-- a bank's report is one entry, by the machine description, if the bank holds an error
 bank-report : (rows : List Row) (store : List Stored) (bank : BankReport) (banks : List BankReport)
     → entries_in (made_in rows store (Ok (counts_report (bank_report bank rows)))) ++ bank_entries rows banks ≡ bank_entries rows (bank ∷ banks)
 bank-report rows store bank banks = by (bank_fact bank rows)
@@ -58,7 +58,7 @@ bank-report rows store bank banks = by (bank_fact bank rows)
     by None = refl
     by (Some fact) = refl
 
--- lines that ask for the reports of banks, and for nothing else, report these by the machine description before them
+-- lines that ask only for the reports of banks report these by the machine description before them
 banks-along : (site : Site) (k : ℕ) (reads : List (Result Line LineRefused)) (banks : List BankReport) → filter is_asking reads ≡ map asks_bank banks
     → reports site (enumerate_from k reads) ≡ bank_entries site.settings.topology banks
 banks-along site k [] [] is = refl

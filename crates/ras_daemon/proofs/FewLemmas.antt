@@ -6,7 +6,7 @@ use Rattle.ras_exit.specs.declared.exit.Exit.{Exit}
 use Rattle.ras_exit.specs.declared.exit.Exit.TheVariants.{Done}
 use Rattle.ras_daemon.specs.Ahead.{TakesBy}
 
--- so many bytes of what a source told first were taken of it
+-- this many bytes were taken of what the source had at first
 pub record Takes (count : ℕ) (script left : List ℕ) : Type 0 where
   pub taken : List ℕ
   pub splits : taken ++ left ≡ script
@@ -32,7 +32,7 @@ more_bytes bytes count more (Some script) (Some left) (Some rest) takes taken is
 went : (given : List ℕ) (old new : Reader) (first now later : Option (List ℕ)) → TakesOf old.taken first now → Moves given old new now later → TakesOf new.taken first later
 went given old new first now later takes moved = more_bytes moved.bytes old.taken new.taken first now later takes moved.taken moved.count
 
--- what was taken once a line was asked for
+-- what was taken after a line was asked for
 pub takes_more : (result : Result Bool Exit) (old new : Reader) (first now later : Option (List ℕ)) → TakesOf old.taken first now → MovesLine result old new now later → TakesOf new.taken first later
 takes_more (Ok true) old new first now later takes (inl moved) = went (new.line ++ 10 ∷ []) old new first now later takes moved
 takes_more (Ok true) old new first now later takes (inr (moved, end)) = went new.line old new first now later takes moved
@@ -44,11 +44,11 @@ takes_by exit count None now few all takes = tt
 takes_by exit count (Some script) None few all takes = absurd takes
 takes_by exit count (Some script) (Some left) few all takes = record { taken = takes.taken; splits = takes.splits; few = (let size = takes.size in omega arith); all = all }
 
--- if none was taken
+-- nothing was taken
 pub takes_no_byte : (exit : Exit) (first : Option (List ℕ)) → (exit ≡ Done → ⊥) → TakesBy exit first first
 takes_no_byte exit first cut = takes_by exit 0 first first (omega arith) (λ done. absurd (cut done)) (takes_none first)
 
--- with an exit behind another
+-- the same bytes were taken, and the call ends with another exit
 pub takes_as : (one other : Exit) (first now : Option (List ℕ)) → (other ≡ Done → one ≡ Done) → TakesBy one first now → TakesBy other first now
 takes_as one other None now back takes = tt
 takes_as one other (Some script) None back takes = absurd takes

@@ -1,4 +1,4 @@
--- No file that stands has more than 256 links at a moment of a run.
+-- No valid file has more than 256 links at a moment of a run.
 use Rattle.std.proofs.Common.{◌≡◌, ℕ, List, [], ◌∷◌, ◌++◌, sym, ap, subst, ◌∙◌, inl, inr, arith}
 use Rattle.std.specs.Prelude.{◌⊎◌}
 use Rattle.std.specs.List.{AllByRecursion}
@@ -67,7 +67,7 @@ module _ (start : Start) (script : List ℕ) (t : Told) (before : List NumberedL
   asking left (inl silent) moment = absurd (subst (λ (l : List Act). Moment l behind_lines left) silent moment)
   asking left (inr has) moment = asking_few (site_at start before, has.read) behind_lines among.0 left (subst (λ (l : List Act). Moment l behind_lines left) has.is moment)
 
-  -- once all is asked
+  -- the files have few links after what was asked
   asked_few : (end : Exit) → AreAllAsked start script end before behind_lines asked → HasFewLinks behind_asked.here
   asked_few end all =
       let found = left_at_end start script before first behind_lines (lines_hold start script t before first along lines asked asks last holds) asked end all in
@@ -89,7 +89,7 @@ module _ (start : Start) (script : List ℕ) (t : Told) (before : List NumberedL
     ]
   ]
 
-  -- where there is no last line
+  -- the files have few links if there is no last line
   pub script_few_done : last ≡ [] → KeepsStore start script before behind_lines asked → HasFewLinks (after_acts (orders_acts start ++ (along ++ (asked ++ last))) t).here
   script_few_done none silent =
       let here : (after_acts (orders_acts start ++ (along ++ (asked ++ last))) t).here ≡ behind_lines.here =
@@ -132,7 +132,7 @@ module _ {X : Type 0} (see : X → Seen) (start : Start) (script : List ℕ) (t 
 
 -- ---- a run
 
--- what a stop at its start may leave, or files with few links
+-- what a crash at the run's start may leave, or files with few links
 abbrev pub FewSince : Clock → Left → Type 0
 FewSince clock left = LeftNow clock left ⊎ HasFewLinks left
 
@@ -151,7 +151,7 @@ module _ {X : Type 0} (see : X → Seen) (start : Start) (script : List ℕ) (ex
   taken_few : (d : Opens see start script exit t old new) → Adds HasFewLinks (see d.mid).clock (see new).clock
   taken_few d = takes_few_links see start script d.there exit d.mid new d.rests d.holds (opened_few t d.there few d.makes) d.takes
 
-  -- from the moment on at which both files were synced
+  -- the files have few links from the point at which both were synced
   pub opened-few : (d : Opens see start script exit t old new) → Always (see new).clock (see d.syncs.synced).clock.now HasFewLinks
   opened-few d =
       let synced = (see d.syncs.synced).clock in

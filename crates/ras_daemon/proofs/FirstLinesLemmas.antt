@@ -1,4 +1,4 @@
--- The first lines of a script, each accepted, among all of its lines.
+-- The first lines of a script, each accepted, among all its lines.
 use Rattle.std.proofs.Common.{◌≡◌, ℕ, Bool, true, false, List, [], ◌∷◌, ◌++◌, Option, Some, None, Result, Ok, Err, refl, sym, ap, ◌∙◌, subst}
 use Rattle.std.specs.Prelude.{if◌then◌else◌}
 use Rattle.std.specs.List.{AllByRecursion, flat_map}
@@ -31,7 +31,7 @@ use Rattle.ras_daemon.specs.RunStatus.{first_refused, refused_or, run_exit, scri
 use Rattle.ras_daemon.specs.Steps.Running.{AreAll, AreFirst}
 use Rattle.ras_exit.specs.ScriptEnd.{script_exit}
 
--- the first of these places are accepted: they stand before the first refused one, which is among the others
+-- if the first of these places are accepted, the first rejected one is among the others
 accepted-before : (ps qs : List Place) → AllByRecursion IsAccepted ps → places_before_refusal (ps ++ qs) ≡ ps ++ places_before_refusal qs
 accepted-before [] qs all = refl
 accepted-before (p ∷ ps) qs all = rw all.0.taken (ap (λ (rest : List Place). p ∷ rest) (accepted-before ps qs all.1))
@@ -87,7 +87,7 @@ refused-not site number (Ok event) =
     let deed : Deed = deed_of (Ok event) in
     asking-not site number deed.asks (room_refusal site (deed_counts site deed)) (room-not site (deed_counts site deed))
 
--- where no line is refused all stand before the first refused one
+-- if no line is rejected, all lines are before the first rejected one
 all-before : (ps : List Place) (exit : Exit) → option_map_or (λ (r : Place × Exit). r.1) (first_refused ps) exit ≡ Done → places_before_refusal ps ≡ ps
 all-before [] exit is = refl
 all-before (p ∷ ps) exit is = by (refusal_at p) refl (refused-not p.0 p.1.0 (event_at p)) (all-before ps exit) is
@@ -98,7 +98,7 @@ all-before (p ∷ ps) exit is = by (refusal_at p) refl (refused-not p.0 p.1.0 (e
     by None there not rest is = rw there (ap (λ (qs : List Place). p ∷ qs) (rest is))
     by (Some why) there not rest is = absurd (subst (λ (e : Exit). IsNotDone (Some e)) is not)
 
--- what stands at the end of a run that is done is all of the script
+-- a run that succeeds takes the whole script
 pub done-all : (start : Start) (script : List ℕ) → run_exit start script ≡ Done
     → places_taken start script ≡ places_of start script
 done-all start script is = all-before (places_of start script) (script_exit script) is

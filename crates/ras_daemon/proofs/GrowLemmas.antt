@@ -1,4 +1,4 @@
--- The text only grows over acts, also where one of them fails.
+-- Acts only append to the text, also if one of them fails.
 use Rattle.std.proofs.Common.{◌≡◌, ℕ, List, [], ◌∷◌, ◌++◌, length, Option, None, Some, IsSomeAnd, refl, ap, sym, ◌∙◌, subst, append_assoc, append-nil, inl, inr}
 use Rattle.std.specs.Option.{option_map}
 use Rattle.board_core.specs.Cause.{Kind}
@@ -86,7 +86,7 @@ fails_grow kind [] old now never = absurd never
 fails_grow kind (act ∷ acts) old now (inl failed) = failed_grows act old now failed.1
 fails_grow kind (act ∷ acts) old now (inr later) = grows_then old (after_act act old) now (act_grows act old) (fails_grow kind acts (after_act act old) now later)
 
--- so it does over a part of a run, however that ends
+-- a part of a run only appends to the text, however it ends
 pub part_grows : {X : Type 0} (see : X → Seen) (acts : List Act) (ending : CallEnding) (t : Told) (a b : X) → (see a).told ≡ Some t → DoesBy see acts ending a b → IsSomeAnd (see b).told (Grows t)
 part_grows see acts answered t a b is does = rw (does.told ∙ ap (option_map (after_acts acts)) is) (acts_grow acts t)
 part_grows see acts (faulted kind) t a b is does = by (see b).told (subst (λ (o : Option Told). Relates (FailsActs kind acts) o (see b).told) is does.told)

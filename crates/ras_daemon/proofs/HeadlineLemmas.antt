@@ -1,4 +1,4 @@
--- What stops of a run leave, from what stands at its moments.
+-- What crashes of a run leave, given the state at its moments.
 use Rattle.std.proofs.Common.{◌≡◌, ℕ, ◌+◌, ◌<◌, ◌≤◌, List, [], ◌∷◌, ◌++◌, length, take, refl, sym, ap, ◌∙◌, subst, append_assoc, append-nil, arith, inl, inr, length-append}
 use Rattle.std.specs.Prelude.{◌⊎◌, filter}
 use Rattle.std.specs.List.{flat_map}
@@ -48,7 +48,7 @@ use Rattle.ras_daemon.proofs.StopLemmas.{stop_quiet}
 
 -- ---- beginnings of what a run prints
 
--- the orders that stand at its start
+-- the outstanding orders at the run's start
 abbrev at_start : Start → List ℕ
 at_start start = standing_lines start.account
 
@@ -67,7 +67,7 @@ module _ (start : Start) (script : List ℕ) (before : List NumberedLine) where
       ap (flat_map output_at) (first-before start script before first)
       ∙ flat_map-append output_at (placed start before) (places_before_refusal (places_from (site_at start before) first.rest))
 
-  -- all that lines print is a beginning
+  -- the text of first lines is a beginning of the output
   pub begins-between : AreFirst start script before → IsPrefixOf (at_start start ++ outputs start before) (run_output start script)
   begins-between first =
       let rest : List ℕ = flat_map output_at (places_before_refusal (places_from (site_at start before) first.rest)) in
@@ -77,7 +77,7 @@ module _ (start : Start) (script : List ℕ) (before : List NumberedLine) where
             ∙ ap (λ (text : List ℕ). at_start start ++ text) (sym (append_assoc (outputs start before) rest closing) ∙ ap (λ (text : List ℕ). text ++ closing) (sym (lines-split first))),
       )
 
-  -- and a beginning of the last line behind all of them
+  -- with a beginning of the last line after all lines it is one, too
   pub begins-end : (exit : Exit) → AreAll start script exit before → (part missing : List ℕ) → part ++ missing ≡ closing_line (site_at start before).account exit
       → IsPrefixOf ((at_start start ++ outputs start before) ++ part) (run_output start script)
   begins-end exit all part missing is = (
@@ -86,7 +86,7 @@ module _ (start : Start) (script : List ℕ) (before : List NumberedLine) where
         ∙ (λ i. at_start start ++ (flat_map output_at (sym all.all i) ++ (is ∙ closing-same start script exit before all) i)),
   )
 
--- and a beginning of what the next line prints
+-- with a beginning of what the next line prints it is one, too
 pub begins-in : (start : Start) (script : List ℕ) (before : List NumberedLine) (read : NumberedLine) → AreFirst start script (before ++ read ∷ [])
     → (part missing : List ℕ) → part ++ missing ≡ output_at (site_at start before, read)
     → IsPrefixOf ((at_start start ++ outputs start before) ++ part) (run_output start script)
@@ -98,7 +98,7 @@ begins-in start script before read first part missing is =
     )
     (begins-between start script (before ++ read ∷ []) first)
 
--- behind a text
+-- the same text, grouped another way
 behind-here : (here start lines part : List ℕ) → ((here ++ start) ++ lines) ++ part ≡ here ++ ((start ++ lines) ++ part)
 behind-here here start lines part = joined-twice here start lines part ∙ ap (λ (text : List ℕ). here ++ text) (sym (append_assoc start lines part))
 
@@ -111,7 +111,7 @@ closing-quiet account exit = stop_quiet exit
 -- ---- the headline at a moment
 
 module _ (start : Start) (script : List ℕ) (here left : Left) where
-  -- by the number of events that are done by what was printed
+  -- the headline, given the number of events that are done by what was printed
   headline-by : (printed : List ℕ) (n : ℕ) → left.out ≡ here.out ++ printed → IsPrefixOf printed (run_output start script) → done_count printed ≡ n
       → (account : State) → Recovers account left
       → (account ≡ account_with start script n) ⊎ (account ≡ account_with start script (n + 1))
@@ -144,7 +144,7 @@ module _ (start : Start) (script : List ℕ) (here left : Left) where
       (inl store) (none-kept start script (KnownBy start.account))
 
   module _ (account : IsAccount start.account) where
-    -- orders that stand at the start
+    -- the outstanding orders are being printed
     pub headline-start : AtStart start here.out left → Headline (run_of start script) here left
     headline-start at =
         headline-by at.text.part 0 at.text.is (begins-start start script at.text.part at.text.missing at.text.splits)
@@ -153,7 +153,7 @@ module _ (start : Start) (script : List ℕ) (here left : Left) where
         (λ longer. absurd (omega (arith, longer, length-append (at_start start) [], length-append at.text.part at.text.missing, ap (λ (text : List ℕ). length text) at.text.splits)))
         (inl at.store) (none-kept start script (KnownBy start.account))
 
-    -- behind whole lines, with nothing of the next one printed
+    -- the headline after whole lines, with nothing of the next line printed
     headline-behind : (before : List NumberedLine) → AreFirst start script before → Recovers (site_at start before).account left → left.out ≡ lines_from start here.out ++ outputs start before
         → StoreNow (change_next (run_of start script) (events_before start before)) (KnownBy (site_at start before).account) (store_upto (run_of start script) (events_before start before)) left.store
         → Headline (run_of start script) here left
@@ -172,7 +172,7 @@ module _ (start : Start) (script : List ℕ) (here left : Left) where
     headline-between between =
         headline-behind between.before between.first between.recovers between.text (inl (between.store ∙ sym (store-first start script between.before between.first)))
 
-    -- while the next line is taken
+    -- the next line is being processed
     module _ (at : AtLine start script (lines_from start here.out) left) where
       abbrev place : Place
       place = (site_at start at.before, at.read)
@@ -193,7 +193,7 @@ module _ (start : Start) (script : List ℕ) (here left : Left) where
         next-site : next ≡ site_at start (at.before ++ at.read ∷ [])
         next-site = sym (site-snoc (first_site start) at.before at.read)
 
-        -- all that it prints: these are whole lines
+        -- the next line's whole output is printed: then only whole lines are
         whole-line : line.text.missing ≡ [] → Headline (run_of start script) here left
         whole-line none =
             headline-between (record {
@@ -208,7 +208,7 @@ module _ (start : Start) (script : List ℕ) (here left : Left) where
                   ∙ ap (λ (text : List ℕ). lines_from start here.out ++ text) (sym (outputs-snoc start at.before at.read));
             })
 
-        -- a beginning of that: one event more is done once the line is
+        -- a beginning of the next line's output is printed: its event is done only once the whole output is
         part-line : 1 ≤ length line.text.missing → PrintsEvent place → Headline (run_of start script) here left
         part-line some event =
             let n : ℕ = events_before start at.before in
@@ -226,7 +226,7 @@ module _ (start : Start) (script : List ℕ) (here left : Left) where
             (part-now start script at.before at.rest at.read at.splits at.accepted left.store line.count event.event line.accepted.taken line.store)
             (kept-weaker (last_upto (run_of start script) n) (KnownBy place.0.account) (KnownBy next.account) (store_upto (run_of start script) n) (known-next place) (first-kept start script at.before first))
 
-        -- a line that is no event prints nothing
+        -- a line that isn't an event prints nothing
         headline-in : (missing : List ℕ) → line.text.missing ≡ missing → Tells place → Headline (run_of start script) here left
         headline-in [] none tells = whole-line none
         headline-in (b ∷ missing) some (inl event) = part-line (omega (arith, ap (λ (text : List ℕ). length text) some)) event
@@ -246,7 +246,7 @@ module _ (start : Start) (script : List ℕ) (here left : Left) where
         | inr line ↦ headline-in line line.text.missing refl (tells place line.accepted (account-along (first_site start) at.before at.accepted account))
       ]
 
-    -- no event is behind the last one
+    -- no event comes after the last line
     events-all : (exit : Exit) (before : List NumberedLine) → AreAll start script exit before → events_of start script ≡ filter is_event (placed start before)
     events-all exit before all = ap (λ (ps : List Place). filter is_event ps) all.all
 
@@ -262,7 +262,7 @@ module _ (start : Start) (script : List ℕ) (here left : Left) where
         ∙ ap (take n) (sym (events-all exit before all)))
         ∙ account-first start script before all.first
 
-    -- the last line
+    -- the last line is being printed
     pub headline-end : AtEnd start script (lines_from start here.out) left → Headline (run_of start script) here left
     headline-end at =
         let n : ℕ = events_before start at.before in
@@ -292,7 +292,7 @@ pub headline : (clock : Clock) (start : Start) (script : List ℕ) (here left : 
 headline clock start script here left stops text (inl now) = headline-nothing start script here left (text now) (stops left now).recovers (stops left now).store
 headline clock start script here left stops text (inr moment) = headline-since start script here left moment
 
--- what it has printed is a beginning
+-- what is printed is a beginning of the output
 pub moment-prints : (clock : Clock) (start : Start) (script : List ℕ) (here left : Left) → (LeftNow clock left → left.out ≡ here.out)
     → RunMoment clock start script here left → PrintsPart (run_output start script) here.out left.out
 moment-prints clock start script here left same (inl now) = ([], begins-start start script [] (at_start start) refl, same now ∙ sym (append-nil here.out))

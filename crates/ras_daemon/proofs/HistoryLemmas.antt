@@ -1,4 +1,4 @@
--- What runs log and order, one after the other.
+-- What runs log and order, one run after another.
 use Rattle.std.proofs.Common.{◌≡◌, Bool, true, false, not, ◌||◌, ◌&&◌, List, [], ◌∷◌, ◌++◌, refl, sym, ap, ◌∙◌, subst, append_assoc, append-nil}
 use Rattle.std.specs.Prelude.{if◌then◌else◌}
 use Rattle.std.specs.List.{AllByRecursion, IsDistinct, list_any}
@@ -27,12 +27,12 @@ use Rattle.ras_daemon.proofs.ListLemmas.{all-weaker}
 
 -- ---- names of entries
 
--- an entry that brings no name
+-- an entry that brings no name adds none
 no-name : (es : List Entry) (e : Entry) (b : Bool) → names_of (e ∷ []) ≡ [] → names_of (if b then es ++ e ∷ [] else es) ≡ names_of es
 no-name es e true none = names_of-append es (e ∷ []) ∙ ap (λ (ns : List Name). names_of es ++ ns) none ∙ append-nil (names_of es)
 no-name es e false none = refl
 
--- f and g: whether a name is among those of fresh facts and of all; r: whether it is retired
+-- `f` and `g`: whether a name is among the new facts' names and among all facts' names; `r`: whether it is retired
 not-among : (f g r : Bool) → (f || r) ≡ (g || r) → (not g && not r) ≡ true → f ≡ false
 not-among true true r same fresh = cc
 not-among true false true same fresh = cc
@@ -43,7 +43,7 @@ once-none : IsDistinct same_name []
 unfolding IsDistinct
 once-none = tt
 
--- the facts that are fresh in a history have names of their own
+-- the new facts of a history have distinct names
 pub fresh-once : (h : History) → IsDistinct same_name (names_of (fresh_entries h))
 fresh-once empty = once-none
 fresh-once (with_mark h) = fresh-once h
@@ -85,7 +85,7 @@ among-behind front (name ∷ names) = (
   subst (λ (ns : List Name). AreAmong ns names) (append_assoc front (name ∷ []) names) (among-behind (front ++ name ∷ []) names),
 )
 
--- a history has the names of its own entries
+-- a history contains the names of its own entries
 pub among-own : (h : History) (es : List Entry) → AreAmong (names_in (with_entries h es)) (names_of es)
 among-own h es = subst (λ (ns : List Name). AreAmong ns (names_of es)) (sym (names_in-entries h es)) (among-behind (names_in h) (names_of es))
 
@@ -99,7 +99,7 @@ fresh-stale a e es is = rw is refl
 fresh-news : (a : State) (e : Entry) (es : List Entry) → is_fresh_in a e ≡ true → fresh_entries_in a (e ∷ es) ≡ e ∷ fresh_entries_in (account_after a e) es
 fresh-news a e es is = rw is refl
 
--- an entry that is no fact, whether it is news or not
+-- an entry that isn't a fact, whether it is new or not
 other-logged : (h : History) (e : Entry) (es : List Entry) (b : Bool) → is_fresh_in (account_of h) e ≡ b → ((rest : List Entry) → names_of (e ∷ rest) ≡ names_of rest)
     → names_of (fresh_entries_in (account_of (with_entry h e)) es) ≡ [] → names_of (fresh_entries_in (account_of h) es) ≡ []
     → names_of (fresh_entries_in (account_of h) (e ∷ es)) ≡ []
@@ -111,7 +111,7 @@ other-logged h e es false is none with-it without = ap names_of (fresh-stale (ac
 stale-fact : (h : History) (fact : FactOf) → is_among (names_in h) fact.name ≡ true → is_fresh_behind h (Fact fact) ≡ false
 stale-fact h fact among = and-false (is_among (names_in h) fact.name) (not (is_retired (floor_after h) fact.name)) among
 
--- of these no fact is news
+-- if the history has all names of these entries, none of their facts is new
 pub none-logged : (h : History) (es : List Entry) → AreAmong (names_in h) (names_of es) → names_of (fresh_entries_in (account_of h) es) ≡ []
 none-logged h [] all = refl
 none-logged h (Fact fact ∷ es) all =
@@ -123,7 +123,7 @@ none-logged h (Retire boot ∷ es) all =
 none-logged h (ModuleLimit limit ∷ es) all =
     other-logged h (ModuleLimit limit) es (is_fresh_in (account_of h) (ModuleLimit limit)) refl (λ rest. refl) (none-logged (with_entry h (ModuleLimit limit)) es all) (none-logged h es all)
 
--- facts among them change nothing
+-- facts whose names the history has change nothing
 none-counted : (h : History) (es : List Entry) → AllByRecursion IsFact es → AreAmong (names_in h) (names_of es) → account_of (with_entries h es) ≡ account_of h
 none-counted h [] facts all = refl
 none-counted h (Fact fact ∷ es) facts all =
@@ -137,7 +137,7 @@ none-counted h (ModuleLimit limit ∷ es) facts all = absurd facts.0
 pub with_entries-append : (h : History) (xs ys : List Entry) → with_entries h (xs ++ ys) ≡ with_entries (with_entries h xs) ys
 with_entries-append h xs ys = fold-append with_entry h xs ys
 
--- facts that come again, and others behind them
+-- facts that come again, and other entries after them
 pub again-counted : (h : History) (xs ys : List Entry) → AllByRecursion IsFact xs → account_of (with_entries (with_entries h xs) (xs ++ ys)) ≡ account_of (with_entries h (xs ++ ys))
 again-counted h xs ys facts =
     let once : History = with_entries h xs in
@@ -149,9 +149,9 @@ again-counted h xs ys facts =
 
 -- ---- orders of entries
 
--- a list of orders that grows by those of each entry
+-- a list of orders that grows by the orders of each entry
 module _ (given : History → List Order) (grows : (h : History) (e : Entry) → given (with_entry h e) ≡ given h ++ orders_behind h e) where
-  -- entries behind a history give their orders behind its own
+  -- the orders of entries follow the orders of the history before them
   pub orders-entries : (h : History) (es : List Entry) → given (with_entries h es) ≡ given h ++ orders_along_entries (account_of h) es
   orders-entries h [] = sym (append-nil (given h))
   orders-entries h (e ∷ es) =

@@ -1,4 +1,4 @@
--- Two scripts one after the other, and the script that joins them.
+-- Two scripts, one after the other, and the script that joins them.
 use Rattle.std.proofs.Common.{◌≡◌, ℕ, ◌+◌, List, [], ◌∷◌, ◌++◌, length, None, Option, Result, Ok, Err, refl, sym, ap, subst, ◌∙◌, append-nil, append_assoc, map}
 use Rattle.std.specs.List.{AllByRecursion, enumerate_from, filter_map, fold}
 use Rattle.std.proofs.lemmas.List.Sums.{fold-append}
@@ -26,9 +26,9 @@ use Rattle.ras_daemon.proofs.PlaceLemmas.{reads-append, reads_behind}
 use Rattle.ras_daemon.proofs.RunLawLemmas.{reported-whole, reports-any, reports-append, settings-any}
 use Rattle.ras_events.proofs.QuietLemmas.{all_both}
 
--- ---- what is told of the machine
+-- ---- the machine description
 
--- lines tell the same whatever their numbers
+-- lines describe the same machine, whatever their numbers
 told-any : (settings : Settings) (k m : ℕ) (reads : List (Result Line LineRefused)) → fold settings_read settings (enumerate_from k reads) ≡ fold settings_read settings (enumerate_from m reads)
 told-any settings k m [] = refl
 told-any settings k m (read ∷ reads) =
@@ -45,7 +45,7 @@ none-last {X} (x ∷ y ∷ xs) is = absurd (some (none-last (y ∷ xs) is))
 none-behind : {X Y : Type 0} (f : X → Option Y) (xs ys : List X) → filter_map f ys ≡ [] → filter_map f (xs ++ ys) ≡ filter_map f xs
 none-behind {X} {Y} f xs ys none = filter_map-append f xs ys ∙ ap (λ (zs : List Y). filter_map f xs ++ zs) none ∙ append-nil (filter_map f xs)
 
--- lines that tell nothing tell nothing after others
+-- lines that describe nothing describe nothing after other lines either
 settings-untold : (before others : List NumberedLine) → settings_told others ≡ no_settings → settings_told (before ++ others) ≡ settings_told before
 settings-untold before others none = λ i. record {
   topology = none-behind row_by before others (ap (λ (s : Settings). s.topology) none) i;
@@ -55,7 +55,7 @@ settings-untold before others none = λ i. record {
 
 -- ---- lines that poll nothing
 
--- whatever their numbers
+-- lines poll nothing, whatever their numbers
 unpolled-any : (k m : ℕ) (reads : List (Result Line LineRefused)) → AllByRecursion IsNoPoll (enumerate_from k reads) → AllByRecursion IsNoPoll (enumerate_from m reads)
 unpolled-any k m [] none = tt
 unpolled-any k m (read ∷ reads) none = (by read none.0, unpolled-any (k + 1) (m + 1) reads none.1)
@@ -71,7 +71,7 @@ all-behind P (x ∷ xs) ys all = all-behind P xs ys all.1
 
 -- ---- what lines report
 
--- wherever a script that is taken whole begins, it reports what it would over an empty journal
+-- a script that is taken whole reports what it would report over an empty journal, wherever it begins
 script-whole : (start : Start) (script : List ℕ) → AllByRecursion IsNoPoll (reads_of script) → IsTakenWhole start script
     → reported start script (event_count start script) ≡ reports (first_site empty_start) (reads_of script)
 script-whole start script none taken = reported-whole start script taken ∙ reports-any (first_site start) (first_site empty_start) 1 1 (map line_of (script_lines script).whole) none refl
@@ -80,7 +80,7 @@ module _ (one other both : List ℕ) (joined : AreJoined one other both) (none :
   abbrev empty_site : Site
   empty_site = first_site empty_start
 
-  -- the lines that both have, and the other lines of the first and the second script; and where the latter stand when they are joined
+  -- the lines that both scripts have, the other lines of each, and where these are in the joined script
   abbrev rows : List NumberedLine
   rows = reads_in joined.rows
 
@@ -122,7 +122,8 @@ module _ (one other both : List ℕ) (joined : AreJoined one other both) (none :
   none-other : AllByRecursion IsNoPoll (reads_of other)
   none-other = subst (AllByRecursion IsNoPoll) (sym other-reads) (all_both IsNoPoll rows second (all-front IsNoPoll rows first none-front) none-second)
 
-  -- behind the lines of the first script the second one's tell what they do behind the rows
+  -- after the lines of the first script, the second script's lines describe the machine as they do right after the
+  -- rows
   told-last : settings_told (rows ++ first) ≡ settings_told rows
   told-last =
       settings-untold rows first

@@ -1,4 +1,4 @@
--- The record store while the event of a line is taken, and which of its records are kept.
+-- The record store while a line's event is processed, and which of its records are stored.
 use Rattle.std.proofs.Common.{◌≡◌, ℕ, Bool, true, false, nat_eq, nat_lt, if◌then◌else◌, List, [], ◌∷◌, length, map, Option, None, Some, Result, Ok, Err, refl, sym, ap, subst, ◌∙◌, inl, inr}
 use Rattle.std.specs.Prelude.{◌⊎◌, unwrap_or}
 use Rattle.std.specs.List.{AllByRecursion, cons_option, fold}
@@ -63,14 +63,14 @@ IsTaken place = refusal_at place ≡ None
 
 -- ---- while an event changes the store
 
--- The change is under way: its record is put; or the first readable records are cleared, and the names of all of them
--- are known.
+-- The change is under way: its record was put; or the first readable records are cleared, and the names of all
+-- readable records are known.
 abbrev pub Passes : StoreChange → (Name → Type 0) → List Stored → List Stored → Type 0
 Passes keeps Known laid store = ⊥
 Passes (puts r) Known laid store = store ≡ store_with r.id r.bytes laid
 Passes clears Known laid store = ClearsFirst laid store × KnowsReadable laid Known
 
--- The store is the one before, or the change is under way.
+-- The store is the store before the change, or the change is under way.
 abbrev pub StoreNow : StoreChange → (Name → Type 0) → List Stored → List Stored → Type 0
 StoreNow change Known laid store = (store ≡ laid) ⊎ Passes change Known laid store
 
@@ -83,16 +83,16 @@ module _ (Known : Name → Type 0) (laid store : List Stored) where
   store-during keeps (inr never) = absurd never
   store-during (puts r) (inr put) = inr put
 
-  -- nothing is cleared before the names are known
+  -- no record is cleared before all names are known
   pub cleared-during : (change : StoreChange) → StoreNow change Known laid store → change ≡ clears → (store ≡ laid → ⊥) → KnowsReadable laid Known
   cleared-during change (inl same) is other = absurd (other same)
   cleared-during clears (inr (first, knows)) is other = knows
   cleared-during keeps (inr never) is other = absurd never
   cleared-during (puts r) (inr put) is other = absurd cc
 
--- ---- what stands under an identifier
+-- ---- the bytes under an identifier
 
--- the store has what it had there, or the record that is put has replaced it
+-- the store has the bytes that it had there, or the record that was put has replaced them
 put-during : (r : Stored) (id : ℕ) (bytes : List ℕ) (laid : List Stored) → bytes_under id laid ≡ Some bytes
     → HasPut (puts r) id (store_with r.id r.bytes laid) ⊎ (bytes_under id (store_with r.id r.bytes laid) ≡ Some bytes)
 put-during r id bytes laid stands = by (refusal_of r.id r.bytes laid) (nat_eq r.id id) refl
@@ -102,7 +102,7 @@ put-during r id bytes laid stands = by (refusal_of r.id r.bytes laid) (nat_eq r.
     by None true is = inl (same_id r.id id is, subst (λ i. bytes_under i (with_record r.id r.bytes laid) ≡ Some r.bytes) (same_id r.id id is) (found-with_record r.id r.bytes laid))
     by None false is = inr (under-with_record r.id id r.bytes is laid ∙ stands)
 
--- what `KeepsRecords` says, unless the record that a change puts is there
+-- a record that was last stored is in the store or known, unless the record that a change puts is there
 pub kept-during : (change : StoreChange) (last : ℕ → Option (List ℕ)) (Known : Name → Type 0) (laid store : List Stored) → StoreNow change Known laid store → KeepsRecords last Known laid
     → (id : ℕ) (bytes own : List ℕ) → last id ≡ Some bytes → read_under id (filled bytes) ≡ Ok own → HasPut change id store ⊎ ((bytes_under id store ≡ Some bytes) ⊎ Known (stored_name own))
 kept-during change last Known laid store now held id bytes own there reads = elim (held id bytes own there reads) [ inl stands ↦ by change now stands | inr known ↦ inr (inr known) ]
@@ -119,7 +119,7 @@ module _ (rows : List Row) (seconds : ℕ) (own : List ℕ) where
   abbrev pub told : FactOf
   told = (stored_report rows seconds own).fact
 
-  -- the report of a record is of the fact that stands in it
+  -- the report of a record is of the record's own fact
   told-stored : told ≡ stored_fact rows seconds own
   told-stored = by (panic_report own)
     where
@@ -139,13 +139,13 @@ module _ (rows : List Row) (seconds : ℕ) (own : List ℕ) where
   abbrev Knows : State → Type 0
   Knows a = knows a (stored_name own) ≡ true
 
-  -- once its piece is counted
+  -- the name is known once the record's piece is counted
   own-known : (a : State) (read : Result (List ℕ) Why) (k : ℕ) (pieces : List Piece) → read ≡ Ok own → Knows (account_after_all a (entries_in (piece_of rows seconds k read ∷ pieces)))
   own-known a read k pieces is =
       ap (λ (r : Result (List ℕ) Why). knows (account_after_all a (entries_in (piece_of rows seconds k r ∷ pieces))) (stored_name own)) is
       ∙ knows-after_all (account_after a (Fact told)) (entries_in pieces) (stored_name own) (subst (λ (name : Name). knows (account_after a (Fact told)) name ≡ true) told-name (knows-own a told))
 
-  -- and behind other pieces
+  -- the name stays known after other pieces
   later-known : (a : State) (piece : Piece) (pieces : List Piece) → ((b : State) → Knows (account_after_all b (entries_in pieces))) → Knows (account_after_all a (entries_in (piece ∷ pieces)))
   later-known a piece pieces known = by (entry_in piece)
     where
@@ -170,7 +170,7 @@ poll-knows a rows seconds store id bytes own found reads = polled-knows rows sec
 
 -- ---- a record that is saved, and isn't refused
 
--- the store refuses it only if it is full
+-- the store rejects the record only if the store is full
 abbrev Fits : Asking → Type 0
 Fits (saves r) = (store : List Stored) → is_full_for r.id store ≡ false → refusal_of r.id r.bytes store ≡ None
 Fits asks = Unit {0}
@@ -198,7 +198,7 @@ place-fits (site, (number, Ok line)) = of-line (λ event. Fits (deed_of event).a
     by (asks.Poll seconds) = λ lists is. tt
     by line = tt
 
--- a record that is saved in time finds room, and a put that isn't refused does
+-- a record that is saved in time finds room, and so does a put that isn't rejected
 saved-room : (full free : Bool) → (if free then (if full then Some (ErstStatus 1) else None) else Some ErstBusy) ≡ None → full ≡ false
 saved-room full false is = absurd cc
 saved-room true true is = absurd cc
@@ -208,7 +208,7 @@ put-taken : (number : ℕ) (refusal : Option PutRefused) → put_refusal number 
 put-taken number None is = refl
 put-taken number (Some why) is = absurd cc
 
--- the store takes the record that a change puts
+-- the store accepts the record that a change puts
 abbrev pub HasRoom : StoreChange → List Stored → Type 0
 HasRoom (puts r) store = refusal_of r.id r.bytes store ≡ None
 HasRoom change store = Unit {0}
@@ -236,7 +236,7 @@ put-kept id put last Known store taken held k bytes own there reads =
           | inr known ↦ inr known
         ]
 
--- more is known
+-- more names are known
 pub kept-weaker : (last : ℕ → Option (List ℕ)) (Known Now : Name → Type 0) (store : List Stored) → ((name : Name) → Known name → Now name) → KeepsRecords last Known store → KeepsRecords last Now store
 kept-weaker last Known Now store grows held id bytes own there reads =
     elim (held id bytes own there reads) [ inl stands ↦ inl stands | inr known ↦ inr (grows (stored_name own) known) ]
@@ -245,7 +245,7 @@ poll-kept : (last : ℕ → Option (List ℕ)) (Known : Name → Type 0) (store 
 poll-kept last Known store knows held id bytes own there reads =
     elim (held id bytes own there reads) [ inl stands ↦ inr (knows id bytes own stands reads) | inr known ↦ inr known ]
 
--- at a site what was last put is kept
+-- what was last stored is in the site's store or known
 abbrev pub KeepsAt : (ℕ → Option (List ℕ)) → Site → Type 0
 KeepsAt last site = KeepsRecords last (KnownBy site.account) site.store
 
@@ -253,11 +253,11 @@ module _ (place : Place) where
   abbrev next : Site
   next = site_after place.0 place.1
 
-  -- what is known before a line is known behind it
+  -- a name that is known before a line is known after it
   pub known-next : (name : Name) → KnownBy place.0.account name → KnownBy next.account name
   known-next name known = knows-after_all place.0.account (entries_at place) name known
 
-  -- and so are the records that a poll reads
+  -- the names of records that a poll reads are known after the poll
   pub known-polled : (seconds : ℕ) → (deed_at place).asks ≡ polls seconds → KnowsReadable place.0.store (KnownBy next.account)
   known-polled seconds is =
       subst (λ (a : State). KnowsReadable place.0.store (KnownBy a)) (sym (ap (λ asks. account_after_all place.0.account (entries_in (unwrap_or (counted_by place.0 asks (deed_at place).reported) []))) is))
@@ -274,7 +274,7 @@ module _ (place : Place) where
       by (polls seconds) is room held = poll-kept last (KnownBy next.account) place.0.store (known-polled seconds is) held
       by asks is room held = held
 
--- after lines of which none is refused
+-- the site after accepted lines
 pub lines-kept : (last : ℕ → Option (List ℕ)) (site : Site) (reads : List NumberedLine) → AllByRecursion IsTaken (places_from site reads) → KeepsAt last site
     → KeepsAt (λ id. fold (last_changed id) (last id) (map change_at (places_from site reads))) (site_along site reads)
 lines-kept last site [] taken held = held
@@ -288,6 +288,6 @@ first-kept start script before first = λ id bytes own there reads.
     (lines-kept (λ id. bytes_under id start.store) (first_site start) before (all-weaker IsAccepted IsTaken (λ place accepted. accepted.taken) (placed start before) first.accepted)
     (λ id bytes own there reads. inl there) id bytes own (sym (last-first start script before first id) ∙ there) reads)
 
--- at the start
+-- the site at the start
 pub none-kept : (start : Start) (script : List ℕ) (Known : Name → Type 0) → KeepsRecords (last_upto (run_of start script) 0) Known (store_upto (run_of start script) 0)
 none-kept start script Known = λ id bytes own there reads. inl there

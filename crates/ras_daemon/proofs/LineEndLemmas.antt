@@ -1,4 +1,4 @@
--- Where a run ends among its lines: how far its source was read.
+-- How far the source was read when a run ends among its lines.
 use Rattle.std.proofs.Common.{◌≡◌, ℕ, ◌+◌, ◌-◌, true, List, [], ◌∷◌, ◌++◌, length, Option, Some, IsSomeAnd, Ok, refl, ap, sym, ◌∙◌, subst, append_assoc, append-nil, length-append, arith, inl, inr, ◌<◌, ◌≤◌, Bool, false, Result, Err, ◌==◌}
 use Rattle.std.specs.Prelude.{◌⊎◌}
 use Rattle.board_core.specs.Doing.{after_acts}
@@ -58,7 +58,7 @@ both_nil : (xs ys : List ℕ) → [] ≡ xs ++ ys → ys ≡ []
 both_nil [] ys is = sym is
 both_nil (x ∷ xs) ys is = absurd cc
 
--- What was taken of a script where no line feed is held.
+-- What was taken of a script if the reader's buffer has no line feed.
 abbrev pub Taken : Type 0 → List ℕ → List ℕ → List (List ℕ) → Type 0
 Taken Fault script left done = (taken : List ℕ) × (taken ++ left ≡ script) × (Fault → events_in (ended_lines taken) ≤ events_in done)
 
@@ -84,7 +84,7 @@ taken_none Fault start script t number reader new left run taking rest went lack
 
 -- ---- how far the source was read
 
--- what was taken, where this is left
+-- what was taken if this remains
 script_taken : (start : Start) (script : List ℕ) (t : Told) (number : ℕ) (reader : Reader) (left : Option (List ℕ)) (run : Run)
     (taking : Taking start script t number reader left run) (bytes rest : List ℕ) → taking.now ≡ bytes ++ rest → (taken : List ℕ) × (taken ++ rest ≡ script)
 script_taken start script t number reader left run taking bytes rest is = by taking.kept
@@ -104,7 +104,7 @@ line_taken start script t number reader new left now run taking rest is moves = 
     by (inl moved) = script_taken start script t number reader left run taking moved.bytes rest moved.taken
     by (inr (moved, end)) = script_taken start script t number reader left run taking moved.bytes rest moved.taken
 
--- what is held then is no more than a line and a byte
+-- the buffer then has at most a line and a byte
 moved_few : (given : List ℕ) (old new : Reader) (before now : Option (List ℕ)) → length old.held + (new.taken - old.taken) ≤ LONGEST_LINE + 1 → Moves given old new before now → length new.held ≤ LONGEST_LINE + 1
 moved_few given old new before now few moved =
     let kept : length old.held + length moved.bytes ≡ length given + length new.held = sym (length-append old.held moved.bytes) ∙ ap length moved.kept ∙ length-append given new.held in
@@ -115,7 +115,7 @@ held_few : (old new : Reader) (before now : Option (List ℕ)) → length old.he
 held_few old new before now few (inl moved) = moved_few (new.line ++ 10 ∷ []) old new before now few moved
 held_few old new before now few (inr (moved, end)) = moved_few new.line old new before now few moved
 
--- where a line is given, and the text goes on from there
+-- a line was returned, and more text follows
 pub ahead_given : (Fault : Type 0) → (Fault → ⊥) → (start : Start) (script : List ℕ) (t : Told) (number : ℕ) (reader new : Reader) (left now : Option (List ℕ)) (run : Run) (later : Option Told) (line : List ℕ) → (same : line ≡ new.line)
     → (taking : Taking start script t number reader left run) → IsLine new.line → given_count reader < given_count new → length reader.held + (new.taken - reader.taken) ≤ LONGEST_LINE + 1 → MovesLine {E = Exit} (Ok true) reader new left now
     → (rest : List NumberedLine) × (reads_in taking.done ++ (number + 1, line_of line) ∷ rest ≡ reads_of script)
@@ -142,7 +142,7 @@ ahead_given Fault never start script t number reader new left now run later line
       whole = λ fault. absurd (never fault);
     }))
 
--- where none is given
+-- no line was returned
 pub ahead_none : (Fault : Type 0) (start : Start) (script : List ℕ) (t : Told) (number : ℕ) (reader new : Reader) (left now : Option (List ℕ)) (run : Run) (told : Option Told)
     → (taking : Taking start script t number reader left run) → told ≡ Some (after_acts taking.acts t) → length reader.held + (new.taken - reader.taken) ≤ LONGEST_LINE + 1 → (Fault → Lacks 10 new.held) → Moves [] reader new left now
     → EndsAhead Fault start script t.here.out now told
@@ -172,11 +172,11 @@ ahead_none Fault start script t number reader new left now run told taking is fe
     subst (λ o. EndsAhead Fault start script t.here.out o told) (sym tells.1)
     (subst (λ o. IsSomeAnd o (ReadAhead Fault start script t.here.out tells.0)) (sym is) ahead)
 
--- the list of the lines doesn't end a call as done
+-- the list of lines doesn't end a call successfully
 pub next_not_done : (exit : Exit) → IsNextExit exit → exit ≡ Done → ⊥
 next_not_done exit is done = subst IsNextExit done is
 
--- a line isn't refused for a fault of the source
+-- a line isn't rejected for a fault of the source
 pub not_fault : (exit : Exit) → IsStop exit → ◌≡◌ {A = Result (Unit {0}) Exit} (Err exit) (Err SourceFault) → ⊥
 not_fault exit stop is = let same : exit ≡ SourceFault = cc in subst IsStop same stop
 

@@ -1,4 +1,4 @@
--- Lines taken one after another.
+-- Lines are processed one after another.
 use Rattle.std.proofs.Common.{◌≡◌, ℕ, ◌+◌, Bool, true, false, List, [], ◌∷◌, ◌++◌, length, Option, None, Some, IfSome, IsSomeAnd, Result, Ok, Err, refl, ap, sym, ◌∙◌, subst, append_assoc, append-nil, length-append, arith, inl, inr, ◌<◌, ◌≤◌, suc}
 use Rattle.std.specs.Prelude.{⊤, ◌⊎◌}
 use Rattle.board_core.specs.Cause.{Faults, Kind}
@@ -36,7 +36,7 @@ use Rattle.ras_exit.specs.ScriptEnd.{ending_exit}
 use Rattle.ras_daemon.proofs.AlongActLemmas.{acts_along, along_begun, along_done, asks_alone, done-snoc, line_begun}
 use Rattle.ras_daemon.proofs.PlaceLemmas.{accepted-snoc, all_read, first_more, line_refused, none_refused, reads-append, reads_behind, script-refused}
 
--- So many lines of a script were taken and did their acts, and the others are to come.
+-- The first `number` lines of a script were taken and did their acts; the other lines are to come.
 pub record Taking (start : Start) (script : List ℕ) (t : Told) (number : ℕ) (reader : Reader) (left : Option (List ℕ)) (run : Run) : Type 0 where
   pub done : List (List ℕ)
   pub now : List ℕ
@@ -52,13 +52,13 @@ pub record Taking (start : Start) (script : List ℕ) (t : Told) (number : ℕ) 
   pub size : length script ≤ length (script_of done) + length (reader.held ++ now)
   pub kept : (script ≡ script_of done ++ (reader.held ++ now)) ⊎ ((reader.held ≡ []) × (now ≡ []))
 
--- what a call of the reader gives, where the source tells
+-- what a call of the reader returns, if the source is modelled
 abbrev pub Gave : Result Bool Exit → ℕ → Reader → Reader → Option (List ℕ) → Option (List ℕ) → Type 0
 Gave result number old new before now = IfSome before (λ left. IfSome now (λ rest. GivesNumbered result (lines_to_come old left) number new rest))
 
 -- ---- the reader
 
--- what a call gave, by what was found of its answer
+-- what a call returned, in another form of its result
 pub gave_as : (result found : Result Bool Exit) (number : ℕ) (old new : Reader) (before now : Option (List ℕ)) → result ≡ found → Gave result number old new before now → Gave found number old new before now
 gave_as result found number old new before now is gave = subst (λ r. Gave r number old new before now) is gave
 
@@ -69,7 +69,7 @@ pub taken_tells : (bytes before : List ℕ) (now : Option (List ℕ)) → AreTak
 taken_tells bytes before None taken = absurd taken
 taken_tells bytes before (Some rest) taken = (rest, refl)
 
--- a source that tells goes on to tell
+-- a modelled source stays modelled
 pub moved_tells : (result : Result Bool Exit) (old new : Reader) (left : List ℕ) (before now : Option (List ℕ)) → before ≡ Some left → MovesLine result old new before now → (rest : List ℕ) × (now ≡ Some rest)
 moved_tells result old new left before now is moves = by result (subst (λ b. MovesLine result old new b now) is moves)
   where
@@ -84,7 +84,7 @@ gave_now result number old new left rest before now one two gave =
     subst (λ n. IfSome n (λ rest. GivesNumbered result (lines_to_come old left) number new rest)) two
     (subst (λ b. IfSome b (λ left. IfSome now (λ rest. GivesNumbered result (lines_to_come old left) number new rest))) one gave)
 
--- the line that was given, among the bytes that were held or come
+-- the line that was returned, among the bytes in the buffer and the bytes to come
 ended_line : (old new : Reader) (before rest : List ℕ) → IsLine new.line → Moves (new.line ++ 10 ∷ []) old new (Some before) (Some rest)
     → old.held ++ before ≡ new.line ++ 10 ∷ (new.held ++ rest)
 ended_line old new before rest line moved =
@@ -130,7 +130,7 @@ script-snoc done line more =
     ∙ ap (λ bytes. script_of done ++ (bytes ++ more)) (append-nil (line ++ 10 ∷ []))
     ∙ ap (λ bytes. script_of done ++ bytes) (append_assoc line (10 ∷ []) more)
 
--- the lines so far and what is held and left are the script, or all was given
+-- the lines so far, the buffer and the rest are the script, or all was returned
 kept_on : (script : List ℕ) (done : List (List ℕ)) (old new : Reader) (before rest : List ℕ) → IsLine new.line → (script ≡ script_of done ++ (old.held ++ before)) ⊎ ((old.held ≡ []) × (before ≡ []))
     → MovesLine {E = Exit} (Ok true) old new (Some before) (Some rest) → (script ≡ script_of (done ++ new.line ∷ []) ++ (new.held ++ rest)) ⊎ ((new.held ≡ []) × (rest ≡ []))
 kept_on script done old new before rest line kept (inr (moved, end)) = inr (end.0, end.1)
@@ -150,7 +150,7 @@ size-snoc done line =
 
 -- ---- at the start
 
--- The first lines were taken, and what they did.
+-- The first lines were taken, and did these acts.
 abbrev pub Took : {X : Type 0} → (X → Seen) → Start → List ℕ → Told → ℕ → Reader → Option (List ℕ) → Run → X → X → Type 0
 Took see start script t number reader left run old new =
     (taking : Taking start script t number reader left run) × GoesWell taking.acts (see old) (see new)
@@ -201,7 +201,7 @@ module _ (start : Start) (script : List ℕ) (t : Told) (number : ℕ) (reader n
   reads-given : reads_in (taking.done ++ line ∷ []) ≡ reads_in taking.done ++ read_given ∷ []
   reads-given = reads-append taking.done (line ∷ []) ∙ (let n : 1 + length taking.done ≡ number + 1 = (let c = taking.count in omega arith) in ap (λ k. reads_in taking.done ++ (k, line_of line) ∷ []) n)
 
-  -- It stands behind the lines that were taken.
+  -- The line comes after the lines that were taken.
   pub given : Gave (Ok true) number reader new left now → MovesLine {E = Exit} (Ok true) reader new left now
       → (rest : List NumberedLine) × (reads_in taking.done ++ read_given ∷ rest ≡ reads_of script)
   given gave moves =
@@ -213,7 +213,7 @@ module _ (start : Start) (script : List ℕ) (t : Told) (number : ℕ) (reader n
         sym (append_assoc (reads_in taking.done) (read_given ∷ []) (reads_behind done come)) ∙ ap (λ reads. reads ++ reads_behind done come) (sym reads-given) ∙ sym whole,
       )
 
-  -- and among the bytes of the script
+  -- the line is in the bytes of the script
   pub given_here : IsLine new.line → given_count reader < given_count new → MovesLine {E = Exit} (Ok true) reader new left now
       → (rest : List ℕ) × (now ≡ Some rest) × (lines_of (reader.held ++ taking.now) ≡ line ∷ lines_of (new.held ++ rest)) × (length (reader.held ++ taking.now) ≤ length line + 1 + length (new.held ++ rest))
   given_here is_line grew moves =
@@ -221,7 +221,7 @@ module _ (start : Start) (script : List ℕ) (t : Told) (number : ℕ) (reader n
       let text = given_text reader new taking.now tells.0 is_line grew (subst (λ n. MovesLine {E = Exit} (Ok true) reader new (Some taking.now) n) tells.1 (subst (λ b. MovesLine {E = Exit} (Ok true) reader new b now) taking.tells moves)) in
       (tells.0, tells.1, rw same text.0, rw same text.1)
 
-  -- It was taken, and did its acts.
+  -- The line was processed, and did its acts.
   pub took_line : {X : Type 0} (see : X → Seen) (more : Run) (old mid later : X) → GoesWell taking.acts (see old) (see mid) → IsLine new.line → given_count reader < given_count new → Gave (Ok true) number reader new left now → MovesLine {E = Exit} (Ok true) reader new left now
       → TakesLine see (site_at start (reads_in taking.done), read_given) (after_acts taking.acts t) (Ok tt) more mid later → Took see start script t (number + 1) new now more old later
   took_line see more old mid later well is_line grew gave moves takes =
@@ -255,7 +255,7 @@ module _ (start : Start) (script : List ℕ) (t : Told) (number : ℕ) (reader n
         does_then see taking.acts acts went_well old mid later well tt takes.does.2,
       )
 
--- The next line is taken at the site that these lines come to.
+-- The next line is processed at the site after these lines.
 pub takes_next : {X : Type 0} (see : X → Seen) (start : Start) (script : List ℕ) (t : Told) (number : ℕ) (reader : Reader) (left : Option (List ℕ)) (run : Run) (taking : Taking start script t number reader left run)
     (read : NumberedLine) (result : Result (Unit {0}) Exit) (more : Run) (old new : X)
     → (IsDrivable run.settings.driver → TakesLine see (site_of run (after_acts taking.acts t), read) (after_acts taking.acts t) result more old new)
@@ -289,11 +289,11 @@ module _ {X : Type 0} (see : X → Seen) (start : Start) (script : List ℕ) (t 
   abbrev first_here : AreFirst start script before
   first_here = record { rest = read ∷ rest; splits = splits; accepted = accepted }
 
-  -- what is told by then
+  -- the model by then
   abbrev then : Told
   then = after_acts acts t
 
-  -- these are what the line asks
+  -- the acts are what the line asks
   abbrev line_asks : (line : List Act) → CanAsk (event_at place) then → line ≡ asking_acts place then → IsAsked start script before then line
   line_asks line can is = record { read = read; rest = rest; splits = splits; can = can; is = is }
 
@@ -388,7 +388,7 @@ module _ {X : Type 0} (see : X → Seen) (start : Start) (script : List ℕ) (t 
   whole_given : (ending : Ending) → lines_to_come reader taking.now ≡ no_line ending → script_lines script ≡ record { whole = taking.done; ending = ending }
   whole_given ending none = taking.lines ∙ ap (with_lines taking.done) none ∙ ap (λ whole. record { whole = whole; ending = ending }) (append-nil taking.done)
 
-  -- what is told behind them
+  -- the model after these lines
   abbrev told_now : Told
   told_now = after_acts taking.acts t
 
@@ -401,7 +401,7 @@ module _ {X : Type 0} (see : X → Seen) (start : Start) (script : List ℕ) (t 
         ends = inl (same ∙ ap (λ (l : Lines). ending_exit (length l.whole) l.ending) (sym (whole_given ending none)), refl);
       }
 
-  -- they end here, in this way
+  -- the lines end here, in this way
   pub lines_end : (ending : Ending) (exit : Exit) → ending_of exit ≡ answered → exit ≡ ending_exit number ending → lines_to_come reader taking.now ≡ no_line ending → DoesLines see start script t (Err exit) run old new
   lines_end ending exit answer is none = record {
     before = reads_in taking.done;
@@ -414,7 +414,7 @@ module _ {X : Type 0} (see : X → Seen) (start : Start) (script : List ℕ) (t 
     ends = subst (λ (e : CallEnding). AsksBy start script (reads_in taking.done) told_now [] exit e) (sym answer) (all_given ending exit is none);
   }
 
-  -- all of them were taken
+  -- all lines were taken
   pub all_taken : lines_to_come reader taking.now ≡ no_line script_ended → DoesLines see start script t (Ok tt) run old new
   all_taken none = record {
     before = reads_in taking.done;
@@ -427,29 +427,29 @@ module _ {X : Type 0} (see : X → Seen) (start : Start) (script : List ℕ) (t 
     ends = (all_given script_ended Done refl none, taking.after);
   }
 
-  -- what the reader said of the lines to come
+  -- what the reader returned of the lines to come
   gave_here : (result : Result Bool Exit) (other : Reader) (now : Option (List ℕ)) → MovesLine result reader other left now → Gave result number reader other left now
       → (rest : List ℕ) × GivesNumbered result (lines_to_come reader taking.now) number other rest
   gave_here result other now moves gave =
       let tells = moved_tells result reader other taking.now left now taking.tells moves in
       (tells.0, gave_now result number reader other taking.now tells.0 left now taking.tells tells.1 gave)
 
-  -- there was none
+  -- no line was returned
   pub none_given : (other : Reader) (now : Option (List ℕ)) → MovesLine {E = Exit} (Ok false) reader other left now → Gave (Ok false) number reader other left now → DoesLines see start script t (Ok tt) run old new
   none_given other now moves gave = all_taken (gave_here (Ok false) other now moves gave).1
 
-  -- or their list ended otherwise
+  -- the list of lines ended otherwise
   pub next_failed : (exit : Exit) (other : Reader) (now : Option (List ℕ)) → IsNextExit exit → MovesLine {E = Exit} (Err exit) reader other left now → Gave (Err exit) number reader other left now → DoesLines see start script t (Err exit) run old new
   next_failed SourceFault other now is moves gave = took_now
   next_failed TooLong other now is moves gave = let here = (gave_here (Err TooLong) other now moves gave).1 in lines_end here.0 TooLong refl here.2 here.1
   next_failed (BadLine line reason) other now is moves gave = let here = (gave_here (Err (BadLine line reason)) other now moves gave).1 in lines_end here.0 (BadLine line reason) refl here.2 here.1
   next_failed exit other now is moves gave = absurd is
 
--- the two results that a fault is told of
+-- an exit that is a fault of the source in one result is a fault of the source in the other
 pub failed_same : (exit : Exit) → ◌≡◌ {A = Result (Unit {0}) Exit} (Err exit) (Err SourceFault) → ◌≡◌ {A = Result Bool Exit} (Err exit) (Err SourceFault)
 failed_same exit fault = let same : exit ≡ SourceFault = cc in ap Err same
 
--- how they end, and why
+-- how the lines end, and why
 pub next_ends : (exit : Exit) (count mid count' : ℕ) (before now : Faults) → IsNextExit exit → Causes {C = ℕ} {T = Bool} SourceCause (Err exit) mid count' → mid ≡ count → now ≡ before → EndsLines (Err exit) count count' before now
 next_ends SourceFault count mid count' before now is cause one two = record { stop = tt; source = subst (λ n. SourceCause SourceFault n count') one cause; board = two }
 next_ends TooLong count mid count' before now is cause one two = record { stop = tt; source = cause ∙ one; board = two }

@@ -4,7 +4,7 @@ use Rattle.std.specs.Prelude.{filter, if◌then◌else◌}
 use Rattle.std.specs.List.{AllByRecursion, flat_map}
 use Rattle.std.proofs.lemmas.List.Elements.{filter-append}
 
--- the first of two lists that are joined, and all of a list
+-- the first of two joined lists, and a whole list
 pub take-front : {X : Type 0} (xs ys : List X) → take (length xs) (xs ++ ys) ≡ xs
 take-front [] ys = refl
 take-front (x ∷ xs) ys = ap (λ zs. x ∷ zs) (take-front xs ys)
@@ -15,11 +15,11 @@ take-whole [] (suc n) most = refl
 take-whole (x ∷ xs) zero most = absurd (omega arith)
 take-whole (x ∷ xs) (suc n) most = ap (λ zs. x ∷ zs) (take-whole xs n (omega arith))
 
--- those of the first list that pass are the first that pass
+-- the elements of the first list that pass are the first that pass
 pub take-passing : {X : Type 0} (p : X → Bool) (xs ys : List X) → take (length (filter p xs)) (filter p (xs ++ ys)) ≡ filter p xs
 take-passing p xs ys = ap (take (length (filter p xs))) (filter-append p xs ys) ∙ take-front (filter p xs) (filter p ys)
 
--- where those that don't pass give nothing
+-- elements that don't pass may be left out if they give nothing
 pub flat_map-passing : {X Y : Type 0} (p : X → Bool) (f : X → List Y) → ((x : X) → p x ≡ false → f x ≡ []) → (xs : List X) → flat_map f (filter p xs) ≡ flat_map f xs
 flat_map-passing p f none [] = refl
 flat_map-passing {X} {Y} p f none (x ∷ xs) = by (p x) refl (flat_map-passing p f none xs)
@@ -28,7 +28,7 @@ flat_map-passing {X} {Y} p f none (x ∷ xs) = by (p x) refl (flat_map-passing p
     by true is rest = ap (λ (ys : List Y). f x ++ ys) rest
     by false is rest = rest ∙ ap (λ (ys : List Y). ys ++ flat_map f xs) (sym (none x is))
 
--- what holds of each element holds of each of the first ones
+-- a statement about each element of two lists holds of the first list
 pub all-front : {X : Type 0} (P : X → Type 0) (xs ys : List X) → AllByRecursion P (xs ++ ys) → AllByRecursion P xs
 all-front P [] ys all = tt
 all-front P (x ∷ xs) ys all = (all.0, all-front P xs ys all.1)

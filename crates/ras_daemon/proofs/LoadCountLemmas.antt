@@ -1,5 +1,5 @@
--- What the account of a script that is made up counts: each report that isn't a tenth is fresh and
--- is one corrected error, and each tenth is the one before it again.
+-- What the account of a made-up script counts: each report except every tenth is new and is one corrected error;
+-- every tenth repeats the report before it.
 use Rattle.std.proofs.Common.{◌≡◌, ℕ, ◌+◌, ◌-◌, ◌/◌, ◌%◌, ◌^◌, ◌<◌, ◌≤◌, ◌==◌, suc, zero, cond, Bool, true, false, List, [], ◌∷◌, ◌++◌, length, map, Option, Some, refl, sym, ap, subst, ◌∙◌, arith, length-append}
 use Rattle.std.specs.Prelude.{if◌then◌else◌, slice_index, slice_set}
 use Rattle.std.specs.List.{AllByRecursion}
@@ -82,7 +82,7 @@ same_own i = grind (arith, nat_tests)
 same_other : (i j : ℕ) → i < j → same_name (name_of j) (name_of i) ≡ false
 same_other i j below = grind (arith, nat_tests, below)
 
--- what is counted of the first n reports
+-- what was counted of the first n reports
 record IsCounted (n : ℕ) (a : State) : Type 0 where
   pub floor : a.floor ≡ 0
   pub later : (j : ℕ) → n < j → is_among a.names (name_of j) ≡ false
@@ -170,7 +170,7 @@ module _ (site : Site) (place i number : ℕ) where
   page : Option ℕ
   page = usable_page_of (cap_in bank) (status_in bank) bank.addr (misc_in bank)
 
-  -- it makes one entry, which is one corrected error
+  -- the report makes one entry, which is one corrected error
   entries_are : entries_at (site, (place, asked (Report (Bank bank)))) ≡ entry_of_one (name_of i) (1000 + i) (item_of label page 1) ∷ []
   unfolding channel_of label page
   entries_are =

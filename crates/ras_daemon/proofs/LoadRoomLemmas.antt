@@ -1,6 +1,5 @@
--- The account and the journal of a run have room for many reports that have one item each. A report
--- adds at most one of each sort to the account, and a switch of the journal has room for the
--- checkpoint of such an account.
+-- The account and the journal of a run have room for many reports that have one item each. A report adds at most one
+-- of each kind to the account, and a switch of the journal has room for the checkpoint of such an account.
 use Rattle.std.proofs.Common.{◌≡◌, ℕ, ◌+◌, ◌*◌, ◌<◌, ◌≤◌, Bool, true, false, ◌&&◌, List, [], ◌∷◌, ◌++◌, length, Option, Some, None, refl, arith, length-append}
 use Rattle.std.specs.Prelude.{if◌then◌else◌, nat_eq, nat_le, nat_lt}
 use Rattle.std.specs.List.{AllByRecursion, flat_map, sum_by}
@@ -75,9 +74,9 @@ modules_most : (rows : List (Bytes × Module)) → AllByRecursion IsModuleRow ro
 modules_most [] all = omega arith
 modules_most (row ∷ rows) all = omega (arith, length-append (module_bytes Two row) (flat_map (module_bytes Two) rows), module_most row all.0, modules_most rows all.1)
 
--- ---- an account that so many reports give, and where its journal stands
+-- ---- the account after k reports, and its journal's position
 
--- nothing of an account is more than so many reports with one item each add
+-- an account has at most what k reports with one item each add
 pub record AreUpTo (k : ℕ) (a : State) : Type 0 where
   pub names : length a.names ≤ k
   pub entries : a.entries ≤ k
@@ -85,7 +84,7 @@ pub record AreUpTo (k : ℕ) (a : State) : Type 0 where
   pub modules : length a.modules ≤ k
   pub pages : length a.pages ≤ k
 
--- so it is of this account, and its journal was switched no more often
+-- this account has at most that, and its journal was switched no more often
 pub record HasPlace (k : ℕ) (a : State) (standing : Standing) : Type 0 where
   pub account : IsAccount a
   pub numbers : AreUpTo k a
@@ -229,7 +228,7 @@ module _ (k : ℕ) (a : State) (standing : Standing) (name : Name) (seconds : �
         fact_entry_most (report_of_one name seconds item) valid,
       )
 
-  -- neither the account nor the journal lacks room for it
+  -- neither the account nor the journal lacks room for the entry
   numbers_within : (fresh : Bool) → AreWithin (numbers_by (if fresh then entry ∷ [] else []))
   numbers_within true = record {
     names = omega (arith, is.numbers.names);
@@ -244,7 +243,7 @@ module _ (k : ℕ) (a : State) (standing : Standing) (name : Name) (seconds : �
   pub journal_has_room : lacks_room standing a (link_bytes (entry ∷ [])) ≡ false
   journal_has_room = if-due (needs_switch standing (link_bytes (entry ∷ []))) _ (roomy k a standing (link_bytes (entry ∷ [])) (omega arith) is link_short)
 
-  -- there is room for the next one, whether it is kept or was there before
+  -- there is room for the next report, whether its entry is new or not
   pub stays : HasPlace (k + 1) (account_after a entry) standing
   stays = record { account = sound; numbers = after; generation = omega (arith, is.generation) }
 

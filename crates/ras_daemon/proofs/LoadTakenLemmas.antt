@@ -1,5 +1,5 @@
--- No line of a script that is made up is refused: its machine is taken, and the account and the
--- journal have room for all that its reports add.
+-- No line of a made-up script is rejected: its machine description is accepted, and the account and the journal have
+-- room for all that its reports add.
 use Rattle.std.proofs.Common.{◌≡◌, ℕ, ◌+◌, ◌<◌, ◌≤◌, suc, zero, cond, Bool, true, false, List, [], ◌∷◌, ◌++◌, codes, length, map, Option, Some, None, Result, Ok, IfSome, refl, sym, ap, subst, ◌∙◌, arith}
 use Rattle.std.specs.Prelude.{if◌then◌else◌}
 use Rattle.std.specs.List.{AllByRecursion, enumerate_from}
@@ -59,7 +59,7 @@ use Rattle.ras_run.proofs.CountLemmas.{no_or}
 abbrev pub asked : Line → Result Line LineRefused
 asked line = Ok line
 
--- lines as they were written down, numbered from 1 on
+-- lines as they were written, numbered from 1
 abbrev pub numbered : List Line → List NumberedLine
 numbered lines = enumerate_from 1 (map asked lines)
 
@@ -100,7 +100,7 @@ module _ (k : ℕ) (account : State) (standing : Standing) (name : Name) (second
     place = news_place (is_fresh_in account entry);
   }
 
--- what the report of a bank makes: nothing, or the fact of its one item
+-- what the report of a bank makes: nothing, or a fact with one item
 abbrev pub made_by : {C : Type 0} → BankReport → (C → Item) → Option C → List Piece
 made_by bank item_of class =
     option_map_or made_by_report (
@@ -122,7 +122,7 @@ machine_rows = Cpu 0 0 ∷ Module (codes "M0") 0 7 0 ∷ Module (codes "M1") 0 7
 machine_is : IsTopology machine_rows
 machine_is = record { apart = (refl, (refl, (refl, (refl, (refl, tt))))); upright = refl; named = refl; labelled = refl; small = omega arith }
 
--- none of them is refused
+-- none of these lines is rejected
 refused-snoc : (ps : List Place) (p : Place) → first_refused ps ≡ None → refusal_at p ≡ None → first_refused (ps ++ p ∷ []) ≡ None
 refused-snoc [] p none taken = rw taken refl
 refused-snoc (q ∷ ps) p none taken = by (refusal_at q) (λ rest. refused-snoc ps p rest taken) none
@@ -131,7 +131,7 @@ refused-snoc (q ∷ ps) p none taken = by (refusal_at q) (λ rest. refused-snoc 
     by None rest none = rest none
     by (Some why) rest none = absurd cc
 
--- so many reports were taken
+-- this many reports were taken
 pub record HasTaken (k : ℕ) (site : Site) : Type 0 where
   pub rows : site.settings.topology ≡ machine_rows
   pub place : HasPlace k site.account site.standing

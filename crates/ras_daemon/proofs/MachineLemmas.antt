@@ -59,7 +59,7 @@ module _ (start : Start) (script : List ℕ) where
   pub store-same : (n : ℕ) → store_upto run n ≡ laid_with start script n
   store-same n = ap (fold store_changed start.store) (changes-same n) ∙ changes-laid start.store (take n (events_of start script))
 
-  -- all that it prints
+  -- all that the run prints
   pub output-same : text_of run ≡ run_output start script
   output-same =
       let closing : List ℕ = closing_line (site_at start (reads_of script)).account (run_exit start script) in

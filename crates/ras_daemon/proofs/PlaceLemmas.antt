@@ -1,4 +1,4 @@
--- Lines at their places: where the first refused one stands, and how a script ends without one.
+-- Lines at their places: which is the first rejected one, and how a script ends without one.
 use Rattle.std.proofs.Common.{◌≡◌, ℕ, ◌+◌, List, [], ◌∷◌, ◌++◌, length, None, Some, map, refl, ap, sym, ◌∙◌, subst, append_assoc, append-nil, arith}
 use Rattle.std.specs.List.{AllByRecursion, enumerate_from, flat_map}
 use Rattle.std.specs.Option.{option_map_or}
@@ -29,7 +29,7 @@ enumerate-append n (x ∷ xs) ys =
     let rest = enumerate-append (n + 1) xs ys in
     ap (λ tail. (n, x) ∷ tail) (rw e at rest)
 
--- the numbered lines that stand behind these
+-- the numbered lines after these
 abbrev pub reads_behind : List (List ℕ) → List (List ℕ) → List NumberedLine
 reads_behind done more = enumerate_from (1 + length done) (map line_of more)
 
@@ -56,7 +56,7 @@ outputs-snoc start before read =
     ∙ flat_map-append output_at (places_from (first_site start) before) ((site_at start before, read) ∷ [])
     ∙ ap (λ text. outputs start before ++ text) (append-nil (output_at (site_at start before, read)))
 
--- A script that ends behind these lines.
+-- A script that ends after these lines.
 module _ (start : Start) (script : List ℕ) (done : List (List ℕ)) (ending : Ending) (is : script_lines script ≡ record { whole = done; ending = ending }) (accepted : AreAccepted start (reads_in done)) where
   abbrev first_read : AreFirst start script (reads_in done)
   first_read = record { rest = []; splits = append-nil (reads_in done) ∙ ap (λ (lines : Lines). reads_in lines.whole) (sym is); accepted = accepted }
@@ -73,7 +73,7 @@ module _ (start : Start) (script : List ℕ) (done : List (List ℕ)) (ending : 
         ∙ ap (λ (lines : Lines). ending_exit (length lines.whole) lines.ending) is;
   }
 
--- A script of which a line is refused.
+-- A script with a rejected line.
 module _ (start : Start) (script : List ℕ) (before rest : List NumberedLine) (read : NumberedLine) (exit : Exit) (splits : before ++ read ∷ rest ≡ reads_of script) (accepted : AreAccepted start before)
     (refused : refusal_at (site_at start before, read) ≡ Some exit) where
   abbrev first_taken : AreFirst start script before
@@ -89,7 +89,7 @@ module _ (start : Start) (script : List ℕ) (before rest : List NumberedLine) (
     exit_is = ap (λ found. option_map_or (λ (r : Place × Exit). r.1) found (script_exit script)) script-refused;
   }
 
--- the first lines with one more
+-- the first lines, and one more
 pub first_more : (start : Start) (script : List ℕ) (before rest : List NumberedLine) (read : NumberedLine) → before ++ read ∷ rest ≡ reads_of script
     → AreAccepted start before → IsAccepted (site_at start before, read) → AreFirst start script (before ++ read ∷ [])
 first_more start script before rest read splits accepted last = record {

@@ -1,4 +1,4 @@
--- What a report says, and what it leaves.
+-- What a report prints, and what it leaves.
 use Rattle.std.proofs.Common.{◌≡◌, ℕ, List, [], ◌++◌, Option, None, Some, IfSome, option_map, Result, Ok, Err, refl, sym, ap, subst, ◌∙◌, inl, inr, append-nil}
 use Rattle.board_core.specs.Clock.{Clock, Adds, LeftNow, Rests}
 use Rattle.board_core.specs.Steps.ClockLemmas.{adds_both, adds_weaker}
@@ -76,7 +76,7 @@ whole_there listing exit text t u said after = record {
   calls = record { made = after.calls.made; listed = after.calls.listed; are = after.calls.are };
 }
 
--- what is said of the files of a board that tells
+-- what is printed for the files of a modelled board
 abbrev pub SaysHere : Listing → Exit → List ℕ → Option Told → Type 0
 SaysHere listing exit text old = IfSome old (λ t. IsSaid listing (recovered t.here.file0 t.here.file1) exit text)
 
@@ -95,7 +95,7 @@ unprinted_reports listing exit text (Some t) (Some u) None said after fails = ab
 unprinted_reports listing exit text (Some t) (Some u) (Some v) said after fails =
     rw fails.3 (printed_there listing PrintFault text fails.0 fails.1 t u (fails.2 ∙ said.text_is) after refl)
 
--- ---- what stops leave
+-- ---- what crashes leave
 
 pub read_moments : (listing : Listing) (t : Told) (a b : Clock) → Adds (LeftNow a) a b → Adds (ReportMoment a (report_output listing t.here) t.here) a b
 read_moments listing t a b adds = adds_weaker (LeftNow a) (ReportMoment a (report_output listing t.here) t.here) a b adds (λ left was. inl was)
@@ -127,7 +127,7 @@ read_device old mid a b after keeps =
       now = λ left now. stored left (keeps.ends left now);
     })
 
--- what is said once it is known what the board tells
+-- what is printed, given the board's model
 pub says_here : (Q : Told → Type 0) (old : Option Told) (listing : Listing) (exit : Exit) (text : List ℕ)
     → IfSome old Q → ((t : Told) → Q t → IsSaid listing (recovered t.here.file0 t.here.file1) exit text) → SaysHere listing exit text old
 says_here Q None listing exit text tells said = tt

@@ -121,7 +121,7 @@ pub settings-any : (settings : Settings) (k m : ℕ) (read : Result Line LineRef
 settings-any settings k m (Ok line) = refl
 settings-any settings k m (Err why) = refl
 
--- wherever the lines stand, by the same machine description
+-- lines report the same at any place with the same machine description
 pub reports-any : (one other : Site) (k m : ℕ) (reads : List (Result Line LineRefused)) → AllByRecursion IsNoPoll (enumerate_from m reads) → one.settings ≡ other.settings
     → reports one (enumerate_from k reads) ≡ reports other (enumerate_from m reads)
 reports-any one other k m [] none same = refl
@@ -139,7 +139,7 @@ pub script-reports : (start next : Start) (script : List ℕ) → PollsNothing s
 script-reports start next script none =
     reports-any (first_site start) (first_site next) 1 1 (map line_of (script_lines script).whole) (recursion_from_All IsNoPoll (reads_of script) none) refl
 
--- the events of a script that is taken whole are all of its events
+-- a script that is taken whole does all of its events
 pub taken-events : (start : Start) (script : List ℕ) → IsTakenWhole start script → events_of start script ≡ filter is_event (places_of start script)
 taken-events start script taken = ap (filter is_event) (done-all start script taken)
 
@@ -148,7 +148,7 @@ reported-whole start script taken =
     ap (flat_map entries_at) (take-whole (events_of start script) (event_count start script) (omega arith) ∙ taken-events start script taken)
     ∙ flat_map-passing is_event entries_at reports-none (places_of start script)
 
--- and what any run reports of it is among what these report
+-- any run's reports of the script are a beginning of these reports
 reported-front : (start next : Start) (script : List ℕ) (n : ℕ) → PollsNothing script → IsTakenWhole start script → IsPrefixOf (reported next script n) (reported start script (event_count start script))
 reported-front start next script n none taken =
     subst (IsPrefixOf (reported next script n))
@@ -183,7 +183,7 @@ logs-again history start next script n none is taken follows =
     (all-front (λ name. is_among (names_in (with_entries history all)) name ≡ true) (names_of (reported next script n)) (names_of front.0)
     (subst (AllByRecursion (λ name. is_among (names_in (with_entries history all)) name ≡ true)) (sym names) (among-own history all)))
 
--- what a run that follows a stop reports are those again, and the others
+-- a run after a crash reports the first reports again, and then the others
 module _ (history : History) (start next : Start) (script : List ℕ) (n : ℕ) (none : PollsNothing script) (begins : BeginsWith history start) (taken : IsTakenWhole start script) (follows : Follows start script n next) (whole : IsTakenWhole next script) where
   abbrev stopped : History
   stopped = with_entries history (reported start script n)
@@ -208,7 +208,7 @@ module _ (history : History) (start next : Start) (script : List ℕ) (n : ℕ) 
       (ap (λ (es : List Entry). account_of (with_entries history es)) front.1 ∙ sym (accounts-follow history start begins script (event_count start script)))
       (counts-again history (reported start script n) front.0))
 
-  -- what both runs log
+  -- both runs together log what the uninterrupted run logs
   pub logs-together : facts_of (logged start script n ++ logged next script (event_count next script)) ≡ facts_of (logged start script (event_count start script))
   logs-together =
       let h : History = history in
@@ -245,7 +245,7 @@ module _ (history : History) (start next : Start) (script : List ℕ) (n : ℕ) 
 abbrev ordered_at : Place → List Order
 ordered_at place = orders_along_entries place.0.account (entries_at place)
 
--- events in order, behind a history whose account the site has
+-- events in order, after a history with the site's account
 module _ (given : History → List Order) (grows : (h : History) (e : Entry) → given (with_entry h e) ≡ given h ++ orders_behind h e) where
   abbrev Follow : History → List Place → Type 0
   Follow h places = given (with_entries h (flat_map entries_at places)) ≡ given h ++ flat_map ordered_at places
@@ -276,7 +276,7 @@ module _ (given : History → List Order) (grows : (h : History) (e : Entry) →
       by true first = sym (append-nil (given h))
       by false first = first
 
--- the orders of a history, and what stands after them
+-- the orders of a history, and what is outstanding after them
 module _ (h : History) where
   pub pages-once : (page : ℕ) → AreOnceInOrder page (orders_for_page page (orders h))
   pages-once page = subst (AreOnceInOrder page) (sym (page-orders page h)) (once_in_order (reports_of (sightings h)) page)
@@ -320,7 +320,7 @@ module _ (history : History) (start : Start) (is : BeginsWith history start) (sc
   pub module-stands : (label : Bytes) (row : Module) → lookup (same_label label) (account_with start script n).modules ≡ Some row → row.replace ≡ has_tripped (module_errors after label)
   module-stands label row there = module-state after label row (ap (λ (a : State). lookup (same_label label) a.modules) (sym account-is) ∙ there)
 
--- ---- lines behind others
+-- ---- lines after others
 
 before-behind : (ps qs : List Place) → IsPrefixOf (places_before_refusal ps) (places_before_refusal (ps ++ qs))
 before-behind [] qs = (places_before_refusal qs, refl)

@@ -1,4 +1,4 @@
--- A run from its start: the journal is opened, or it is refused.
+-- A run from its start: the journal is opened, or the run is rejected.
 use Rattle.std.proofs.Common.{◌≡◌, ℕ, false, List, [], ◌∷◌, ◌++◌, Option, None, Some, IfSome, IsSomeAnd, Result, Ok, Err, refl, ap, sym, ◌∙◌, subst, append-nil, inl, inr, unwrap_or, arith}
 use Rattle.std.specs.Prelude.{◌≤◌, ◌⊎◌, ⊤}
 use Rattle.std.proofs.lemmas.List.Elements.{All-nil}
@@ -52,7 +52,7 @@ use Rattle.ras_daemon.proofs.TakenLemmas.{answers}
 use Rattle.ras_daemon.proofs.ScriptLemmas.{early_none, takes_runs, takes_stops}
 use Rattle.ras_run.proofs.StandsLemmas.{before_of}
 
--- ---- where source and board tell, and the files hold a history
+-- ---- source and board are modelled, and the files give an account
 
 pub over_run : (P : Start → List ℕ → Told → Type 0) (left : Option (List ℕ)) (told : Option Told)
     → ((account : State) (script : List ℕ) (t : Told) → left ≡ Some script → told ≡ Some t → Recovers account t.here → P (start_of account t) script t)
@@ -78,11 +78,11 @@ start_opened account t u ledger recovers opens standing after = record {
   board = record { store = after.store; slow = ap (λ volatile. volatile.slow) after.volatile };
 }
 
--- what holds where a board tells this
+-- a statement about the model holds if the board has this model
 pub if_told : (P : Told → Type 0) (told : Option Told) (t : Told) → told ≡ Some t → IfSome told P → P t
 if_told P told t is holds = let here : IsSomeAnd (Some t) P = subst (λ o. IfSome o P) is holds in here
 
--- what is told once the journal was opened, or refused
+-- the model once the journal was opened or the run was rejected
 pub told_on : (P : Told → Told → Type 0) (told new : Option Told) (t : Told) → told ≡ Some t → Relates P told new → (u : Told) × (new ≡ Some u) × P t u
 told_on P told new t is relates = by new (subst (λ o. Relates P o new) is relates)
   where
@@ -90,24 +90,24 @@ told_on P told new t is relates = by new (subst (λ o. Relates P o new) is relat
     by None relates = absurd relates
     by (Some u) relates = (u, refl, relates)
 
--- the same of what is told at both ends
+-- a relation between the models before and after
 told_both : (P : Told → Told → Type 0) (told new : Option Told) (t u : Told) → told ≡ Some t → new ≡ Some u → Relates P told new → P t u
 told_both P told new t u one two relates = subst (λ n. Relates P (Some t) n) two (subst (λ o. Relates P o new) one relates)
 
--- ---- what stops leave
+-- ---- what crashes leave
 
--- while file 0 is formatted
+-- what a crash leaves while file 0 is formatted
 formatting_at : (account : State) (t : Told) (left : Left) → Recovers account t.here → FormatsFirst t.here left → AtOpening (start_of account t) t.here.out left
 formatting_at account t left recovers formats =
     let same : account ≡ account_of empty = ok_same account (account_of empty) (sym recovers.is ∙ formats.none.recovers) in
     record { recovers = rw same formats.recovers; store = ap (λ (l : Left). l.store) formats.rest; text = ap (λ (l : Left). l.out) formats.rest }
 
--- while the journal is opened, once both files are synced
+-- what a crash leaves while the journal is opened, once both files are synced
 pub synced_at : (account : State) (t : Told) (left : Left) → Recovers account t.here → OpeningSynced t.here left → AtOpening (start_of account t) t.here.out left
 synced_at account t left recovers (inl same) = record { recovers = subst (Recovers account) (sym same) recovers; store = ap (λ (l : Left). l.store) same; text = ap (λ (l : Left). l.out) same }
 synced_at account t left recovers (inr formats) = formatting_at account t left recovers formats
 
--- while the journal is opened
+-- what a crash leaves while the journal is opened
 pub opening_at : (account : State) (t : Told) (a : Clock) (left : Left) → Recovers account t.here → Opening a t.here left → LeftNow a left ⊎ AtOpening (start_of account t) t.here.out left
 opening_at account t a left recovers (inl now) = inl now
 opening_at account t a left recovers (inr formats) = inr (formatting_at account t left recovers formats)
@@ -118,7 +118,7 @@ opening_moments account script t a b recovers adds =
     adds_weaker (Opening a t.here) (RunMoment a (start_of account t) script t.here) a b adds
     (λ left opening. elim (opening_at account t a left recovers opening) [ inl now ↦ inl now | inr at ↦ inr (inl at) ])
 
--- and once it is open
+-- what a crash leaves once the journal is open
 pub opened_moments : (clock : Clock) (start : Start) (script : List ℕ) (t u : Told) (b c : Clock) → IsAccount start.account → u.here.out ≡ t.here.out
     → Adds (OpenMoment start script u.here.out) b c → Adds (RunMoment clock start script t.here) b c
 opened_moments clock start script t u b c account same adds = adds_weaker (OpenMoment start script u.here.out) (RunMoment clock start script t.here) b c adds
@@ -126,8 +126,7 @@ opened_moments clock start script t u b c account same adds = adds_weaker (OpenM
 
 -- ---- a journal that isn't opened
 
--- if the files hold an account, only a fault of the disk or lack of memory keeps it from being
--- opened
+-- if the files give an account, only a fault of the disk or lack of memory keeps the journal from being opened
 abbrev pub IsCutOpening : Exit → Type 0
 IsCutOpening exit = EndsBy ⊥ ⊤ (OnlyFault disk_call) (ending_of exit)
 
@@ -145,7 +144,7 @@ cut_is exit cut = by (ending_of exit) cut
 
 -- ---- files that are refused
 
--- what is said of a run that is refused but for the device and the source
+-- what holds of a rejected run, apart from the device and the source
 abbrev pub RefusesSo : Exit → Exit → Told → Told → Type 0
 RefusesSo why result before now = EndsRefused why result × Tells why (stop_line why) result before now × KeepsFiles before now × Makes (IsBeginning IsRecovery) before now
 
@@ -162,7 +161,7 @@ refuses_cut why result before now ends calls cut text keeps = (
   calls,
 )
 
--- with both, and with what stops leave
+-- what holds of a rejected run, with the device, the source and what crashes leave
 refuses_whole : (result : Exit) (Same : Type 0) (a b : Clock) (before : Told) (new : Option Told) (refusal : Option Exit) → Same → LeavesDevice (Some before) new a b
     → IfSome refusal (λ why. Adds (ReportMoment a (stop_line why) before.here) a b) → IfSome refusal (λ why. IsSomeAnd new (RefusesSo why result before)) → IfSome refusal (λ why. IsSomeAnd new (Refuses result Same a b why before))
 refuses_whole result Same a b before new None same device stops so = tt
@@ -172,7 +171,7 @@ refuses_whole result Same a b before (Some now) (Some why) same device stops so 
 some_same : {A : Type 0} (x y : A) → Some x ≡ Some y → x ≡ y
 some_same x y is = ap (λ o. unwrap_or o x) is
 
--- why files are refused, and what its last line is
+-- why files are rejected, and the last line for that reason
 refusal_err : (held : Result State Refusal) (why : Exit) → refusal_exit held ≡ Some why → (w : Refusal) × (held ≡ Err w)
 refusal_err (Ok account) why is = absurd cc
 refusal_err (Err w) why is = (w, refl)
@@ -182,7 +181,7 @@ refusal_line (Ok account) why state is = absurd cc
 refusal_line (Err too_long) why state is = subst (λ e. closing_line state e ≡ stop_line e) (some_same TooLong why is) refl
 refusal_line (Err (damaged file place)) why state is = subst (λ e. closing_line state e ≡ stop_line e) (some_same (Damaged (file_number file) place) why is) refl
 
--- An opening is refused for that, or it was cut short.
+-- An opening is rejected for that reason, or was cut short.
 refused_as : (held : Result State Refusal) (why exit : Exit) → refusal_exit held ≡ Some why → OpensLedger (Err exit) held → (exit ≡ why) ⊎ IsCut exit
 refused_as held why exit is opens = by (ending_of exit) refl opens
   where
@@ -192,7 +191,7 @@ refused_as held why exit is opens = by (ending_of exit) refl opens
     by (faulted kind) so found = inr (ap is_answered so)
     by starved so found = inr (ap is_answered so)
 
--- how such a run ends
+-- only `DiskFault` is a fault of the disk
 pub disk_failed : (exit : Exit) → ending_of exit ≡ faulted disk_call → exit ≡ DiskFault
 disk_failed DiskFault is = refl
 disk_failed exit is = absurd cc
@@ -233,7 +232,7 @@ answer_weaker result P Q holds gives = by (ending_of result) holds
     by ending holds = tt
 
 module _ (why result : Exit) (line : List ℕ) (before mid : Told) (ends : EndsRefused why result) (calls : Makes (IsBeginning IsRecovery) before mid) (text : Prints [] before mid) (keeps : KeepsFiles before mid) where
-  -- a last line, or a beginning of it
+  -- the last line was printed, or a beginning of it
   refuses_printed : (new : Option Told) → line ≡ stop_line why → Relates (Printed why result line) (Some mid) new → IsSomeAnd new (RefusesSo why result before)
   refuses_printed None same printed = absurd printed
   refuses_printed (Some now) same printed =
@@ -286,7 +285,7 @@ refused_so see exit result state before old mid new one after opens ends = by (f
         let kept : KeepsFiles before found.0 = record { file0 = refused_keeps err.0 before found.0 err.1 found.2; file1 = found.2.file1 } in
         last why is (calls err.0 err.1) kept (refused_as held why exit is here) ends
 
--- files that are opened aren't refused
+-- files that are opened aren't rejected
 opened_not : (held : Result State Refusal) (account : State) → held ≡ Ok account → refusal_exit held ≡ None
 opened_not held account is = ap (λ (h : Result State Refusal). refusal_exit h) is
 
@@ -294,10 +293,10 @@ pub refused_none : (P : Exit → Told → Told → Type 0) (told new : Option To
 refused_none P None new account is = tt
 refused_none P (Some t) new account is = rw (opened_not (recovered t.here.file0 t.here.file1) account is) tt
 
--- ---- what stops leave of files that are refused
+-- ---- what crashes leave of files that are rejected
 
 module _ (a b : Clock) (before : Told) (mid : Option Told) (why : Exit) (refused : files_refusal before.here ≡ Some why) (opening : Adds (Opening a before.here) a b) where
-  -- what a stop leaves while the last line is printed
+  -- what a crash leaves while the last line is printed
   abbrev AtLast : Left → Type 0
   AtLast = ReportMoment a (stop_line why) before.here
 
@@ -346,7 +345,7 @@ files_refused see Same exit result state old mid new same device after opens end
 
 -- ---- a run, from what its parts did
 
--- nothing was called
+-- no call was made
 recovery_none : (t : Told) → AfterRecovery t t
 recovery_none t = record {
   file0 = refl;
@@ -398,7 +397,7 @@ not_opened see account script exit result line t a b new is recovers opens after
     by (inl said) = absurd (not_both exit (cut_is exit cut) said.0)
     by (inr ended) = rw (ended.1, ended.2) (inl (record { cut = cut; told = some AfterOpening after; unopened = some (LeavesUnopened (exit ≡ DiskFault)) unopened; stops = stops; syncs = syncs }))
 
--- it was opened
+-- the journal was opened
 pub ledger_holds : (start : Start) (ledger : Ledger) (u : Told) (told : Option Told) (clock : Clock) → IsStart start ledger u → IsAccount ledger.account.state → Before ledger.journal.standing ledger.account.state u told clock → HoldsAt (first_site start) u
 ledger_holds start ledger u told clock begins account before = record {
   account = subst IsAccount begins.account account;
@@ -426,7 +425,7 @@ was_opened see start script exit ledger t a b new is after begins account makes 
       takes = takes;
     }
 
--- and its source was read behind the orders, or left alone
+-- the journal was opened, and the source was read after the orders, or left alone
 pub opened_comes : {X : Type 0} (see : X → Seen) (Same : Type 0) (start : Start) (script : List ℕ) (exit : Exit) (t there : Told) (left : Option (List ℕ)) (old mid new : X) → there.here.out ≡ t.here.out
     → OpensRun see start script exit t old new → ComesScript see Same start script there exit left mid new → Comes see Same start script exit t left old new
 opened_comes see Same start script exit t there left old mid new text opens comes = record {
@@ -437,7 +436,7 @@ opened_comes see Same start script exit t there left old mid new text opens come
   ];
 }
 
--- the device is left alone while it is opened
+-- the device is left alone while the journal is opened
 pub opening_device : (told new : Option Told) (a b : Clock) → Relates AfterOpening told new → ((t : Told) → told ≡ Some t → Adds (Opening a t.here) a b)
     → ((m n : ℕ) (left : Left) → m ≤ n → b.may_leave_since n left → b.may_leave_since m left) → LeavesDevice told new a b
 opening_device told new a b after stops earlier =
@@ -451,7 +450,7 @@ opening_device told new a b after stops earlier =
     left_store t stored left (inl before) = stored left before
     left_store t stored left (inr formats) = ap (λ (l : Left). l.store) formats.rest
 
--- ---- how it ends, and what stops leave of it
+-- ---- how a run ends, and what crashes leave of it
 
 module _ {X : Type 0} (see : X → Seen) (account : State) (script : List ℕ) (exit : Exit) (t : Told) (old new : X) (recovers : Recovers account t.here) where
   abbrev start : Start
@@ -479,7 +478,7 @@ module _ {X : Type 0} (see : X → Seen) (account : State) (script : List ℕ) (
       (opening_moments account script t (see old).clock (see d.mid).clock recovers d.stops)
       (opened_moments (see old).clock start script t d.there (see d.mid).clock (see new).clock d.holds.account d.text (takes_stops see start script d.there exit d.mid new d.rests d.holds d.takes))
 
--- what follows of it where source and board tell, and the files hold an account
+-- what follows if source and board are modelled and the files give an account
 pub over_comes : {X : Type 0} (see : X → Seen) (Same : Type 0) (P : Start → List ℕ → Told → Type 0) (task : Option Task) (script left : Option (List ℕ)) (told : Option Told) (exit : Exit) (old new : X) → task ≡ Some Run
     → ((account : State) (text : List ℕ) (t : Told) → script ≡ Some text → told ≡ Some t → Recovers account t.here → Comes see Same (start_of account t) text exit t left old new → P (start_of account t) text t)
     → OverRun (λ start text t. Comes see Same start text exit t left old new) (Some Run) script told → OverRun P task script told

@@ -1,4 +1,4 @@
--- What is told once a last line was printed or not, and why it ends so.
+-- The model after a last line was printed or not, and why the run ends with its exit.
 use Rattle.std.proofs.Common.{◌≡◌, ℕ, List, Option, Result, Ok, Err, refl, ap, sym, ◌∙◌, subst, inl, inr, [], None, Some, append-nil}
 use Rattle.std.specs.Prelude.{⊤}
 use Rattle.board_core.specs.Cause.{Faults, print_call}
@@ -19,9 +19,9 @@ use Rattle.ras_daemon.specs.Steps.Doing.{Ends, Says}
 use Rattle.ras_daemon.specs.Promises.{Caused}
 use Rattle.ras_daemon.proofs.TakenLemmas.{EndsAs, answers}
 
--- ---- what is told
+-- ---- the model
 
--- Of a last line a beginning was printed, and all of it if that is the answer.
+-- A beginning of a last line was printed, and all of it if the run ends with its answer.
 pub record Printed (exit result : Exit) (line : List ℕ) (old now : Told) : Type 0 where
   pub part : List ℕ
   pub begins : IsPrefixOf part line
@@ -52,7 +52,7 @@ ends_printed see exit result line a b (inl said) = says_printed see exit result 
 ends_printed see exit result line a b (inr cut) =
     none_printed exit result line (see a).told (see b).told (on_cut result ((result ≡ exit) × ([] ≡ line)) (subst IsCut (sym cut.1) cut.0)) (ap (λ x. (see x).told) cut.2)
 
--- ---- why it ends so
+-- ---- why a run ends with its exit
 
 pub says_cause : {X : Type 0} (see : X → Seen) (exit result : Exit) (line : List ℕ) (a b : X) → IsAnswer exit → Says see exit result line a b → BoardCause result (see a).faults (see b).faults
 says_cause see exit result line a b answer (inl said) =
@@ -70,7 +70,7 @@ says_source see exit result line a b s s' answer same (inr (inr short)) = rw sho
 pub says_causes : {X : Type 0} (see : X → Seen) (exit result : Exit) (line : List ℕ) (a b : X) (s : ℕ) → IsAnswer exit → Says see exit result line a b → Caused result s s (see a).faults (see b).faults
 says_causes see exit result line a b s answer said = record { source = says_source see exit result line a b s s answer refl said; board = says_cause see exit result line a b answer said }
 
--- after lines were taken
+-- why a run ends after lines were taken
 pub ends_causes : {X : Type 0} (see : X → Seen) (lines : Result (Unit {0}) Exit) (exit result : Exit) (line : List ℕ) (a b : X) (s s' : ℕ) (f : Faults) → EndsAs lines exit → Causes {C = ℕ} SourceCause lines s s'
     → Causes {C = Faults} BoardCause lines f (see a).faults → Ends see exit result line a b → Caused result s s' f (see b).faults
 ends_causes see (Ok done) exit result line a b s s' f is source board (inl said) = record {
@@ -91,7 +91,7 @@ ends_causes see (Err found) exit result line a b s s' f is source board (inr cut
     let same : result ≡ found = cut.1 ∙ is.0 in
     record { source = rw same source; board = rw (same, cut.2) board }
 
--- and where no line was
+-- no call of the source failed if no line was taken
 stop_source : (exit : Exit) (s : ℕ) → IsStop exit → SourceCause exit s s
 stop_source SourceFault s stop = absurd stop
 stop_source exit s stop = refl
@@ -108,7 +108,7 @@ stopped_causes see exit result line a b s f stop board (inr cut) = record {
   board = rw (cut.1, cut.2) board;
 }
 
--- the same of the print before them, if it failed
+-- why a run ends if the print of the orders failed
 pub orders_causes : {X : Type 0} (see : X → Seen) (acts : List Act) (exit : Exit) (a b : X) (s : ℕ) → IsPrintExit exit → Does see acts (end_of (ending_of exit)) a b → Caused exit s s (see a).faults (see b).faults
 orders_causes see acts exit a b s ends does = record { source = by (ending_of exit) ends; board = part_causes {T = Unit {0}} see acts (Err exit) a b does }
   where
@@ -133,7 +133,7 @@ stop_exit Usage never = never
 stop_exit (ErstStatus code) some = some
 stop_exit exit any = tt
 
--- where the orders weren't printed
+-- how a run may end if the orders weren't printed
 pub print_line_exit : (exit : Exit) → IsPrintExit exit → IsLineExit exit
 print_line_exit Done never = never
 print_line_exit Usage never = never
@@ -143,24 +143,24 @@ print_line_exit exit any = tt
 pub print_not_done : (exit : Exit) → IsPrintExit exit → exit ≡ Done → ⊥
 print_not_done exit ends done = subst IsPrintExit done ends
 
--- their exit is no answer, so the run ends with it
+-- the orders' exit isn't an answer, so the run ends with it
 pub orders_end : {X : Type 0} (see : X → Seen) (exit ended result : Exit) (line : List ℕ) (a b new : X) → IsPrintExit exit → ended ≡ exit → b ≡ a → Ends see ended result line b new → (result ≡ exit) × (new ≡ a)
 orders_end see exit ended result line a b new ends is same (inl said) = absurd (subst (EndsBy ⊥ ⊤ (OnlyFault print_call)) (answers exit (subst IsAnswer is said.0)) ends)
 orders_end see exit ended result line a b new ends is same (inr cut) = (cut.1 ∙ is, cut.2 ∙ same)
 
--- a last line is behind an exit, or there is a fault, or want of memory
+-- a run ends with a printed last line, a fault, or lack of memory
 pub end_exit : {X : Type 0} (see : X → Seen) (exit result : Exit) (line : List ℕ) (a b : X) → IsRunExit exit → Ends see exit result line a b → IsRunExit result
 end_exit see exit result line a b may (inl (answer, inl said)) = subst IsRunExit (sym said.0) may
 end_exit see exit result line a b may (inl (answer, inr (inl failed))) = rw failed.0 tt
 end_exit see exit result line a b may (inl (answer, inr (inr short))) = rw short.0 tt
 end_exit see exit result line a b may (inr cut) = subst IsRunExit (sym cut.1) may
 
--- after lines
+-- how a run may end after lines
 pub ends_exit : {X : Type 0} (see : X → Seen) (lines : Result (Unit {0}) Exit) (exit result : Exit) (line : List ℕ) (a b : X) → EndsAs lines exit → Ends see exit result line a b → IsRunExit result
 ends_exit see (Ok done) exit result line a b is ends = end_exit see exit result line a b (rw is tt) ends
 ends_exit see (Err found) exit result line a b is ends = end_exit see exit result line a b (rw is.0 (line_exit found is.1)) ends
 
--- a run whose lines weren't taken isn't done
+-- a run whose lines weren't taken doesn't succeed
 pub not_done : {X : Type 0} (see : X → Seen) (exit result : Exit) (line : List ℕ) (a b : X) → IsStop exit → Ends see exit result line a b → result ≡ Done → ⊥
 not_done see exit result line a b stop ends done = by ends
   where
@@ -173,7 +173,7 @@ not_done see exit result line a b stop ends done = by ends
     by (inl (answer, inr (inr short))) = let e = sym short.0 ∙ done in cc
     by (inr cut) = never (sym cut.1 ∙ done)
 
--- a run is done only if its lines were
+-- a run succeeds only if its lines did
 pub done_before : {X : Type 0} (see : X → Seen) (lines : Result (Unit {0}) Exit) (exit result : Exit) (line : List ℕ) (a b : X) → EndsAs lines exit → Ends see exit result line a b → result ≡ Done → exit_of lines ≡ Done
 done_before see (Ok ok) exit result line a b is ends done = refl
 done_before see (Err found) exit result line a b is ends done = by ends
@@ -184,4 +184,4 @@ done_before see (Err found) exit result line a b is ends done = by ends
     by (inl (answer, inr (inr short))) = let e = sym short.0 ∙ done in absurd cc
     by (inr cut) = sym is.0 ∙ sym cut.1 ∙ done
 
--- ---- over a ledger that stands
+-- ---- over a journal that is ready

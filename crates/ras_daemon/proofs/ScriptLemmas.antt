@@ -1,4 +1,4 @@
--- What taking a script comes to, over a journal that was opened.
+-- What processing a script does, over a journal that was opened.
 use Rattle.std.proofs.Common.{◌≡◌, ℕ, List, [], ◌∷◌, ◌++◌, Option, None, Some, IsSomeAnd, Result, refl, ap, sym, ◌∙◌, subst, append_assoc, append-nil, inl, inr}
 use Rattle.std.specs.Prelude.{◌≢◌, ◌⊎◌}
 use Rattle.std.specs.Option.{option_map}
@@ -40,7 +40,7 @@ use Rattle.ras_daemon.proofs.AlongActLemmas.{acts_along, along_begun, along_done
 use Rattle.ras_daemon.proofs.FirstLinesLemmas.{closing-same, first-before, others}
 use Rattle.ras_daemon.proofs.PlaceLemmas.{line_refused}
 
--- ---- prints, and what stands behind the lines
+-- ---- prints, and what comes after the lines
 
 pub printed_out : (text : List ℕ) (t : Told) → (after_acts (print_acts text) t).here.out ≡ t.here.out ++ text
 printed_out text t = ap (λ (u : Told). u.here.out) (after_printed text t)
@@ -54,11 +54,11 @@ printed_holds site (b ∷ text) t holds = record {
   drivable = holds.drivable;
 }
 
--- the same files hold the same
+-- equal files give the same account
 recovers_same : (account : State) (here left : Left) → left.file0 ≡ here.file0 → left.file1 ≡ here.file1 → Recovers account here → Recovers account left
 recovers_same account here left zero one recovers = record { is = (λ i. recovered (zero i) (one i)) ∙ recovers.is }
 
--- what stands behind the lines: no last line, or one
+-- what comes after the lines: no last line, or one
 abbrev pub IsLast : Start → List ℕ → List NumberedLine → Told → List Act → List Act → Type 0
 IsLast start script before t asked last = (last ≡ []) ⊎ ((end : Exit) × AreAllAsked start script end before t asked × (last ≡ last_acts start before end))
 
@@ -79,7 +79,7 @@ module _ (start : Start) (script : List ℕ) (before : List NumberedLine) (first
         moment_in start script out before asks.rest asks.read t left asks.splits first.accepted text
         (asking_moment (place asks) t holds asks.can left (subst (λ (l : List Act). Moment l t left) asks.is moment))
 
-    -- it is refused, if these are all lines that are taken
+    -- the line is rejected, if these are all lines that are taken
     asked_refused : (end : Exit) → AreAll start script end before → refusal_at (place asks) ≡ Some end
     asked_refused end all = by (refusal_at (place asks)) refl
       where
@@ -101,7 +101,7 @@ module _ (start : Start) (script : List ℕ) (before : List NumberedLine) (first
     asked_left : (end : Exit) → AreAll start script end before → (after_acts asked t).here ≡ record t.here { store = refused_store end (event_at (place asks)) (site_at start before).store }
     asked_left end all = (let refused = asked_refused end all in line_still (place asks) end t asked refused asks.can holds (asked_are end refused))
 
-  -- the store behind all lines
+  -- the store after all lines
   pub left_at_end : (end : Exit) → AreAllAsked start script end before t asked → (store : List Stored) × StoreAtEnd start script before end store × ((after_acts asked t).here ≡ record t.here { store = store })
   left_at_end end all = by all.ends
     where
@@ -113,7 +113,7 @@ module _ (start : Start) (script : List ℕ) (before : List NumberedLine) (first
         asked_left asks end all.all,
       )
 
-  -- nothing differs behind what is asked, unless the device was too slow
+  -- what was asked changes nothing, unless the device was too slow
   pub asked_none : KeepsStore start script before t asked → (after_acts asked t).here ≡ t.here
   asked_none (inl none) = ap (λ (l : List Act). (after_acts l t).here) none
   asked_none (inr (end, all, free)) = by all.ends
@@ -131,7 +131,7 @@ module _ (start : Start) (script : List ℕ) (t : Told) (before : List NumberedL
   abbrev pub script_acts : List Act
   script_acts = orders_acts start ++ (along ++ (asked ++ last))
 
-  -- what is told behind the orders, behind the lines, and behind what was asked
+  -- the model after the orders, after the lines, and after what was asked
   abbrev behind_orders : Told
   behind_orders = after_acts (orders_acts start) t
 
@@ -149,7 +149,7 @@ module _ (start : Start) (script : List ℕ) (t : Told) (before : List NumberedL
       along_prints (places_from (first_site start) before) behind_orders along first.accepted are_along
       ∙ ap (λ out. out ++ outputs start before) (printed_out (standing_lines start.account) t)
 
-  -- with the last line they are all acts of the script
+  -- with the last line, these are all acts of the script
   script_whole : (end : Exit) → AreAllAsked start script end before behind_lines asked → last ≡ last_acts start before end → AreScriptActs start script t script_acts
   script_whole end all is = record {
     along = along;
@@ -157,7 +157,7 @@ module _ (start : Start) (script : List ℕ) (t : Told) (before : List NumberedL
     is = λ i. orders_acts start ++ (along ++ (all.is i ++ (is ∙ ap print_acts (closing-same start script end before all.all)) i));
   }
 
-  -- and else first ones
+  -- without the last line, these are the first acts of all lines
   lines_begun : MayAsk start script before behind_lines asked → (more : List Act) × AreLinesActs start script behind_orders ((along ++ asked) ++ more)
   lines_begun (inl silent) =
       let begun = along_begun start script before behind_orders along first are_along in
@@ -203,7 +203,7 @@ module _ (start : Start) (script : List ℕ) (t : Told) (before : List NumberedL
         after-append (orders_acts start) (along ++ (asked ++ last)) t ∙ after-append along (asked ++ last) behind_orders
         ∙ after-append asked last behind_lines
 
-    -- what a stop at a moment of them leaves
+    -- what a crash at a moment of these acts leaves
     at_last : (left : Left) → IsLast start script before behind_lines asked last → Moment last behind_asked left → OpenMoment start script t.here.out left
     at_last left (inl none) moment = absurd (subst (λ (l : List Act). Moment l behind_asked left) none moment)
     at_last left (inr (end, all, is)) moment =
@@ -245,7 +245,7 @@ module _ (start : Start) (script : List ℕ) (t : Told) (before : List NumberedL
       ]
     ]
 
-    -- between the lines, once a line read, or was refused
+    -- no last line was printed, after a line that only read or was rejected
     module _ (none : last ≡ []) (silent : KeepsStore start script before behind_lines asked) (done : List Act) (still : AreStill done (after_acts script_acts t)) where
       here_still : (after_acts script_acts t).here ≡ behind_lines.here
       here_still = ap (λ (u : Told). u.here) (after_script ∙ ap (λ (l : List Act). after_acts l behind_asked) none) ∙ asked_none start script before first behind_lines lines_hold asked silent
@@ -255,7 +255,7 @@ module _ (start : Start) (script : List ℕ) (t : Told) (before : List NumberedL
           let here : left ≡ behind_lines.here = still.moments left moment ∙ here_still in
           inr (inl (inl (record { before = before; first = first; recovers = rw here (record { is = lines_hold.at.recovers }); store = ap (λ (l : Left). l.store) here ∙ lines_hold.board.store; text = rw here lines_out })))
 
-      -- where a run ends that is cut short
+      -- how a run ends that is cut short
       script_early : EndsEarly start script t.here.out (after_acts (script_acts ++ done) t)
       script_early =
           let here : (after_acts (script_acts ++ done) t).here ≡ behind_lines.here = ap (λ (u : Told). u.here) (after-append script_acts done t) ∙ still.here ∙ here_still in
@@ -267,7 +267,7 @@ module _ (start : Start) (script : List ℕ) (t : Told) (before : List NumberedL
             text = inl (holds.account, ap (λ (l : Left). l.out) here ∙ lines_out ∙ append_assoc t.here.out (standing_lines start.account) (outputs start before));
           }
 
-    -- where one ends that comes to an answer
+    -- how a run ends with an answer
     script_so : (exit : Exit) → AreAllAsked start script exit before behind_lines asked → last ≡ last_acts start before exit → EndsSo start script exit t.here.out (after_acts script_acts t)
     script_so exit all is =
         let text : List ℕ = closing_line (site_at start before).account exit in
@@ -290,7 +290,7 @@ module _ (start : Start) (script : List ℕ) (t : Told) (before : List NumberedL
 
 -- ---- of a script that was taken
 
--- what is told once acts went well
+-- the model after acts that succeeded
 pub told_after : (acts : List Act) (t : Told) (old new : Option Told) → old ≡ Some t → Steps (after_acts acts) old new → new ≡ Some (after_acts acts t)
 told_after acts t old new is steps = steps ∙ ap (option_map (after_acts acts)) is
 
@@ -346,7 +346,7 @@ module _ {X : Type 0} (see : X → Seen) (start : Start) (script : List ℕ) (t 
       rw (none.0, none.1) (subst (λ (o : Option Told). IsSomeAnd o (Did starved)) (sym rests.is) (some.0, some.1, ([], (some.0, refl), refl)))
   takes_did (inr d) = did_by d (ending_of exit) d.ends d.does
 
-  -- if it came to an answer it took all lines
+  -- a run that ended with an answer took all lines
   pub took_all : ending_of exit ≡ answered → TakesScript see start script t exit old new → IsSomeAnd (see new).told (TookAll start script t)
   unfolding script_whole
   took_all is (inl none) = let e = sym is ∙ ap ending_of none.0 in absurd cc
@@ -388,7 +388,7 @@ module _ {X : Type 0} (see : X → Seen) (start : Start) (script : List ℕ) (t 
         rw (none.0, none.1) (subst (λ (o : Option Told). IsSomeAnd o (EndsEarly start script t.here.out)) (sym rests.is) (early_none start script t t (record { is = holds.at.recovers }) holds.board.store refl))
     takes_runs (inr d) = runs_by d (ending_of exit) d.ends d.does
 
-    -- what stops leave meanwhile
+    -- what crashes leave while these acts are done
     stops_whole : (d : DoesScript see start script t exit old new) → IsLast start script d.before (after_acts d.along (after_acts (orders_acts start) t)) d.asked d.last → Adds (Moment (acts_by d) t) (see old).clock (see new).clock
         → Adds (OpenMoment start script t.here.out) (see old).clock (see new).clock
     stops_whole d is adds =

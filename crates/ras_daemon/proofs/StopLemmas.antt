@@ -1,4 +1,4 @@
--- The last line of a refused run says of no event that it is done.
+-- The last line of a rejected run says of no event that it is done.
 use Rattle.std.proofs.Common.{◌≡◌, ℕ, true, [], ◌++◌, Option, None, Some, codes, refl}
 use Rattle.std.specs.Option.{option_map_or}
 use Rattle.std.specs.Prelude.{decimal}

@@ -22,7 +22,7 @@ use Rattle.ras_daemon.proofs.MachineLemmas.{change-left, changes-same}
 
 -- ---- along the events
 
--- a line that is no event keeps the store
+-- a line that isn't an event keeps the store
 changes-passing : {A : Type 0} (g : A → StoreChange → A) → ((a : A) → g a keeps ≡ a) → (a : A) (ps : List Place) → fold g a (map change_at (filter is_event ps)) ≡ fold g a (map change_at ps)
 changes-passing g none a [] = refl
 changes-passing g none a ((site, (number, Ok asks.Nothing)) ∷ ps) = changes-passing g none a ps ∙ ap (λ b. fold g b (map change_at ps)) (sym (none a))
@@ -39,20 +39,20 @@ module _ (start : Start) (script : List ℕ) (before : List NumberedLine) (first
   changes-first g none a =
       ap (fold g a) (changes-same start script (events_before start before) ∙ ap (map change_at) (first-events start script before first)) ∙ changes-passing g none a (placed start before)
 
-  -- the store that the first lines leave, and what they last put
+  -- the store that the first lines leave, and what they last stored
   pub store-first : store_upto (run_of start script) (events_before start before) ≡ (site_at start before).store
   store-first = changes-first store_changed (λ store. refl) start.store ∙ store-along (first_site start) before
 
   pub last-first : (id : ℕ) → last_upto (run_of start script) (events_before start before) id ≡ fold (last_changed id) (bytes_under id start.store) (map change_at (placed start before))
   last-first id = changes-first (last_changed id) (λ last. refl) (bytes_under id start.store)
 
--- ---- the event that is begun behind the first lines
+-- ---- the event that is begun after the first lines
 
 change-behind : (ps qs : List Place) (p : Place) → get_or (map (λ (event : RunEvent). event.change) (map run_event_at (ps ++ p ∷ qs))) (length ps) keeps ≡ change_at p
 change-behind [] qs p = refl
 change-behind (q ∷ ps) qs p = change-behind ps qs p
 
--- a line that isn't refused, or only because its device was busy for too long
+-- a line isn't rejected, or only because its device was busy for too long
 abbrev pub IsBegunWith : Option Exit → Type 0
 IsBegunWith None = Unit {0}
 IsBegunWith (Some ErstBusy) = Unit {0}
@@ -68,7 +68,7 @@ module _ (start : Start) (script : List ℕ) (before rest : List NumberedLine) (
   abbrev first : AreFirst start script before
   first = record { rest = read ∷ rest; splits = splits; accepted = accepted }
 
-  -- all that it begins: these, the line, and others
+  -- all events that the run begins: the events of these lines, then the line, then others
   begun-more : IsBegunWith (refusal_at place) → (more : List Place) × (places_taken start script ++ begun_by (script_refused start script) ≡ placed start before ++ place ∷ more)
   begun-more begun =
       let (more, is) = by (refusal_at place) begun in (

@@ -1,4 +1,4 @@
--- A script is taken: the orders are printed, then lines are taken, and then the run ends.
+-- A script is processed: the orders are printed, then the lines are taken, and then the run ends.
 use Rattle.std.proofs.Common.{◌≡◌, ℕ, true, List, [], ◌++◌, Result, Ok, Err, refl, ap, sym, ◌∙◌, subst, append_assoc, append-nil, inl, inr}
 use Rattle.std.specs.Prelude.{⊤, IfErr}
 use Rattle.board_core.specs.Cause.{print_call}
@@ -26,7 +26,7 @@ use Rattle.ras_daemon.specs.RunStatus.{run_exit}
 use Rattle.ras_daemon.specs.Steps.Running.{AreFirst}
 use Rattle.ras_daemon.proofs.ScriptLemmas.{script_begun}
 
--- with which exit a run ends behind its lines, if that isn't a fault
+-- with which exit a run ends after its lines, if that isn't a fault
 abbrev pub EndsAs : Result (Unit {0}) Exit → Exit → Type 0
 EndsAs (Ok done) exit = exit ≡ Done
 EndsAs (Err found) exit = (exit ≡ found) × IsLineExit found
@@ -46,7 +46,7 @@ answers exit is = by (ending_of exit) is
     by answered is = refl
     by ending is = absurd cc
 
--- only the last line of a whole run tells of the account
+-- only the last line of a whole run depends on the account
 last_same : (exit : Exit) (one other : State) → IsLineExit exit → closing_line one exit ≡ closing_line other exit
 last_same Done one other stop = absurd stop
 last_same exit one other stop = refl
@@ -55,7 +55,7 @@ module _ {X : Type 0} (see : X → Seen) (start : Start) (script : List ℕ) (t 
   abbrev behind_orders : Told
   behind_orders = after_acts (orders_acts start) t
 
-  -- as a run ends with this exit
+  -- the script did its acts, given the exit of the run
   taken : (result : Exit) (ending : CallEnding) (before : List NumberedLine) (along asked last : List Act) (old new : X) → ending_of result ≡ ending → AreFirst start script before → AreDoneAlong (places_from (first_site start) before) behind_orders along
       → MayAsk start script before (after_acts along behind_orders) asked → IsLastBy start script before (after_acts along behind_orders) asked result ending last
       → DoesFirst see (AreScriptActs start script t) t (orders_acts start ++ (along ++ (asked ++ last))) ending old new → DoesScript see start script t result old new
@@ -87,13 +87,13 @@ module _ {X : Type 0} (see : X → Seen) (start : Start) (script : List ℕ) (t 
     abbrev behind_lines : Told
     behind_lines = after_acts along behind_orders
 
-    -- behind the lines
+    -- acts after the lines
     behind : (last : List Act) (ended : Ended) → IsMade ended → GoesWell (along ++ asked) (see a) (see b) → Does see last ended b new → Does see (orders_acts start ++ (along ++ (asked ++ last))) ended old new
     behind last ended made well does =
         subst (λ (l : List Act). Does see (orders_acts start ++ l) ended old new) (append_assoc along asked last)
         (does_then see (orders_acts start) ((along ++ asked) ++ last) ended old a new orders made (does_then see (along ++ asked) last ended a b new well made does))
 
-    -- an answer with its last line
+    -- an answer, and its last line
     answer : (exit result : Exit) (line : List ℕ) → GoesWell (along ++ asked) (see a) (see b) → AreAllAsked start script exit before behind_lines asked → IsAnswer exit → line ≡ closing_line (site_at start before).account exit → Says see exit result line b new
         → DoesScript see start script t result old new
     answer exit result line well all is same (inl (result_is, does)) =
@@ -118,7 +118,7 @@ module _ {X : Type 0} (see : X → Seen) (start : Start) (script : List ℕ) (t 
               (subst (λ x. GoesWell (orders_acts start ++ (along ++ asked)) (see old) (see x)) (sym none) (does_then see (orders_acts start) (along ++ asked) went_well old a b orders tt well));
         })
 
-  -- the lines were taken so, and then the run ends
+  -- the lines ended in this way, and then the run ends
   pub lines_taken : (old a b new : X) (lines_result : Result (Unit {0}) Exit) (run : Run) (exit result : Exit) → GoesWell (orders_acts start) (see old) (see a) → DoesLines see start script behind_orders lines_result run a b
       → EndsAs lines_result exit → Ends see exit result (closing_line run.ledger.account.state exit) b new → TakesScript see start script t result old new
   lines_taken old a b new (Ok done) run exit result orders d is (inl said) =

@@ -1,5 +1,4 @@
--- A call that only prints a text changes nothing else that is told, and prints it whole if it
--- answers its exit.
+-- A call that only prints a text changes nothing else in the model. If the call succeeds, the whole text is printed.
 use Rattle.std.proofs.Common.{◌≡◌, ℕ, List, ◌++◌, Option, Some, None, sym, ap, ◌∙◌}
 use Rattle.board_core.specs.Clock.{Adds, Clock}
 use Rattle.board_core.specs.Device.{LeavesDevice}
@@ -28,7 +27,7 @@ module _ (exit : Exit) (text : List ℕ) where
   only_told result (Some t) None printed = printed
   only_told result (Some t) (Some now) printed = told_so result t now printed
 
--- what a command tells that only prints a text
+-- what a command does that only prints a text
 pub printed_commands : (exit result : Exit) (text : List ℕ) (before now : Option Told) (old new : Clock)
     → Relates (Printed exit result text) before now → Adds (PrintMoment old text) old new → LeavesDevice before now old new
     → Leaves (Relates (OnlyTells exit text result) before now) (Adds (PrintMoment old text) old new) before now old new

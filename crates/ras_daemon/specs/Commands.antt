@@ -11,15 +11,18 @@ use Rattle.bank_lines.specs.LogFilter.{log_filter}
 use Rattle.bank_lines.specs.Filter.{trace_filter}
 use Rattle.cper_pcie.specs.Filter.{pcie_filter}
 use Rattle.event_lines.specs.Filter.{report_filter}
+use Rattle.line_filters.specs.Feeds.{Feeds, IsFeedExit, StopsFeeding}
 use Rattle.line_filters.specs.Filters.{Filters, IsFilterExit, OfBoth, StopsFiltering}
-use Rattle.mce_records.specs.Printing.{IsRecordExit, PrintsText, StopsPrinting}
-use Rattle.mce_records.specs.Records.{record_output}
+use Rattle.log_lines.specs.LogFeed.{log_feed}
+use Rattle.log_lines.specs.TraceFeed.{trace_feed}
+use Rattle.bank_lines.specs.Saved.Printing.{IsRecordExit, PrintsText, StopsPrinting}
+use Rattle.bank_lines.specs.Saved.Records.{record_output}
 use Rattle.ras_klog.specs.Klog.{klog_filter}
 use Rattle.ras_daemon.specs.Reporting.{IsReportExit, ReportMoment, Reports, report_output}
 use Rattle.ras_daemon.specs.Help.{help_text, version_line}
 use Rattle.ras_daemon.specs.Loading.{load_output}
 use Rattle.ras_daemon.specs.declared.word.Task.{Task}
-use Rattle.ras_daemon.specs.declared.word.Task.TheVariants.{Run, Report, Load, Pcie, Klog, TraceLines, KlogLines, GhesLines, MceLine, Help, Version}
+use Rattle.ras_daemon.specs.declared.word.Task.TheVariants.{Run, Report, Load, Pcie, Klog, TraceFeed, LogFeed, TraceLines, KlogLines, GhesLines, MceLine, Help, Version}
 
 -- A command that only prints ends with this exit and this text. Nothing else in the model changes.
 pub record OnlyTells (exit : Exit) (text : List ℕ) (result : Exit) (before now : Told) : Type 0 where
@@ -33,9 +36,9 @@ pub record Leaves (Tells Stops : Type 0) (before now : Option Told) (old new : C
   pub stops : Stops
   pub device : LeavesDevice before now old new
 
--- What a command does, by what was left of its source and what the board's model said, before and now, and
--- what a crash leaves: only a beginning of its text is new. Runs have clauses of their own. Unrecognized
--- arguments print the usage line.
+-- What a command does, given what was left of its source and what the board's model said, before and now; and what a
+-- crash leaves: only a beginning of the command's text is new. Runs have separate clauses. Unrecognized arguments
+-- print the usage line.
 abbrev pub ByTask : Exit → Option Task
     → Option (List ℕ) → Option (List ℕ) → Option Told → Option Told → Clock → Clock → Type 0
 ByTask exit None script left before now old new =
@@ -54,6 +57,12 @@ ByTask exit (Some Pcie) script left before now old new =
 ByTask exit (Some (Klog boot cap)) script left before now old new =
     Leaves (OfBoth (Filters (klog_filter boot cap) exit) script left before now)
     (StopsFiltering (klog_filter boot cap) script before old new) before now old new
+ByTask exit (Some (TraceFeed boot cap began)) script left before now old new =
+    Leaves (OfBoth (Feeds (trace_feed boot cap began) exit) script left before now)
+    (StopsFeeding (trace_feed boot cap began) script before old new) before now old new
+ByTask exit (Some (LogFeed boot cap began borders)) script left before now old new =
+    Leaves (OfBoth (Feeds (log_feed boot cap began borders) exit) script left before now)
+    (StopsFeeding (log_feed boot cap began borders) script before old new) before now old new
 ByTask exit (Some (TraceLines boot)) script left before now old new =
     Leaves (OfBoth (Filters (trace_filter boot) exit) script left before now)
     (StopsFiltering (trace_filter boot) script before old new) before now old new
@@ -91,6 +100,8 @@ MayEnd (Some (Report listing)) exit = IsReportExit exit
 MayEnd (Some (Load n)) exit = IsLoadExit exit
 MayEnd (Some Pcie) exit = IsFilterExit exit
 MayEnd (Some (Klog boot cap)) exit = IsFilterExit exit
+MayEnd (Some (TraceFeed boot cap began)) exit = IsFeedExit exit
+MayEnd (Some (LogFeed boot cap began borders)) exit = IsFeedExit exit
 MayEnd (Some (TraceLines boot)) exit = IsFilterExit exit
 MayEnd (Some (KlogLines boot cap)) exit = IsFilterExit exit
 MayEnd (Some (GhesLines boot began)) exit = IsFilterExit exit

@@ -36,7 +36,7 @@ reported start script n = flat_map entries_at (take n (events_of start script))
 abbrev pub account_with : Start → List ℕ → ℕ → State
 account_with start script n = account_after_all start.account (reported start script n)
 
--- the record store that these events leave
+-- the record store after one more event, and after the first n events
 abbrev pub store_by : List Stored → Place → List Stored
 store_by store place = store_done (deed_at place).asks store
 
@@ -52,8 +52,8 @@ pub record Headline (run : Run) (here left : Left) : Type 0 where
   pub begins : IsPrefixOf printed (text_of run)
   pub done : ℕ
   pub counted : done_count printed ≡ done
-  -- The files give the account at the start with what these events report, or with what the next event
-  -- reports too. Once a byte of the next event's text is printed, it is the latter.
+  -- The files give the account at the start with what these events report, or with what the next event reports too.
+  -- Once a byte of the next event's text is printed, the account has that event's reports.
   pub account : State
   pub recovers : Recovers account left
   pub whole : (account ≡ account_upto run done) ⊎ (account ≡ account_upto run (done + 1))
@@ -81,34 +81,34 @@ pub record IsWhole (run : Run) (exit : Exit) (before now : Told) : Type 0 where
   pub recovers : Recovers (account_upto run done) now.here
   pub store : now.here.store ≡ store_at_end exit (change_next run done) (store_upto run done)
 
--- what a crash leaves while the journal is opened and both files are synced: the files give the account at
--- the start, and store and text are as they were
+-- What a crash leaves while the journal is opened and both files are synced: the files give the account at the start,
+-- and store and text are unchanged.
 pub record AtOpening (start : Start) (out : List ℕ) (left : Left) : Type 0 where
   pub recovers : Recovers start.account left
   pub store : left.store ≡ start.store
   pub text : left.out ≡ out
 
--- The journal was never open, over what the model said at the start: a disk call failed, or memory ran out.
--- The source is left alone. A crash leaves what a crash at the start may have left, or, once both syncs of the
--- opening had returned Ok, the account at the start.
+-- The journal was never open, because a disk call failed or memory ran out; `t` is the model at the run's start. The
+-- source is left alone. A crash leaves what a crash at the start may have left, or, once both syncs of the opening
+-- had returned `Ok`, the account at the start.
 pub record NeverOpens {X : Type 0} (see : X → Seen) (exit : Exit) (Same : Type 0) (start : Start) (t : Told) (old new : X) : Type 0 where
   pub cut : (exit ≡ DiskFault) ⊎ (exit ≡ NoMemory)
   pub unread : Same
   pub syncs : MaySync see (AtOpening start t.here.out) t old new
 
--- The journal's opening has just ended, over what the model said before it: both files are synced. Exactly
--- the acts of an opening are done, and a crash leaves exactly what the model says.
+-- The journal's opening has just ended; `before` is the model before it. Both files are synced. Exactly the acts of
+-- an opening are done, and a crash leaves exactly what the model says.
 pub record IsJustOpen (before : Told) (told : Option Told) (clock : Clock) : Type 0 where
   pub acts : List Act
   pub are : AreOpeningActs before.here acts
   pub rests : Rests (after_acts acts before) told clock
 
--- A run opened its journal, over what the model said at its start. Until both syncs of the opening had returned
--- Ok, a crash leaves what a crash at the start may have left. From then on the headline holds, whatever a crash
--- at the start may leave; until the journal was open it is the account at the start. From then on, too, no file
--- has more than 256 links, if none had at the start.
+-- A run opened its journal; `t` is the model at the run's start. Until both syncs of the opening had returned `Ok`, a
+-- crash leaves what a crash at the start may have left. From then on the headline holds, whatever a crash at the
+-- start may leave; until the journal is open, a crash leaves the account at the start. From then on, too, no file has
+-- more than 256 links, if none had at the start.
 pub record Settles {X : Type 0} (see : X → Seen) (start : Start) (script : List ℕ) (t : Told) (old new : X) : Type 0 where
-  -- the board when the journal was open, and `syncs.synced` when both syncs had returned Ok
+  -- the board when the journal was open; `syncs.synced` is the board when both syncs had returned `Ok`
   pub opened : X
   pub syncs : SyncsFirst see (AtOpening start t.here.out) t old opened
   pub just : IsJustOpen t (see opened).told (see opened).clock
@@ -116,16 +116,16 @@ pub record Settles {X : Type 0} (see : X → Seen) (start : Start) (script : Lis
   pub from : Always (see new).clock (see syncs.synced).clock.now (Headline (run_of start script) t.here)
   pub few : HasFewLinks t.here → Always (see new).clock (see syncs.synced).clock.now HasFewLinks
 
--- a crash left the account at the start of a run, and its record store
+-- a crash left a run's account and record store as they were at the run's start
 pub record GivesStart (start : Start) (left : Left) : Type 0 where
   pub recovers : Recovers start.account left
   pub store : left.store ≡ start.store
 
--- whatever a crash at the start of a run may leave has both
+-- Whatever a crash at the start of a run may leave has this account and this store.
 abbrev pub StopsRecover : Start → Clock → Type 0
 StopsRecover start clock = (left : Left) → LeftNow clock left → GivesStart start left
 
--- if the words ask for a run, source and board are modelled, and the files give an account
+-- `P` holds, provided that the arguments ask for a run, source and board are modelled, and the files give an account.
 abbrev pub OverRun : (Start → List ℕ → Told → Type 0) → Option Task → Option (List ℕ) → Option Told → Type 0
 OverRun P (Some tasks.Run) (Some script) (Some t) =
     (account : State) → Recovers account t.here → P (start_of account t) script t

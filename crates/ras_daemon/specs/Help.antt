@@ -8,7 +8,7 @@ use Rattle.ras_script.specs.Splitting.{lines_of}
 use Rattle.ras_texts.specs.declared.version.TheConstants.{VERSION}
 use Rattle.ras_daemon.specs.declared.help.TheConstants.{HELP}
 use Rattle.ras_daemon.specs.declared.word.Task.{Task}
-use Rattle.ras_daemon.specs.declared.word.Task.TheVariants.{Run, Report, Load, Pcie, Klog, TraceLines, KlogLines, GhesLines, MceLine, Help, Version}
+use Rattle.ras_daemon.specs.declared.word.Task.TheVariants.{Run, Report, Load, Pcie, Klog, TraceFeed, LogFeed, TraceLines, KlogLines, GhesLines, MceLine, Help, Version}
 
 -- the text of `--help`, which is the constant of the code
 abbrev pub help_text : List ℕ
@@ -28,6 +28,8 @@ form_of (Report Pages) = codes "rasd report pages "
 form_of (Report Names) = codes "rasd report names "
 form_of (Report Modules) = codes "rasd report modules "
 form_of (Report Metrics) = codes "rasd report metrics "
+form_of (TraceFeed boot cap began) = codes "rasd lines trace BOOT CAP SEC < TRACE "
+form_of (LogFeed boot cap began borders) = codes "rasd lines log BOOT CAP SEC [CHECKS REPORTS] < LOG "
 form_of (TraceLines boot) = codes "rasd lines trace BOOT < TRACE "
 form_of (KlogLines boot cap) = codes "rasd lines klog BOOT CAP < LOG "
 form_of (GhesLines boot began) = codes "rasd lines ghes BOOT SEC < LOG "
@@ -59,11 +61,11 @@ exit_words TooLong = codes "the input or a journal file has more than 67,108,864
 abbrev pub status_column : ℕ → List ℕ
 status_column number = (if nat_lt number 10 then 32 ∷ decimal number else decimal number) ++ 32 ∷ []
 
--- the lines of the help that begin so
+-- the lines of the help that begin with this text
 unfoldable pub help_lines : List ℕ → List (List ℕ)
 help_lines front = filter (λ line. bytes_eq (take (length front) line) front) (lines_of help_text)
 
--- One line of the help begins so, and then has these words.
+-- Exactly one line of the help begins with this text, and these words follow the text.
 pub record HasOneLine (front words : List ℕ) : Type 0 where
   pub one : length (help_lines front) ≡ 1
   pub same : help_lines (front ++ words) ≡ help_lines front

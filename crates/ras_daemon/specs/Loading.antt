@@ -1,5 +1,5 @@
--- What is printed of a run over a made-up script of a number of reports: the line that sums up its account.
--- The run has files of its own, which are empty at first.
+-- What is printed for a run over a made-up script of n reports: the line that sums up the run's account. The run has
+-- its own files, which are empty at first.
 use Rattle.std.specs.Prelude.{ℕ, List, []}
 use Rattle.board_core.specs.Stop.{Left}
 use Rattle.ras_account.specs.Account.{State}

@@ -58,7 +58,7 @@ store_changed store clears = unreadable store
 abbrev pub store_upto : Run → ℕ → List Stored
 store_upto run n = fold store_changed run.store (changes_upto run n)
 
--- The bytes that were last put under an identifier, or else those at the start. They stay even if their
+-- The bytes that were last put under an identifier, or else the bytes under it at the start. They stay even if their
 -- record was cleared.
 abbrev pub last_changed : ℕ → Option (List ℕ) → StoreChange → Option (List ℕ)
 last_changed id last (puts r) = if nat_eq r.id id then Some r.bytes else last

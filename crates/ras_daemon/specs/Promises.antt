@@ -1,5 +1,5 @@
--- What `rasd` promises of a run, of a run over files that are refused, and of faults: one record for each
--- clause.
+-- What `rasd` promises about a run, about a run over files that are damaged or too long, and about faults: one record
+-- for each clause.
 use Rattle.std.specs.Prelude.{◌≡◌, ℕ, ◌≤◌, ◌⊎◌, List, ◌++◌, Option, Some, IfSome, IsSomeAnd, ⊤}
 use Rattle.board_core.specs.declared.board.DiskCall.{DiskCall}
 use Rattle.board_core.specs.Cause.{Faults, Kind, Rose, count_of}
@@ -41,8 +41,8 @@ pub record HasOpened (start : Start) (before now : Told) : Type 0 where
   pub more : List ℕ
   pub ordered : now.here.out ≡ before.here.out ++ (standing_lines start.account ++ more)
 
--- What a run does, over a board whose model said `before` at its start and says `now` at its end, where
--- `left` remains of its script. `Same` says that its source is as it was.
+-- What a run does, over a board whose model said `before` at the run's start and says `now` at its end; `left`
+-- remains of the script. `Same` says that the source is unchanged.
 pub record Ran (exit : Exit) (Same : Type 0) (start : Start) (script : List ℕ) (before : Told) (left : List ℕ) (now : Told) : Type 0 where
   -- The exit and the printed text are functions of the script, the account, the record store and the
   -- journal's position at the start, and of how slow the store's device is. A fault or lack of memory cuts
@@ -52,11 +52,10 @@ pub record Ran (exit : Exit) (Same : Type 0) (start : Start) (script : List ℕ)
   pub begun : PrintsPart (run_output start script) before.here.out now.here.out
   -- Unless a call of the board failed, only whole events were done.
   pub whole : OnWhole exit (IsWhole (run_of start script) exit before now)
-  -- The run's acts were done in this order: the opening; the print of the outstanding orders; the acts of
-  -- each line before the first refused one; the acts by which the refused line asks the record store, if it
-  -- is of a kind that does; the print of the last line. If no fault or lack of memory cut the run short, all
-  -- were done and each of these lines was accepted. If a call of the board failed, it is one of these acts.
-  -- Otherwise the first few were done.
+  -- The run's acts were done in this order: the opening; the print of the outstanding orders; the acts of each line
+  -- before the first rejected one; the acts by which the rejected line asks the record store, if lines of its kind
+  -- do; the print of the last line. If no fault or lack of memory cut the run short, all were done and each of these
+  -- lines was accepted. If a call of the board failed, it is one of these acts. Otherwise the first few were done.
   pub acts : DidRun start script (ending_of exit) before now
   -- No more was taken of the source than needed: at most 40,001 bytes past the first event that isn't done.
   -- If the source failed, every event whose whole line was taken is done.
@@ -70,19 +69,18 @@ pub record RunStops {X : Type 0} (see : X → Seen) (exit : Exit) (Same : Type 0
   -- The number of calls never falls. So what the board's model says at the end is among what a crash since
   -- the start may leave.
   pub later : (see old).clock.now ≤ (see new).clock.now
-  -- Provided that a crash at the start leaves this account and this record store: a crash at any point leaves
-  -- the account at the start and a beginning of what this run reports, with each event that is done by what
-  -- was printed. Of the record store it leaves what these events left, or a state while the next event
-  -- changes it.
+  -- If a crash at the start leaves this account and this record store, a crash at any point leaves the account at the
+  -- start and a beginning of what this run reports, with each event that is done by what was printed. Of the record
+  -- store it leaves what these events left, or a state while the next event changes the store.
   pub once : StopsRecover start (see old).clock → Always (see new).clock (see old).clock.now (Headline (run_of start script) t.here)
-  -- Without that premise, this holds from the point at which both syncs of the journal's opening had returned
-  -- Ok. If the journal was never open, the source is left alone.
+  -- Without that premise, the headline holds from the point at which both syncs of the journal's opening had returned
+  -- `Ok`. If the journal was never open, the source is left alone.
   pub settled : Settles see start script t old new ⊎ NeverOpens see exit Same start t old new
   -- If no file at the start has more than 256 links, neither has any file that a crash leaves, except for
   -- what a crash at the start may have left.
   pub few : HasFewLinks t.here → Always (see new).clock (see old).clock.now (λ left. LeftNow (see old).clock left ⊎ HasFewLinks left)
 
--- if source and board are modelled at the end
+-- Source and board are modelled at the end, and `P` holds of them.
 abbrev pub StillTell : (List ℕ → Told → Type 0) → Option (List ℕ) → Option Told → Type 0
 StillTell P left now = IsSomeAnd left (λ rest. IsSomeAnd now (P rest))
 
@@ -97,23 +95,23 @@ pub record Refuses (exit : Exit) (Same : Type 0) (old new : Clock) (why : Exit) 
   pub ends : EndsRefused why exit
   pub tells : Tells why (stop_line why) exit before now
   pub files : KeepsFiles before now
-  -- A crash at any point leaves what a crash at the start may have left, or everything as the model said
-  -- then, with a beginning of that line printed.
+  -- A crash at any point leaves what a crash at the start may have left, or everything as the model said at the
+  -- start, with a beginning of the `stop` line printed.
   pub stops : Adds (ReportMoment old (stop_line why) before.here) old new
-  -- The disk calls are the calls of a recovery, or a beginning of them.
+  -- The disk calls are the calls of a recovery, or the first few of them.
   pub calls : Makes (IsBeginning IsRecovery) before now
   pub device : LeavesDevice (Some before) (Some now) old new
   -- The source is left alone.
   pub unread : Same
 
--- if the words ask for a run, the board is modelled, and its files are refused
+-- `P` holds, provided that the arguments ask for a run, the board is modelled, and its files are damaged or too long.
 abbrev pub OverRefused : (Exit → Told → Told → Type 0) → Option Task → Option Told → Option Told → Type 0
 OverRefused P (Some Run) (Some before) now = IfSome (files_refusal before.here) (λ why. IsSomeAnd now (P why before))
 OverRefused P task before now = ⊤
 
 -- ---- every call, over every source and board
 
--- If a count of faults rose, the exit is that fault, and every other count is as it was.
+-- If a count of faults rose, the exit is that fault, and every other count is unchanged.
 pub record Caused (exit : Exit) (count count' : ℕ) (faults faults' : Faults) : Type 0 where
   pub source : SourceCause exit count count'
   pub board : BoardCause exit faults faults'

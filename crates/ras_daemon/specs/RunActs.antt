@@ -19,8 +19,7 @@ use Rattle.ras_texts.specs.Orders.{standing_lines}
 use Rattle.ras_daemon.specs.RunOutput.{closing_line}
 use Rattle.ras_daemon.specs.RunStatus.{run_exit, script_refused}
 
--- the acts of lines at their places, one line after another, each over what the model says once the lines
--- before it are done
+-- the acts of lines at their places, one line after another, each line over the model after the lines before it
 abbrev pub AreAlong : (Place → Told → List Act → Type 0) → List Place → Told → List Act → Type 0
 AreAlong Are [] t acts = acts ≡ []
 AreAlong Are (place ∷ places) t acts =
@@ -30,7 +29,7 @@ AreAlong Are (place ∷ places) t acts =
 abbrev pub AreActsAlong : List Place → Told → List Act → Type 0
 AreActsAlong = AreAlong AreLineActs
 
--- The acts of lines that are done. The line's calls of the device showed the model's device to be one.
+-- The acts of a line that is done. If the line calls the device, the calls show that the model's device is one.
 abbrev pub IsDoneAt : Place → Told → List Act → Type 0
 IsDoneAt place t acts = CanAsk (event_at place) t × AreLineActs place t acts
 
@@ -44,8 +43,8 @@ orders_acts start = print_acts (standing_lines start.account)
 abbrev pub last_acts : Start → List NumberedLine → Exit → List Act
 last_acts start before exit = print_acts (closing_line (site_at start before).account exit)
 
--- what the first refused line does, over what the model says by then: it asks the record store, if it is of a
--- kind that does
+-- the acts of the first rejected line, given the model by then: the line asks the record store, if lines of its kind
+-- do
 abbrev pub refused_acts : Option (Place × Exit) → Told → List Act
 refused_acts None t = []
 refused_acts (Some (place, why)) t = asking_acts place t
@@ -53,8 +52,8 @@ refused_acts (Some (place, why)) t = asking_acts place t
 abbrev pub script_asked : Start → List ℕ → Told → List Act
 script_asked start script t = refused_acts (script_refused start script) t
 
--- The acts after the journal is open: the orders are printed, the lines before the first refused one are
--- processed, the refused line asks the store, and the last line is printed.
+-- The acts after the journal is open: the orders are printed, the lines before the first rejected one are processed,
+-- the rejected line asks the store, and the last line is printed.
 pub record AreScriptActs (start : Start) (script : List ℕ) (t : Told) (acts : List Act) : Type 0 where
   pub along : List Act
   pub lines : AreActsAlong (places_taken start script) (after_acts (orders_acts start) t) along
@@ -65,7 +64,7 @@ pub record AreScriptActs (start : Start) (script : List ℕ) (t : Told) (acts : 
       ++ (script_asked start script (after_acts along (after_acts (orders_acts start) t))
       ++ last_acts start (reads_of script) (run_exit start script)))
 
--- the acts of a run over a board whose model says this
+-- the acts of a run over a board with this model
 pub record AreRunActs (start : Start) (script : List ℕ) (t : Told) (acts : List Act) : Type 0 where
   pub first : List Act
   pub rest : List Act
@@ -73,19 +72,19 @@ pub record AreRunActs (start : Start) (script : List ℕ) (t : Told) (acts : Lis
   pub takes : AreScriptActs start script (after_acts first t) rest
   pub is : acts ≡ first ++ rest
 
--- the disk calls of a run that made all of them
+-- all disk calls of a run
 abbrev pub AreRunCalls : Start → List ℕ → Told → List DiskCall → Type 0
 AreRunCalls start script t made = (acts : List Act) × AreRunActs start script t acts × (made ≡ calls_of acts)
 
--- If a run wasn't cut short, all of these acts were done. If a call of the board failed, it is one of them:
--- those before it were done, and none after it. Otherwise the first few were done.
+-- If a run wasn't cut short, all of these acts were done. If a call of the board failed, it is one of these acts: the
+-- acts before it were done, and no act after it. Otherwise the first few were done.
 abbrev pub DidOf : List Act → CallEnding → Told → Told → Type 0
 DidOf acts answered old now = now ≡ after_acts acts old
 DidOf acts (faulted kind) old now = FailsActs kind acts old now
 DidOf acts ending old now = (done : List Act) × IsPrefixOf done acts × (now ≡ after_acts done old)
 
--- A run that wasn't cut short took all lines before the first refused one, over an open journal. Each was
--- accepted at its place, and its calls of the device showed the model's device to be one.
+-- A run that wasn't cut short took all lines before the first rejected one, over an open journal. Each line was
+-- accepted at its place, and if it called the device, its calls showed that the model's device is one.
 pub record TookAll (start : Start) (script : List ℕ) (t now : Told) : Type 0 where
   pub before : List NumberedLine
   pub rest : List NumberedLine
@@ -102,7 +101,7 @@ pub record TookAll (start : Start) (script : List ℕ) (t now : Told) : Type 0 w
       ++ (script_asked start script (after_acts along (after_acts (orders_acts start) t))
       ++ last_acts start (reads_of script) (run_exit start script)))) t
 
--- Before that the journal was opened and gave the account. So the laws of lines hold of each line.
+-- Before the lines, the journal was opened and gave the account. So the laws of lines hold of each line.
 pub record DidAll (start : Start) (script : List ℕ) (old now : Told) : Type 0 where
   pub first : List Act
   pub opens : AreOpeningActs old.here first
@@ -114,7 +113,7 @@ abbrev pub DidRun : Start → List ℕ → CallEnding → Told → Told → Type
 DidRun start script answered old now = DidAll start script old now
 DidRun start script ending old now = (acts : List Act) × AreRunActs start script old acts × DidOf acts ending old now
 
--- the model lists the accesses of the run's acts after those before it, and no others
+-- the model lists the accesses of the run's acts after the earlier accesses, and no others
 pub record ListsAccesses (start : Start) (script : List ℕ) (old now : Told) : Type 0 where
   pub acts : List Act
   pub are : AreRunActs start script old acts

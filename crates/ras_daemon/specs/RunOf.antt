@@ -1,4 +1,4 @@
--- The run of a script from where it starts, as events.
+-- The run of a script from its start, as events.
 use Rattle.std.specs.Prelude.{List, [], ◌∷◌, ◌++◌, ℕ, map, filter, Option, None, Some}
 use Rattle.ras_exit.specs.declared.exit.Exit.{Exit}
 use Rattle.ras_exit.specs.declared.exit.Exit.TheVariants.{BadLine, ErstRefused}
@@ -31,8 +31,8 @@ run_event_at place = record {
   prints = output_at place;
 }
 
--- The events that a run begins: all before the first refused line, and then the refused one, unless it is
--- refused for what it asks for.
+-- The events that a run begins: all before the first rejected line, and then the rejected line, unless it is rejected
+-- with `BadLine` or `ErstRefused`.
 abbrev pub begun_by : Option (Place × Exit) → List Place
 begun_by (Some (place, BadLine number why)) = []
 begun_by (Some (place, ErstRefused number)) = []

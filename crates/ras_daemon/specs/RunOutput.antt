@@ -15,12 +15,12 @@ use Rattle.ras_run.specs.Status.{places_before_refusal}
 use Rattle.ras_exit.specs.StopLine.{stop_line}
 use Rattle.ras_daemon.specs.RunStatus.{run_exit}
 
--- the last line of a run, by how it ends
+-- the last line of a run, given how the run ends
 abbrev pub closing_line : State → Exit → List ℕ
 closing_line account Done = end_line account
 closing_line account exit = stop_line exit
 
--- what lines print, up to the first refused one
+-- what lines print, up to the first rejected one
 abbrev pub lines_output : Start → List NumberedLine → List ℕ
 lines_output start reads = flat_map output_at (places_before_refusal (places_from (first_site start) reads))
 

@@ -12,7 +12,7 @@ use Rattle.ras_exit.specs.declared.exit.Exit.{Exit}
 use Rattle.ras_exit.specs.ScriptEnd.{script_exit}
 use Rattle.ras_run.specs.Status.{refusal_at}
 
--- where a run starts over files that give an account, on a board whose model says this
+-- where a run starts: over files that give this account, on a board with this model
 abbrev pub start_of : State → Told → Start
 start_of account t = record {
   account = account;
@@ -25,7 +25,7 @@ start_of account t = record {
 abbrev pub empty_start : Start
 empty_start = record { account = account_of empty; standing = standing_opened [] []; store = []; slow = 0 }
 
--- the first refused line, at its place, and why it is refused
+-- the first rejected line, at its place, and why it is rejected
 abbrev pub refused_or : Option Exit → Place → Option (Place × Exit) → Option (Place × Exit)
 refused_or None place later = later
 refused_or (Some why) place later = Some (place, why)
@@ -37,7 +37,7 @@ first_refused (place ∷ places) = refused_or (refusal_at place) place (first_re
 abbrev pub script_refused : Start → List ℕ → Option (Place × Exit)
 script_refused start script = first_refused (places_of start script)
 
--- how a run over a script ends: as its first refused line says, or as the end of its list of lines does
+-- how a run over a script ends: as its first rejected line says, or as the script's list of lines ends
 abbrev pub run_exit : Start → List ℕ → Exit
 run_exit start script =
     option_map_or (λ (refused : Place × Exit). refused.1) (script_refused start script) (script_exit script)

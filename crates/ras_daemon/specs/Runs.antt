@@ -1,4 +1,4 @@
--- What runs log and order, one run after the other: the words of the laws of runs.
+-- What runs log and order, one run after another: the definitions that the laws of runs cite.
 use Rattle.std.specs.Prelude.{◌≡◌, ℕ, List, [], ◌∷◌, ◌++◌, length, take, All, Ok, ⊤}
 use Rattle.std.specs.List.{flat_map}
 use Rattle.page_policy.specs.declared.rows.Order.{Order}
@@ -29,7 +29,7 @@ BeginsWith history start = start.account ≡ account_of history
 abbrev pub history_after : History → Start → List ℕ → ℕ → History
 history_after history start script n = with_entries history (reported start script n)
 
--- what the first n events log: the new entries among those that they report, each at its place
+-- what the first n events log: the entries that they report and that are new when they come
 abbrev pub logged : Start → List ℕ → ℕ → List Entry
 logged start script n = fresh_entries_in start.account (reported start script n)
 
@@ -48,7 +48,7 @@ ordered start script n =
 abbrev pub event_count : Start → List ℕ → ℕ
 event_count start script = length (events_of start script)
 
--- a run takes the whole script: no line is refused, and there is room for all that is reported
+-- a run takes the whole script: no line is rejected, and there is room for all that is reported
 abbrev pub IsTakenWhole : Start → List ℕ → Type 0
 IsTakenWhole start script = run_exit start script ≡ Done
 

@@ -20,13 +20,13 @@ reads_of script = reads_in (script_lines script).whole
 abbrev pub is_event : Place → Bool
 is_event place = is_asking place.1.1
 
--- the lines of a script at their places, and those before the first refused one
+-- the lines of a script at their places, and the places before the first rejected line
 abbrev pub places_of : Start → List ℕ → List Place
 places_of start script = places_from (first_site start) (reads_of script)
 
 abbrev pub places_taken : Start → List ℕ → List Place
 places_taken start script = places_before_refusal (places_of start script)
 
--- the events among these
+-- the events among the places before the first rejected line
 abbrev pub events_of : Start → List ℕ → List Place
 events_of start script = filter is_event (places_taken start script)

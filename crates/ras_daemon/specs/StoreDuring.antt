@@ -1,5 +1,4 @@
--- What a run leaves of the record store beside the journal, while an event is processed and when the run
--- ends.
+-- What a run leaves of the record store, while an event is processed and when the run ends.
 use Rattle.std.specs.Prelude.{◌≡◌, ℕ, ◌⊎◌, List, Option, Some, Ok, IsTrue}
 use Rattle.board_core.specs.Stop.{Becomes}
 use Rattle.cper_records.specs.Readable.{filled, read_under}
@@ -39,15 +38,15 @@ KnowsReadable store Known =
     (id : ℕ) (bytes own : List ℕ) → bytes_under id store ≡ Some bytes → read_under id (filled bytes) ≡ Ok own
     → Known (stored_name own)
 
--- Under each identifier the bytes that were last stored, if they are a readable record, are in the store, or
+-- For each identifier, if the bytes that were last stored under it are a readable record, they are in the store, or
 -- the record's name is known.
 abbrev pub KeepsRecords : (ℕ → Option (List ℕ)) → (Name → Type 0) → List Stored → Type 0
 KeepsRecords last Known store =
     (id : ℕ) (bytes own : List ℕ) → last id ≡ Some bytes → read_under id (filled bytes) ≡ Ok own
     → (bytes_under id store ≡ Some bytes) ⊎ Known (stored_name own)
 
--- The store when a run ends. A device that was busy for too long has the record that the next event was to
--- save anyway.
+-- The store when a run ends. If its device was busy for too long, the store has the record anyway that the next event
+-- was to save.
 abbrev pub store_at_end : Exit → StoreChange → List Stored → List Stored
 store_at_end ErstBusy (puts r) store = store_changed store (puts r)
 store_at_end exit next store = store

@@ -1,4 +1,4 @@
-//! The program's call: runs one command.
+//! Runs one command: the program's call.
 
 ghost use Rattle.std.specs.Prelude.{◌≡◌, ◌≢◌, ◌⊎◌, ℕ, List, Option, Some, length};
 ghost use Rattle.board_core.specs.Cause.{Faults};
@@ -10,7 +10,7 @@ ghost use Rattle.ras_recover.specs.DiskCalls.{IsBeginning, Makes};
 ghost use Rattle.ras_run.specs.Sites.{Start};
 ghost use Rattle.ras_daemon.specs.Script.{events_of};
 ghost use Rattle.ras_events.specs.DoneLines.{done_count};
-ghost use Rattle.ras_daemon.specs.Ahead.{TakesBy, TakesRecordBy};
+ghost use Rattle.ras_daemon.specs.Ahead.{TakesBy, TakesInputBy, TakesRecordBy};
 ghost use Rattle.ras_daemon.specs.Commands.{ByTask, MayEnd};
 ghost use Rattle.ras_daemon.specs.Headline.{OverRun, laid_with};
 ghost use Rattle.ras_daemon.specs.Promises.{Caused, IsQuiet, IsQuietBoard, OverRefused, Ran, Refuses};
@@ -27,12 +27,12 @@ use crate::load::load;
 use crate::reporting::report;
 use crate::running::run;
 use crate::{RasWord, Task, task_of};
-use bank_lines::{LogFilter, TraceFilter};
+use bank_lines::{LogFilter, TraceFilter, print_record};
 use board_core::{Board, Source};
 use cper_pcie::PcieFilter;
 use event_lines::ReportFilter;
-use line_filters::filter_lines;
-use mce_records::print_record;
+use line_filters::{feed_lines, filter_lines};
+use log_lines::{LogFeed, TraceFeed};
 use ras_exit::{Exit, usage_line};
 use ras_klog::KlogFilter;
 use std::alloc::Global;
@@ -64,17 +64,19 @@ pub fn rasd<S: Source, B: Board>(
         (Refuses result (source.new ≡ source.old) (B.seen board.old).clock (B.seen board.new).clock)
         (task_of words.now) (B.seen board.old).told (B.seen board.new).told }
 
-    // What every other command prints, and unrecognized arguments too, by what the source and the
-    // files contain.
+    // What every other command prints, and unrecognized arguments too, given what the source and
+    // the files contain.
     ensures commands { ByTask result (task_of words.now) (S.left source.old) (S.left source.new)
         (B.seen board.old).told (B.seen board.new).told (B.seen board.old).clock
         (B.seen board.new).clock }
 
     // A command that reads the source takes at most 67,108,865 bytes of it, and all of them if it
-    // ends as done. The command that reads a saved record takes at most 129 bytes, and all of them
-    // or 129 if it ends as done. Every other command leaves the source alone.
+    // ends as done. A command that reads a source of any length takes all of it if it ends as done.
+    // The command that reads a saved record takes at most 129 bytes, and all of them or 129 if it
+    // ends as done. Every other command leaves the source alone.
     ensures reads { ReadsBy (task_of words.now)
         (TakesBy result (S.left source.old) (S.left source.new))
+        (TakesInputBy result (S.left source.old) (S.left source.new))
         (TakesRecordBy result (S.left source.old) (S.left source.new))
         (source.new ≡ source.old) }
 
@@ -98,6 +100,21 @@ pub fn rasd<S: Source, B: Board>(
             let mut filter = KlogFilter::new(boot, cap);
             filter_lines(alloc, &mut filter, source, board)
         }
+        Some(Task::TraceFeed { boot, cap, began }) => {
+            let mut filter = TraceFeed::new(alloc, boot, cap, began);
+            feed_lines(alloc, &mut filter, source, board)
+        }
+        Some(
+            Task::LogFeed {
+                boot,
+                cap,
+                began,
+                borders,
+            },
+        ) => {
+            let mut filter = LogFeed::new(alloc, boot, cap, began, borders);
+            feed_lines(alloc, &mut filter, source, board)
+        }
         Some(Task::TraceLines { boot }) => {
             let mut filter = TraceFilter::new(alloc, boot);
             filter_lines(alloc, &mut filter, source, board)
@@ -117,15 +134,15 @@ pub fn rasd<S: Source, B: Board>(
     }
 }
 
-/// What else follows of a run from the promises of `rasd`.
+/// Laws: what else follows from the promises of `rasd` for a run.
 pub fn promise_laws<S: Source, B: Board>()
     // If a run ends without a fault, its done lines number its events.
     ensures counted { (exit : Exit) (first last : S) (start : Start) (script left : List ℕ)
         (before now : Told) → Ran exit (last ≡ first) start script before left now
         → OnAnswer exit (done_count (run_output start script) ≡ length (events_of start script)) }
 
-    // A run's disk calls are the disk calls of its acts, or a beginning of them. If the run ends
-    // without a fault, its accesses to the device are those of its acts.
+    // A run's disk calls are the disk calls of its acts, or the first few of them. If the run ends
+    // without a fault, its accesses to the device are the accesses of its acts.
     ensures calls { (exit : Exit) (first last : S) (start : Start) (script left : List ℕ)
         (before now : Told) → Ran exit (last ≡ first) start script before left now
         → Makes (IsBeginning (AreRunCalls start script before)) before now }
@@ -146,7 +163,7 @@ pub fn promise_laws<S: Source, B: Board>()
         → Always (B.seen old).clock (B.seen old).clock.now HasFewLinks
         → Always (B.seen new).clock (B.seen old).clock.now HasFewLinks }
 
-    // If no count of faults rose, a run that refuses no line is done, unless memory ran out.
+    // If no count of faults rose and memory didn't run out, a run that rejects no line succeeds.
     ensures complete { (exit : Exit) (first last : S) (start : Start) (script left : List ℕ)
         (before now : Told) (count after : ℕ) (faults then : Faults)
         → Ran exit (last ≡ first) start script before left now

@@ -1,4 +1,4 @@
-//! The end of a run, and its last line.
+//! Prints the last line of a run.
 
 ghost use Rattle.std.specs.Prelude.{◌≡◌, ◌⊎◌, IfOk};
 ghost use Rattle.board_core.specs.Clock.{Adds};

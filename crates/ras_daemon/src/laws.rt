@@ -1,4 +1,4 @@
-//! What runs on one journal log and order, one run after the other.
+//! Laws on runs on one journal, one run after another.
 
 ghost use Rattle.std.specs.Prelude.{◌≡◌, ◌++◌, ℕ, List, [], ◌∷◌, Some, if◌then◌else◌};
 ghost use Rattle.std.specs.List.{IsDistinct};
@@ -32,7 +32,7 @@ ghost use Rattle.ras_daemon.specs.Runs.{IsTakenWhole, PollsNothing};
 ghost use Rattle.ras_daemon.specs.Runs.{ReportsFacts, event_count, facts_of, history_after};
 ghost use Rattle.ras_daemon.specs.Runs.{logged, ordered};
 
-/// What holds of runs on one journal.
+/// Laws on what runs on one journal print, log and order.
 pub fn run_laws()
     // What a run prints and how it ends depend, besides its script, only on the account, the
     // journal's position and the record store at its start, and on how slow the store's device is.
@@ -66,7 +66,8 @@ pub fn run_laws()
         → BeginsWith history start → IsDistinct same_name
         (names_of (fresh_entries history ++ logged start script n)) }
 
-    // So a script without polls of which no line was refused logs no report when it is run again.
+    // So a script without polls, none of whose lines was rejected, logs no report when it is run
+    // again.
     ensures again { (history : History) (start next : Start) (script : List ℕ) (n : ℕ)
         → PollsNothing script → BeginsWith history start → IsTakenWhole start script
         → Follows start script (event_count start script) next
@@ -115,8 +116,8 @@ pub fn run_laws()
         → BeginsWith history start → AreOnceInOrder page
         (orders_for_page page (orders history ++ ordered start script n)) }
 
-    // Since the last upgrade marker they ask once for a module to be replaced if its own corrected
-    // errors have tripped its bucket, and otherwise never.
+    // Since the last upgrade marker they ask once for a module to be replaced if the module's own
+    // corrected errors have tripped its bucket, and otherwise never.
     ensures module { (history : History) (start : Start) (script : List ℕ) (n : ℕ)
         (label : Bytes) → BeginsWith history start
         → let after = history_after history start script n in HasRow after label
@@ -125,8 +126,9 @@ pub fn run_laws()
         ≡ (if has_tripped (module_errors after label)
         then replace_order after label ∷ [] else []) }
 
-    // What is outstanding, and is printed when the next run starts: a page in the highest state
-    // that its orders asked for, and a module to be replaced if its own errors tripped its bucket.
+    // The account has what is outstanding, which is printed when the next run starts: a page in the
+    // highest state that its orders asked for, and a module to be replaced if its own errors
+    // tripped its bucket.
     ensures page_stands { (history : History) (start : Start) (script : List ℕ) (n page : ℕ)
         → BeginsWith history start
         → state_in (account_with start script n).pages page
@@ -137,10 +139,10 @@ pub fn run_laws()
         → row.replace ≡ has_tripped (module_errors (history_after history start script n) label) }
 {}
 
-/// What holds of a run seen from outside, as events.
+/// Laws on a run seen from outside, as events.
 pub fn outside_laws()
-    // Once some events are done, the account, the record store and the text are those that the
-    // first events of the script give.
+    // Once some events are done, the account, the record store and the text are what the first
+    // events of the script give.
     ensures account { (start : Start) (script : List ℕ) (n : ℕ)
         → account_upto (run_of start script) n ≡ account_with start script n }
     ensures store { (start : Start) (script : List ℕ) (n : ℕ)
@@ -153,7 +155,7 @@ pub fn outside_laws()
         → text_of (run_of start script) ≡ run_output start script }
 {}
 
-/// What holds of a run over lines such as `lines` prints, if no line is refused.
+/// Laws on a run over lines such as `lines` prints, if no line is rejected.
 pub fn feeding_laws()
     // The events of a script are what its lines ask for, in order, and nothing else.
     ensures events { (start : Start) (script : List ℕ) → IsTakenWhole start script

@@ -1,4 +1,4 @@
-//! The lines of a script, taken in order.
+//! Processes the lines of a script in order.
 
 ghost use Rattle.std.specs.Prelude.{◌≡◌, ℕ, List, [], Some};
 ghost use Rattle.board_core.specs.Told.{Told};
@@ -16,8 +16,8 @@ use ras_exit::Exit;
 use ras_run::{Run, take_line};
 use std::alloc::Global;
 
-/// Processes the lines of a source in order, up to its end or to the first refused line. Requires
-/// lines of which none was read, and a run whose journal is ready.
+/// Processes the lines of a source in order, up to its end or to the first rejected line. Requires
+/// that no line was read yet, and a run whose journal is ready.
 ///
 /// # Errors
 ///

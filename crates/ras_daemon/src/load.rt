@@ -1,4 +1,4 @@
-//! A run over a made-up script, on a board in memory.
+//! Runs a made-up script on a board in memory.
 
 ghost use Rattle.std.specs.Prelude.{◌≡◌, ◌≤◌, ◌-◌, ◌/◌, ℕ, length, IfOk};
 ghost use Rattle.board_core.specs.Clock.{Adds};
@@ -63,9 +63,9 @@ fn loaded_line(alloc: Global, n: u64) -> Result<Vec<u8>, NoMemory>
     }
 }
 
-/// What holds of a run over a made-up script.
+/// Laws on a run over a made-up script.
 pub fn loading_laws()
-    // No line is refused, because the account and the journal have room for all reports. So a run
+    // No line is rejected, because the account and the journal have room for all reports. So a run
     // over empty files reaches its end.
     ensures taken { (n : ℕ) → n ≤ MOST_LINES
         → run_exit empty_start (load_script n) ≡ Exit.Done }

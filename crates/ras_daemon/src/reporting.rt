@@ -1,4 +1,4 @@
-//! A report of the account in the journal's files.
+//! Reports the account in the journal's files.
 
 ghost use Rattle.std.specs.Prelude.{◌≡◌, ◌++◌, IfErr, IfOk, Ok, OnOk, Result, Some};
 ghost use Rattle.board_core.specs.Clock.{Adds};
@@ -22,14 +22,14 @@ use ras_texts::end_line;
 use std::alloc::Global;
 
 /// Prints a listing of the account in the journal's files, and its end line, if it has one, by one
-/// call, and returns how the report ended. If a file is damaged or too long, it prints the `stop`
-/// line instead, as a comment for metrics. It writes nothing, and reads no script.
+/// call, and returns how the report ended. If a file is damaged or too long, prints the `stop` line
+/// instead, as a comment for metrics. Writes nothing, and reads no script.
 pub fn report<B: Board>(alloc: Global, listing: Listing, board: &mut B) -> Exit
     // The exit and the text follow from the files. Files and device are unchanged.
     ensures reports { Relates (Reports listing result) (B.seen board.old).told
         (B.seen board.new).told }
-    // A crash leaves what a crash before may have left, or else what the model said, with a
-    // beginning of the text.
+    // A crash leaves what a crash before the report may have left, or what the model said then,
+    // with a beginning of the text printed.
     ensures stops { (t : Told) → (B.seen board.old).told ≡ Some t
         → Adds (ReportMoment (B.seen board.old).clock (report_output listing t.here) t.here)
         (B.seen board.old).clock (B.seen board.new).clock }
@@ -48,8 +48,8 @@ pub fn report<B: Board>(alloc: Global, listing: Listing, board: &mut B) -> Exit
     }
 }
 
-// The exit and the text of a report, by what was found in the files, or the exit that cuts the
-// report short.
+// Returns the exit and the text of a report, given what was found in the files, or the exit that
+// cuts the report short.
 fn answer(
     alloc: Global,
     listing: Listing,
@@ -74,7 +74,7 @@ fn answer(
     }
 }
 
-// The lines of a listing of an account, and its end line, if it has one.
+// Returns the lines of a listing of an account, and its end line, if it has one.
 fn account_text(alloc: Global, listing: Listing, account: &Account) -> Result<Vec<u8>, NoMemory>
     ensures { IfOk result (λ text. text.items ≡ whole_listing listing account.now.state) }
 {
@@ -89,7 +89,7 @@ fn account_text(alloc: Global, listing: Listing, account: &Account) -> Result<Ve
     Ok(text)
 }
 
-// The `stop` line of an exit instead of a listing.
+// Returns the `stop` line of an exit, to be printed instead of a listing.
 fn stop_text(alloc: Global, listing: Listing, exit: Exit) -> Result<Vec<u8>, NoMemory>
     ensures { IfOk result (λ text. text.items ≡ stop_mark listing ++ stop_line exit) }
 {
@@ -98,7 +98,7 @@ fn stop_text(alloc: Global, listing: Listing, exit: Exit) -> Result<Vec<u8>, NoM
     Ok(text)
 }
 
-// What comes before a `stop` line that is printed instead of a listing.
+// Returns the text before a `stop` line that is printed instead of a listing.
 fn stop_word(listing: Listing) -> &'static [u8]
     ensures { result.now ≡ stop_mark listing }
 {
@@ -108,7 +108,7 @@ fn stop_word(listing: Listing) -> &'static [u8]
     }
 }
 
-// How a report ends whose files couldn't be recovered: with a result, or cut short.
+// Returns how a report ends whose files couldn't be recovered: with a result, or cut short.
 fn unrecovered(refused: OpenRefused) -> Result<Exit, Exit>
     ensures { result ≡ unrecovered refused }
 {

@@ -46,7 +46,7 @@ pub fn run<S: Source, B: Board>(alloc: Global, source: &mut S, board: &mut B) ->
     };
     match open(alloc, board) {
         Ok(ledger) => take_script(alloc, &mut lines, ledger, source, board),
-        // No account was made, and the last line of a refusal says nothing about it.
+        // There is no account, and the last line of a rejection says nothing about one.
         Err(exit) => end_run(alloc, exit, &Account::new(alloc), board),
     }
 }

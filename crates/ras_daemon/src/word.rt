@@ -2,15 +2,23 @@
 
 ghost use Rattle.std.specs.Prelude.{◌≡◌, IfOk, IfSome};
 ghost use Rattle.ras_daemon.specs.Task.{IsTask, klog_lines_of, klog_of, listing_of, load_of, task_of};
-ghost use Rattle.ras_daemon.specs.Task.{ghes_lines_of, mce_line_of, trace_lines_of};
+ghost use Rattle.ras_daemon.specs.Task.{border_of, borders_of, ghes_lines_of, log_feed_of, mce_line_of};
+ghost use Rattle.ras_daemon.specs.Task.{trace_feed_of, trace_lines_of};
 
 use bank_lines::LAST_SECOND;
 use listing_texts::Listing;
+use log_lines::Borders;
 use ras_base::NoMemory;
 use ras_load::MOST_LINES;
 use ras_script::{decimal, hexadecimal};
 use std::alloc::Global;
 use std::marker::Model;
+
+// Of a log without borders nothing is left to a trace.
+const NO_BORDERS: Borders = Borders {
+    checks: None,
+    reports: None,
+};
 
 /// An argument, as bytes.
 #[derive(Drop)]
@@ -66,6 +74,26 @@ pub enum Task {
         /// The processors' IA32_MCG_CAP.
         cap: u64,
     },
+    /// Convert all hardware errors of a kernel trace of any length to lines of script.
+    TraceFeed {
+        /// The number of the boot.
+        boot: u64,
+        /// The IA32_MCG_CAP of the events that lack it.
+        cap: u64,
+        /// The second since 1970 at which the boot began.
+        began: u64,
+    },
+    /// Convert all hardware errors of a kernel log of any length to lines of script.
+    LogFeed {
+        /// The number of the boot.
+        boot: u64,
+        /// The processors' IA32_MCG_CAP.
+        cap: u64,
+        /// The second since 1970 at which the boot began.
+        began: u64,
+        /// From when on a trace that the same run gets has what the log has too.
+        borders: Borders,
+    },
     /// Convert the machine checks of a kernel trace to lines of script.
     TraceLines {
         /// The number of the boot.
@@ -110,6 +138,9 @@ pub enum Task {
 ///   numbers
 /// - `lines` with `ghes`, the number of the boot, and the second at which it began, up to
 ///   999,999,999,999
+/// - `lines` with `log` or `trace` and all three of these numbers
+/// - `lines` with `log`, all three, and two borders, each in microseconds of the boot up to 2^64-1,
+///   or `-`
 /// - `--help`, and `--version`
 pub fn task_of(words: &[RasWord]) -> Option<Task>
     ensures task { result ≡ task_of words.now }
@@ -143,11 +174,25 @@ pub fn task_of(words: &[RasWord]) -> Option<Task>
             if word.bytes() == b"lines".as_slice() && form.bytes() == b"ghes".as_slice() => {
             ghes_lines_of(boot.bytes(), began.bytes())
         }
+        [word, form, boot, cap, began]
+            if word.bytes() == b"lines".as_slice() && form.bytes() == b"trace".as_slice() => {
+            trace_feed_of(boot.bytes(), cap.bytes(), began.bytes())
+        }
+        [word, form, boot, cap, began]
+            if word.bytes() == b"lines".as_slice() && form.bytes() == b"log".as_slice() => {
+            log_feed_of(boot.bytes(), cap.bytes(), began.bytes(), NO_BORDERS)
+        }
+        [word, form, boot, cap, began, checks, reports]
+            if word.bytes() == b"lines".as_slice() && form.bytes() == b"log".as_slice() => {
+            let borders = borders_of(checks.bytes(), reports.bytes())?;
+            log_feed_of(boot.bytes(), cap.bytes(), began.bytes(), borders)
+        }
         _ => None,
     }
 }
 
-// Returns the run over this number of made-up reports, from 1 to the most there may be.
+// Returns the task for a run over this number of made-up reports, at least 1 and at most
+// `MOST_LINES`.
 fn load_of(count: &[u8]) -> Option<Task>
     ensures task { result ≡ load_of count.now }
     ensures range { IfSome result IsTask }
@@ -205,6 +250,52 @@ fn ghes_lines_of(boot: &[u8], began: &[u8]) -> Option<Task>
         boot: decimal(boot, u64::MAX)?,
         began: decimal(began, LAST_SECOND)?,
     })
+}
+
+// Returns the task for all of the trace of this boot, which began at this second.
+fn trace_feed_of(boot: &[u8], cap: &[u8], began: &[u8]) -> Option<Task>
+    ensures task { result ≡ trace_feed_of boot.now cap.now began.now }
+    ensures range { IfSome result IsTask }
+{
+    Some(Task::TraceFeed {
+        boot: decimal(boot, u64::MAX)?,
+        cap: hexadecimal(cap)?,
+        began: decimal(began, LAST_SECOND)?,
+    })
+}
+
+// Returns the task for all of the log of this boot, which began at this second, with these borders.
+fn log_feed_of(boot: &[u8], cap: &[u8], began: &[u8], borders: Borders) -> Option<Task>
+    ensures task { result ≡ log_feed_of boot.now cap.now began.now borders }
+    ensures range { IfSome result IsTask }
+{
+    Some(Task::LogFeed {
+        boot: decimal(boot, u64::MAX)?,
+        cap: hexadecimal(cap)?,
+        began: decimal(began, LAST_SECOND)?,
+        borders,
+    })
+}
+
+// Returns the borders for machine checks and for the firmware's reports.
+fn borders_of(checks: &[u8], reports: &[u8]) -> Option<Borders>
+    ensures { result ≡ borders_of checks.now reports.now }
+{
+    Some(Borders {
+        checks: border_of(checks)?,
+        reports: border_of(reports)?,
+    })
+}
+
+// Returns the microseconds of a border, or none for `-`.
+fn border_of(word: &[u8]) -> Option<Option<u64>>
+    ensures { result ≡ border_of word.now }
+{
+    if word == b"-".as_slice() {
+        Some(None)
+    } else {
+        Some(Some(decimal(word, u64::MAX)?))
+    }
 }
 
 // Returns the listing with this name.

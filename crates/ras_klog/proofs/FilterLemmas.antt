@@ -1,4 +1,4 @@
--- The filter by the report in work makes what the groups of the lines tell.
+-- The filter, which reads line by line, prints the text of the lines' groups.
 use Rattle.std.proofs.Common.{◌≡◌, ℕ, ◌+◌, List, [], ◌∷◌, ◌++◌, count_by, length, map, drop, refl, sym, ap, ◌∙◌, arith, append_assoc, Ok}
 use Rattle.std.proofs.Math.Path.{fun_ext}
 use Rattle.std.proofs.lemmas.List.{append-nil, drop_at}
@@ -18,7 +18,7 @@ use Rattle.ras_klog.proofs.GroupLemmas.{at_once, to_end}
 pub added_is : (begun more text : List ℕ) → text ≡ begun ++ more → added begun text ≡ more
 added_is begun more text is = ap (drop (length begun)) is ∙ drop_at begun more (length begun) refl
 
--- the text of an output, also if it is none
+-- the text of an output, also of `Nothing`
 one_text : (out : KlogOut) → flat_map out_text (some_out out) ≡ out_text out
 one_text Nothing = refl
 one_text (Whole bank) = append-nil (out_text (Whole bank))
@@ -28,7 +28,7 @@ pub from_zero : (n : ℕ) → 0 + n ≡ n
 from_zero n = omega arith
 
 module _ (boot cap : ℕ) where
-  -- the outputs of lines and of one more
+  -- the outputs of lines and of one more line
   outs-push : (stage : Stage) (before : List (List ℕ)) (line : List ℕ)
       → outs_along boot cap stage (map klog_line_of (before ++ line ∷ []))
       ≡ outs_along boot cap stage (map klog_line_of before) ++ some_out (out_at boot cap (stage_over stage before) (klog_line_of line))
@@ -43,7 +43,7 @@ module _ (boot cap : ℕ) where
   stage-push stage [] line = refl
   stage-push stage (b ∷ before) line = stage-push (stage_after stage (klog_line_of b)) before line
 
-  -- the outputs of lines and of the end after them
+  -- the outputs of lines and of the log's end
   outs-end : (stage : Stage) (lines : List (List ℕ))
       → outs_to_end boot cap stage (map klog_line_of lines)
       ≡ outs_along boot cap stage (map klog_line_of lines) ++ some_out (out_at_end (stage_over stage lines))
@@ -53,14 +53,14 @@ module _ (boot cap : ℕ) where
       ap (λ (outs : List KlogOut). out ++ outs) (outs-end (stage_after stage (klog_line_of line)) lines)
       ∙ sym (append_assoc out _ _)
 
-  -- the text that the steps print along lines
+  -- the text that the steps print for lines
   early_is : (lines : List (List ℕ)) → early_text boot cap lines ≡ flat_map out_text (outs_along boot cap at_start (map klog_line_of lines))
   early_is lines = ap (flat_map out_text) (sym (at_once boot cap at_start (map klog_line_of lines)))
 
   text_is : (lines : List (List ℕ)) → klog_text boot cap lines ≡ flat_map out_text (outs_to_end boot cap at_start (map klog_line_of lines))
   text_is lines = ap (flat_map out_text) (sym (to_end boot cap at_start (map klog_line_of lines)))
 
-  -- one more line adds its output's text
+  -- one more line adds the text of its output
   pub early-push : (before : List (List ℕ)) (line : List ℕ)
       → early_text boot cap (before ++ line ∷ [])
       ≡ early_text boot cap before ++ out_text (out_at boot cap (stage_over at_start before) (klog_line_of line))
@@ -71,7 +71,7 @@ module _ (boot cap : ℕ) where
       ∙ ap (λ (text : List ℕ). text ++ flat_map out_text (some_out (out_at boot cap (stage_over at_start before) (klog_line_of line)))) (sym (early_is before))
       ∙ ap (λ (text : List ℕ). early_text boot cap before ++ text) (one_text (out_at boot cap (stage_over at_start before) (klog_line_of line)))
 
-  -- the end adds what is in work
+  -- the log's end adds the text of the current report
   pub text_ends : (lines : List (List ℕ)) → klog_text boot cap lines ≡ early_text boot cap lines ++ rest_along at_start lines
   text_ends lines =
       text_is lines

@@ -1,4 +1,4 @@
--- The outputs of steps are those of groups.
+-- The outputs of the steps are the results of the groups.
 use Rattle.std.proofs.Common.{◌≡◌, ℕ, List, [], ◌∷◌, refl, ap, Some}
 use Rattle.ras_klog.specs.declared.line.KlogLine.{KlogLine}
 use Rattle.ras_klog.specs.declared.line.KlogLine.TheVariants.{Start, Tsc, Processor, Other}
@@ -10,7 +10,7 @@ use Rattle.ras_klog.specs.Groups.{told_of, told_of_groups, with_seconds, told_se
 use Rattle.ras_klog.specs.Stages.{outs_along, outs_to_end}
 
 module _ (boot cap : ℕ) where
-  -- what the groups tell of a report in work and of the lines after it
+  -- the results of the current report's group and of the groups in the lines after it
   abbrev pub told_from : Stage → List KlogLine → List KlogOut
   told_from Idle lines = told_of_groups boot cap lines
   told_from (Begun head) lines = told_of boot cap head (up_to_start lines) ∷ told_of_groups boot cap lines

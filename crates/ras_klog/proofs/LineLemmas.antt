@@ -1,4 +1,4 @@
--- Words by the places of spaces, and what follows a marker.
+-- Words, by the indices of spaces, and the text after a prefix.
 use Rattle.std.proofs.Common.{◌≡◌, ℕ, zero, suc, ◌+◌, ◌-◌, ◌<◌, ◌≤◌, ◌==◌, ◌&&◌, ◌⊎◌, Bool, true, false, cond, if◌then◌else◌, nat_eq, nat_lt, List, [], ◌∷◌, ◌++◌, length, take, drop, get_or, refl, sym, ap, subst, ◌∙◌, arith, append-nil, inl, inr, Option, Some, None, length-append, length-drop, length-take}
 use Rattle.std.specs.Prelude.{not, slice_index_or}
 use Rattle.std.proofs.Math.Seq.{drop-append_seam, drop-cons, take-append_seam, take-length, take-suc}
@@ -19,7 +19,7 @@ use Rattle.ras_klog.specs.Reading.{after_marker, is_empty, marker, parts_of}
 
 -- ---- words
 
--- the place that a search tells
+-- the index that a search returns
 found_place : (place size end : ℕ) → Some end ≡ cond (nat_lt place size) (Some place) None → (end ≡ place) × (place < size)
 found_place place size end h = (grind (arith, nat_tests, h), grind (arith, nat_tests, h))
 
@@ -33,14 +33,14 @@ rest_is n text = ap (λ k. take k (drop n text)) (sym (length-drop n text)) ∙ 
 pub rest_size : (n : ℕ) (text : List ℕ) → length (take (length text - n) (drop n text)) ≡ length text - n
 rest_size n text = ap length (rest_is n text) ∙ length-drop n text
 
--- a text with a space: the first word ends at the first one
+-- the first word of a text ends at its first space
 pub parts_cut : (text : List ℕ) (end : ℕ) → Some end ≡ position (λ b. b == 32) text → parts_of text ≡ take end text ∷ parts_of (take (length text - (end + 1)) (drop (end + 1) text))
 parts_cut text end h =
     let found : (end ≡ position_or_len (λ b. b == 32) text) × (position_or_len (λ b. b == 32) text < length text) = found_place _ _ _ h in
     let parts : slice_split (λ b. b == 32) text ≡ take (position_or_len (λ b. b == 32) text) text ∷ slice_split (λ b. b == 32) (drop (position_or_len (λ b. b == 32) text + 1) text) = slice_split_first (λ b. b == 32) text 0 found.1 in
     (rw (← found.0) at parts) ∙ ap (λ rest. take end text ∷ parts_of rest) (sym (rest_is (end + 1) text))
 
--- a text without one is its only word
+-- a text without a space is its only word
 pub parts_whole : (text : List ℕ) → None ≡ position (λ b. b == 32) text → parts_of text ≡ text ∷ []
 parts_whole text h =
     let late : length text ≤ position_or_len (λ b. b == 32) text = no_place _ _ h in
@@ -50,7 +50,7 @@ parts_whole text h =
 not_zero : (n : ℕ) → nat_eq (suc n) 0 ≡ false
 not_zero n = grind (arith, nat_tests)
 
--- empty words alone stand between spaces alone
+-- a text has only empty words if and only if it consists of spaces
 pub empty_parts : (text : List ℕ) → list_all is_empty (parts_of text) ≡ list_all (λ b. b == 32) text
 empty_parts [] = refl
 empty_parts (b ∷ text) = by (b == 32) (parts_of text) (empty_parts text)
@@ -75,7 +75,7 @@ joined_lacks (b ∷ name) all = by (b == 32) refl all (λ rest. joined_lacks nam
     by true is all rest = absurd cc
     by false is all rest = ((λ same. grind (arith, nat_tests, is, same)), rest all)
 
--- a text that is a name, and one in which a space follows it
+-- a name without spaces is its only word
 pub last_word : (name : List ℕ) → list_all (λ b. not (b == 32)) name ≡ true → parts_of name ≡ name ∷ []
 last_word name joined = split_lacking 32 name (joined_lacks name joined)
 
@@ -83,7 +83,7 @@ pub next_word : (name rest : List ℕ) → list_all (λ b. not (b == 32)) name �
 next_word name rest joined =
     split_between 32 name rest ∙ ap (λ (parts : List (List ℕ)). parts ++ parts_of rest) (last_word name joined)
 
--- nothing follows the first word of a text, or a space
+-- a text is its first word, or a space follows its first word
 word_front : (text : List ℕ) → (text ≡ first_word text) ⊎ ((rest : List ℕ) × (text ≡ first_word text ++ 32 ∷ rest))
 word_front text = by (position (λ b. b == 32) text) refl
   where
@@ -116,7 +116,7 @@ begins_so : (name rest text : List ℕ) → text ≡ name ++ rest → starts_wit
 begins_so name rest text is =
     (bytes_eq-Decides name (take (length name) text)).1 (sym (ap (λ (t : List ℕ). take (length name) t) is ∙ take-append_seam name rest))
 
--- a text that doesn't begin with a name, and one in which something else follows it
+-- a text that doesn't begin with a name has another first word
 pub no_word : (name text : List ℕ) → starts_with nat_eq text name ≡ false → bytes_eq (first_word text) name ≡ false
 no_word name text none =
     other_word name text
@@ -147,7 +147,7 @@ name_whole name text same =
     sym (take-append-drop (length name) text)
     ∙ (λ i. (same ∙ take-length name) i ++ sym (rest_is (length name) text) i)
 
--- a text that is a name, and one in which a space follows it
+-- a text that is a name has only this word
 pub ended_word : (name text behind : List ℕ) → list_all (λ b. not (b == 32)) name ≡ true → text ≡ name ++ behind → length behind ≡ 0 → parts_of text ≡ name ∷ []
 ended_word name text [] joined is none = ap parts_of (is ∙ append-nil name) ∙ last_word name joined
 ended_word name text (b ∷ behind) joined is none = absurd (omega (arith, none))
@@ -179,7 +179,7 @@ starts-occurs line is =
 occurs-starts : (line : List ℕ) → OccursAt line marker 0 → starts_with nat_eq line marker ≡ true
 occurs-starts line occurs = (bytes_eq-Decides marker (take (length marker) line)).1 (sym (OccursAt-part line marker 0 occurs))
 
--- a place in a line and the place in the line with a byte before it
+-- if a prefix is at an index of a line, it is one further on with one more byte in front
 further : (b : ℕ) (line : List ℕ) (k : ℕ) → OccursAt line marker k → OccursAt (b ∷ line) marker (suc k)
 further b line k occurs = OccursAt-from_part (b ∷ line) marker (suc k) (omega (arith, occurs.fits)) (OccursAt-part line marker k occurs)
 
@@ -218,7 +218,7 @@ after-at (b ∷ line) (suc k) first occurs = by (starts_with nat_eq (b ∷ line)
         }) (nearer b line k occurs)
         ∙ ap Some moved
 
--- a marker at a place, by what stands from there on
+-- a prefix occurs at an index if the rest from there on begins with it
 pub starts-at : (line : List ℕ) (k : ℕ) → k ≤ length line → starts_with nat_eq (drop k line) marker ≡ true → OccursAt line marker k
 starts-at line k inside is =
     let front : marker ≡ take (length marker) (drop k line) = (bytes_eq-Decides marker (take (length marker) (drop k line))).0 is in
@@ -227,11 +227,11 @@ starts-at line k inside is =
 pub at-starts : (line : List ℕ) (k : ℕ) → OccursAt line marker k → starts_with nat_eq (drop k line) marker ≡ true
 at-starts line k occurs = (bytes_eq-Decides marker (take (length marker) (drop k line))).1 (sym (OccursAt-part line marker k occurs))
 
--- no marker has its second byte before a place
+-- no prefix has its second byte before this index
 abbrev pub NoneBelow : List ℕ → ℕ → Type 0
 NoneBelow line end = (k : ℕ) → k + 1 < end → ¬ OccursAt line marker k
 
--- a search for the second byte passes no marker
+-- a search for the second byte skips no prefix
 pub none-passed : (line : List ℕ) (from passed : ℕ) → from + passed ≤ length line → NoneBelow line from
     → ((k : ℕ) → k < passed → (get_or (take (length line - from) (drop from line)) k 0 == 72) ≡ false) → NoneBelow line (from + passed)
 none-passed line from passed inside before other k below occurs = elim (cases_lt (k + 1) from) [
@@ -244,14 +244,14 @@ none-passed line from passed inside before other k below occurs = elim (cases_lt
       false≢true (sym (other (k + 1 - from) (omega arith)) ∙ eq-eqb _ _ byte)
 ]
 
--- nor does a step past a second byte that no marker stands round
+-- a step past a second byte that is in no prefix skips none
 pub none-round : (line : List ℕ) (second : ℕ) → NoneBelow line second → ¬ ((1 ≤ second) × OccursAt line marker (second - 1)) → NoneBelow line (second + 1)
 none-round line second before not k below occurs = elim (cases_lt (k + 1) second) [
   | inl early ↦ before k early occurs
   | inr last ↦ let same : k ≡ second - 1 = omega arith in not (omega arith, subst (OccursAt line marker) same occurs)
 ]
 
--- what a search for a byte passes
+-- a search for a byte returns its first index
 pub passed_at : (byte : ℕ) (text : List ℕ) (place : ℕ) → Some place ≡ position (λ b. b == byte) text → (place < length text) × ((k : ℕ) → k < place → (get_or text k 0 == byte) ≡ false)
 passed_at byte text place h =
     let is = position-Some (λ b. b == byte) text place 0 (sym h) in

@@ -1,4 +1,4 @@
--- What the filter prints is what the groups tell.
+-- The filter prints the texts of the groups.
 use Rattle.std.proofs.Common.{◌≡◌, ℕ, suc, ◌+◌, List, [], ◌∷◌, ◌++◌, length, take, refl, sym, ap, ◌∙◌, append_assoc, None}
 use Rattle.std.proofs.Math.Seq.{take-length}
 use Rattle.std.proofs.lemmas.List.{append-nil}
@@ -12,7 +12,7 @@ use Rattle.ras_klog.specs.Klog.{added, answers_after, early_text, klog_answers, 
 use Rattle.ras_klog.specs.Output.{klog_ending, klog_output}
 use Rattle.ras_klog.proofs.FilterLemmas.{added_is, early-push, from_zero, rest_is, text_ends}
 
--- texts one after the other
+-- the texts, one after another
 abbrev joined : List (List ℕ) → List ℕ
 joined texts = flat_map (λ (text : List ℕ). text) texts
 
@@ -23,7 +23,7 @@ closing_is boot cap lines Done = refl
 closing_is boot cap lines exit = refl
 
 module _ (boot cap : ℕ) where
-  -- a line adds the text that it is answered by
+  -- a line adds its text to the groups' text
   adds : (before : List (List ℕ)) (line : List ℕ)
       → early_text boot cap before ++ added (early_text boot cap before) (early_text boot cap (before ++ line ∷ []))
       ≡ early_text boot cap (before ++ line ∷ [])

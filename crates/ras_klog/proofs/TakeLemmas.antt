@@ -19,7 +19,7 @@ count_by-cons p out outs =
     let weight = λ (o : KlogOut). cond (p o) 1 0 in
     sum_by-cons weight out outs ∙ ap (λ (n : ℕ). n + count_by p outs) (omega arith)
 
--- an output is counted in its turn
+-- an output is counted when it comes
 counted : (p : KlogOut → Bool) → count_by p (Nothing ∷ []) ≡ 0 → (n : ℕ) (out : KlogOut) (outs : List KlogOut)
     → n + count_by p (some_out out ++ outs) ≡ n + count_by p (out ∷ []) + count_by p outs
 counted p none n Nothing outs = omega (arith, none)
@@ -53,7 +53,7 @@ took log line stage out counts taken old new out_is stage_is counts_is adds = re
         ∙ ap (λ (c : Counts). last_along log.boot log.cap after c.reports c.partial lines) (sym counts_is)
         ∙ ap (λ (s : Stage). last_along log.boot log.cap s counts.reports counts.partial lines) (sym stage_is)
 
--- a line that tells nothing changes nothing
+-- a line that says nothing changes nothing
 pub passed : (log : Progress) (line : List ℕ) (taken : ℕ) (old : List ℕ) → klog_line_of line ≡ Other
     → Took line (makes_of log) (makes_of (record { boot = log.boot; cap = log.cap; stage = log.stage; counts = log.counts; taken = taken })) old old
 passed log line taken old other =

@@ -2,7 +2,7 @@
 use Rattle.std.proofs.Common.{◌≡◌, ℕ, List, [], ◌∷◌, ◌++◌, refl, ap, ◌∙◌, append_assoc}
 use Rattle.ras_base.specs.Text.{line_with}
 
--- a line that two pieces and a line feed make
+-- two pieces and a line feed make a line
 pub line_of_two : (old a b c d first second third : List ℕ)
     → first ≡ old ++ a ++ b → second ≡ first ++ c ++ d → third ≡ second ++ 10 ∷ []
     → third ≡ old ++ line_with (a ++ b ++ c ++ d)

@@ -1,4 +1,4 @@
--- What the filter of kernel logs prints for the lines to come, given the report that was begun.
+-- What the filter of kernel logs prints for its next lines, given the current report.
 use Rattle.std.specs.Prelude.{ℕ, ◌+◌, List, [], ◌∷◌, count_by, map, Result, Ok}
 use Rattle.ras_script.specs.declared.line.LineRefused.{LineRefused}
 use Rattle.line_filters.specs.Filter.{Filter}
@@ -21,7 +21,7 @@ abbrev pub stage_over : Stage → List (List ℕ) → Stage
 stage_over stage [] = stage
 stage_over stage (line ∷ lines) = stage_over (stage_after stage (klog_line_of line)) lines
 
--- the text of a report that isn't complete after these lines
+-- the text after these lines, of a report that isn't complete
 abbrev pub rest_along : Stage → List (List ℕ) → List ℕ
 rest_along stage lines = out_text (out_at_end (stage_over stage lines))
 
@@ -31,14 +31,14 @@ last_along boot cap stage reports partial lines =
     let outs = outs_to_end boot cap stage (map klog_line_of lines) in
     klog_counts_line (reports + count_by is_logged outs) (partial + count_by is_partial outs)
 
--- the counts with this text counted too
+-- the counts with this output counted too
 abbrev pub counts_with : Counts → KlogOut → Counts
 counts_with counts out = record {
   reports = counts.reports + count_by is_logged (out ∷ []);
   partial = counts.partial + count_by is_partial (out ∷ []);
 }
 
--- how far a filter is in a log
+-- how far a filter has come in a log
 pub record Progress : Type 0 where
   pub boot : ℕ
   pub cap : ℕ
@@ -46,7 +46,7 @@ pub record Progress : Type 0 where
   pub counts : Counts
   pub taken : ℕ
 
--- what a filter prints for the lines to come, by how far it is
+-- what a filter prints for its next lines, given how far it has come
 abbrev pub makes_of : Progress → Filter
 makes_of log = record {
   answers = answers_along log.boot log.cap log.stage;

@@ -1,4 +1,4 @@
--- The reports of a kernel log: its lines are cut before each line that begins one.
+-- The reports of a kernel log. A group of lines begins with each line that begins a report.
 use Rattle.std.specs.Prelude.{ℕ, List, [], ◌∷◌, Option, None, Some, map}
 use Rattle.ras_facts.specs.declared.bank.BankReport.{BankReport}
 use Rattle.ras_klog.specs.declared.line.KlogLine.{KlogLine}
@@ -18,7 +18,7 @@ up_to_start [] = []
 up_to_start (Start cpu mcg bank status ∷ lines) = []
 up_to_start (line ∷ lines) = line ∷ up_to_start lines
 
--- the groups of lines; lines before the first group are left out
+-- the groups of lines, without the lines before the first group
 abbrev pub groups_of : List KlogLine → List Group
 groups_of [] = []
 groups_of (Start cpu mcg bank status ∷ lines) =
@@ -26,13 +26,13 @@ groups_of (Start cpu mcg bank status ∷ lines) =
     ∷ groups_of lines
 groups_of (line ∷ lines) = groups_of lines
 
--- the first time that lines give
+-- the first time in lines
 abbrev pub told_seconds : List KlogLine → Option ℕ
 told_seconds [] = None
 told_seconds (Processor seconds ∷ lines) = Some seconds
 told_seconds (line ∷ lines) = told_seconds lines
 
--- the report of a group, by its counter, its other two registers and its time
+-- the report of a group, given its counter, its other two registers and its time
 abbrev pub bank_of_group : ℕ → ℕ → Head → ℕ → ℕ → ℕ → ℕ → BankReport
 bank_of_group boot cap head tsc addr misc seconds = record {
   boot = boot;
@@ -52,7 +52,8 @@ abbrev pub with_seconds : ℕ → ℕ → Head → ℕ → ℕ → ℕ → Optio
 with_seconds boot cap head tsc addr misc None = Partial head.cpu head.bank
 with_seconds boot cap head tsc addr misc (Some seconds) = Whole (bank_of_group boot cap head tsc addr misc seconds)
 
--- the result of a group: its report, by its first counter and the first time after that, or that it is incomplete
+-- the result of a group: its report, with its first counter and the first time after the counter; or that the report
+-- is incomplete
 abbrev pub told_of : ℕ → ℕ → Head → List KlogLine → KlogOut
 told_of boot cap head [] = Partial head.cpu head.bank
 told_of boot cap head (Tsc tsc addr misc ∷ lines) = with_seconds boot cap head tsc addr misc (told_seconds lines)
@@ -62,7 +63,7 @@ told_of boot cap head (line ∷ lines) = told_of boot cap head lines
 abbrev pub told_of_groups : ℕ → ℕ → List KlogLine → List KlogOut
 told_of_groups boot cap lines = map (λ (g : Group). told_of boot cap g.head g.rest) (groups_of lines)
 
--- the results that are known before the log's end is: of all groups but the last, and of the last if it is complete
+-- the results that are known before the log's end: of all groups but the last, and of the last if it is complete
 abbrev pub without_open : List KlogOut → List KlogOut
 without_open [] = []
 without_open (Partial cpu bank ∷ []) = []

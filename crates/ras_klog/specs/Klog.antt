@@ -16,7 +16,7 @@ klog_outs boot cap lines = told_of_groups boot cap (map klog_line_of lines)
 abbrev pub klog_text : ℕ → ℕ → List (List ℕ) → List ℕ
 klog_text boot cap lines = flat_map out_text (klog_outs boot cap lines)
 
--- the part of this text that is printed before the log's end is known
+-- the part of the groups' text that is printed before the log's end is known
 abbrev pub early_text : ℕ → ℕ → List (List ℕ) → List ℕ
 early_text boot cap lines = flat_map out_text (without_open (klog_outs boot cap lines))
 
@@ -24,7 +24,7 @@ early_text boot cap lines = flat_map out_text (without_open (klog_outs boot cap 
 abbrev pub added : List ℕ → List ℕ → List ℕ
 added begun text = drop (length begun) text
 
--- the text of each line, given the lines before it: what it adds to their text. No line is refused.
+-- the text of each line, after the lines `before`: what the line adds to their text. No line is rejected.
 abbrev pub answers_after : ℕ → ℕ → List (List ℕ) → List (List ℕ) → List (Result (List ℕ) LineRefused)
 answers_after boot cap before [] = []
 answers_after boot cap before (line ∷ lines) =
@@ -34,7 +34,7 @@ answers_after boot cap before (line ∷ lines) =
 abbrev pub klog_answers : ℕ → ℕ → List (List ℕ) → List (Result (List ℕ) LineRefused)
 klog_answers boot cap lines = answers_after boot cap [] lines
 
--- the text after all lines: of a last group that is incomplete
+-- the text after all lines: that the last group is incomplete
 abbrev pub klog_rest : ℕ → ℕ → List (List ℕ) → List ℕ
 klog_rest boot cap lines = added (early_text boot cap lines) (klog_text boot cap lines)
 
@@ -42,7 +42,7 @@ klog_rest boot cap lines = added (early_text boot cap lines) (klog_text boot cap
 abbrev pub klog_last : ℕ → ℕ → List (List ℕ) → List ℕ
 klog_last boot cap lines = klog_end_line (klog_outs boot cap lines)
 
--- what is printed for a log of this boot and of processors with this IA32_MCG_CAP
+-- what is printed for a log of this boot, of processors with this IA32_MCG_CAP
 abbrev pub klog_filter : ℕ → ℕ → Filter
 klog_filter boot cap =
     record { answers = klog_answers boot cap; rest = klog_rest boot cap; last = klog_last boot cap }

@@ -15,18 +15,18 @@ parts_of text = slice_split (λ b. b == 32) text
 abbrev pub is_empty : List ℕ → Bool
 is_empty word = length word == 0
 
--- the word at an index, an empty one after the last
+-- the word at an index, or an empty word after the last
 abbrev pub word : List (List ℕ) → ℕ → List ℕ
 word words place = slice_index_or words place []
 
 -- ---- numbers
 
--- what is read after a number, if the number can be read
+-- what is read next, if a value was read before
 abbrev pub read_then : {A B : Type 0} → Option A → (A → Option B) → Option B
 read_then None next = None
 read_then (Some x) next = next x
 
--- an answer, if something holds
+-- the answer, if something holds
 abbrev pub provided : {A : Type 0} → Bool → Option A → Option A
 provided holds answer = if holds then answer else None
 
@@ -43,7 +43,7 @@ is_vendor_and_model word =
 
 -- ---- lines
 
--- `<mcg> Bank <bank>: <status>`, and then nothing but spaces
+-- `<mcg> Bank <bank>: <status>`, followed only by spaces
 unfoldable pub bank_of : ℕ → List (List ℕ) → Option KlogLine
 bank_of cpu words =
     read_then (hexadecimal_of (word words 0)) (λ mcg.
@@ -52,20 +52,21 @@ bank_of cpu words =
     read_then (hexadecimal_of (word words 3)) (λ status.
     provided (list_all is_empty (drop 4 words)) (Some (Start cpu mcg bank status))))))
 
--- `Check: ` or `Check Exception: `, and then the bank
+-- `Check: ` or `Check Exception: `, followed by the bank
 unfoldable pub check_of : ℕ → List (List ℕ) → Option KlogLine
 check_of cpu words =
     if bytes_eq (word words 0) (codes "Check:") then bank_of cpu (drop 1 words)
     else provided (bytes_eq (word words 0) (codes "Check"))
     (provided (bytes_eq (word words 1) (codes "Exception:")) (bank_of cpu (drop 2 words)))
 
--- `<cpu>: Machine `, and then what is checked
+-- `<cpu>: Machine `, followed by the check
 unfoldable pub start_line_of : List (List ℕ) → Option KlogLine
 start_line_of words =
     read_then (colon_number 65535 (word words 0)) (λ cpu.
     provided (bytes_eq (word words 1) (codes "Machine")) (check_of cpu (drop 2 words)))
 
--- a hexadecimal number after its name, 0 if they can't be read, and the words after it
+-- A hexadecimal number after its name, and the words after the number. If the name or the number can't be read, the
+-- number is 0 and no word is used.
 unfoldable pub named : List ℕ → List (List ℕ) → ℕ × List (List ℕ)
 named name words =
     if bytes_eq (word words 0) name then told (hexadecimal_of (word words 1)) else (0, words)
@@ -74,7 +75,7 @@ named name words =
     told None = (0, words)
     told (Some number) = (number, drop 2 words)
 
--- `<tsc>`, then ` ADDR <addr>` if that can be read, then ` MISC <misc>` if that can be read, then anything
+-- `<tsc>`, then ` ADDR <addr>` if this can be read, then ` MISC <misc>` if this can be read, then anything
 unfoldable pub tsc_of : List (List ℕ) → Option KlogLine
 tsc_of words =
     read_then (hexadecimal_of (word words 0)) (λ tsc.
@@ -89,7 +90,7 @@ processor_line_of words =
     provided (is_vendor_and_model (word words 0)) (provided (bytes_eq (word words 1) (codes "TIME")) (
     read_then (decimal_of (2 ^ 64 - 1) (word words 2)) (λ seconds. Some (Processor seconds))))
 
--- a line by its words: the first says which kind it is
+-- the line that these words give; the first word is its kind
 abbrev pub told_by_words : List (List ℕ) → Option KlogLine
 told_by_words words =
     if bytes_eq (word words 0) (codes "CPU") then start_line_of (drop 1 words)
@@ -100,16 +101,16 @@ told_by_words words =
 abbrev pub marker : List ℕ
 marker = codes "[Hardware Error]: "
 
--- what follows the first prefix of a line, if it has one
+-- the text after the first prefix of a line, if the line has one
 abbrev pub after_marker : List ℕ → Option (List ℕ)
 after_marker [] = None
 after_marker (b ∷ line) =
     if starts_with nat_eq (b ∷ line) marker then Some (drop (length marker) (b ∷ line)) else after_marker line
 
--- what follows the first prefix of a line
+-- what a text after the prefix says
 abbrev pub klog_line_after : List ℕ → KlogLine
 klog_line_after text = unwrap_or (told_by_words (parts_of text)) Other
 
--- a line of a kernel log: only what follows its first prefix matters
+-- what a line of a kernel log says: only the text after its first prefix matters
 abbrev pub klog_line_of : List ℕ → KlogLine
 klog_line_of bytes = unwrap_or (read_then (after_marker bytes) (λ text. told_by_words (parts_of text))) Other

@@ -1,4 +1,4 @@
--- The lines that are printed of the reports of a kernel log.
+-- The lines that are printed for the reports of a kernel log.
 use Rattle.std.specs.Prelude.{ℕ, Bool, true, false, List, [], ◌++◌, codes, count_by, decimal}
 use Rattle.std.specs.Option.{option_map_or}
 use Rattle.ras_base.specs.Text.{line_with}
@@ -10,7 +10,7 @@ use Rattle.ras_texts.specs.Reports.{report_lines}
 use Rattle.ras_klog.specs.declared.state.KlogOut.{KlogOut}
 use Rattle.ras_klog.specs.declared.state.KlogOut.TheVariants.{Nothing, Whole, Partial}
 
--- the log line of a complete report, with an empty machine description: none if the bank has no error
+-- the log line of a complete report, with an empty machine description; no line if the bank has no error
 abbrev pub bank_text : BankReport → List ℕ
 bank_text bank = option_map_or (λ report. report_lines report.fact report.details) (bank_report bank []) []
 
@@ -23,7 +23,7 @@ out_text Nothing = []
 out_text (Whole bank) = bank_text bank
 out_text (Partial cpu bank) = partial_line cpu bank
 
--- whether it has a log line: it is a complete report whose bank has an error
+-- whether an output is a log line: a complete report whose bank has an error
 abbrev pub is_logged : KlogOut → Bool
 is_logged (Whole bank) = valid (status_in bank)
 is_logged out = false
@@ -32,11 +32,11 @@ abbrev pub is_partial : KlogOut → Bool
 is_partial (Partial cpu bank) = true
 is_partial out = false
 
--- the line that a whole log ends with: how many log lines and how many partial ones it has
+-- the last line of a whole log, given how many log lines and how many partial lines it has
 abbrev pub klog_counts_line : ℕ → ℕ → List ℕ
 klog_counts_line reports partial =
     line_with (codes "end reports=" ++ decimal reports ++ codes " partial=" ++ decimal partial)
 
--- the last line of a whole log, by the texts of its reports
+-- the last line of a whole log, given its outputs
 abbrev pub klog_end_line : List KlogOut → List ℕ
 klog_end_line outs = klog_counts_line (count_by is_logged outs) (count_by is_partial outs)

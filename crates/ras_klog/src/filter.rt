@@ -21,7 +21,8 @@ struct Counts {
 }
 
 impl Counts {
-    // The counts with this text counted too: a complete report only if its bank has an error.
+    // Returns the counts with this output counted too: a complete report only if its bank has an
+    // error.
     fn with(self, out: &KlogOut) -> Counts
         requires { self.reports + self.partial < 2 ^ 63 }
         ensures { result ≡ counts_with self out.now }
@@ -45,7 +46,7 @@ impl Counts {
 ///
 /// A complete report is printed at the line that completes it, by its log line, or not at all if
 /// the bank has no error (VAL is 0). An incomplete report is printed as partial, at the line that
-/// begins the next report or after all lines. No line is refused.
+/// begins the next report or after all lines. No line is rejected.
 #[derive(Drop)]
 pub struct KlogFilter {
     state: KlogState,
@@ -67,7 +68,7 @@ impl Model for KlogFilter {
 }
 
 impl KlogFilter {
-    /// Returns a filter at the start of a log, of this boot and of processors with this
+    /// Returns a filter before the first line of a log of this boot, of processors with this
     /// IA32_MCG_CAP.
     pub fn new(boot: u64, cap: u64) -> KlogFilter
         ensures makes { makes_of result ≡ klog_filter boot cap }

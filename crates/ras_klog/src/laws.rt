@@ -1,4 +1,4 @@
-//! What a kernel log's filter prints, by the groups of the log's lines.
+//! A law: the filter of kernel logs prints the text of each group of lines.
 
 ghost use Rattle.std.specs.Prelude.{◌≡◌, ℕ, List, ◌++◌};
 ghost use Rattle.std.specs.List.{flat_map};
@@ -7,16 +7,16 @@ ghost use Rattle.line_filters.specs.Filters.{filter_exit, filter_output, texts_i
 ghost use Rattle.ras_klog.specs.Klog.{early_text, klog_answers, klog_filter, klog_rest, klog_text};
 ghost use Rattle.ras_klog.specs.Output.{klog_output};
 
-/// What is printed of a kernel log is the text of each of its groups, once and in order, and then
-/// the counts, or the `stop` line of a refusal. A line is refused only if it is too long.
+/// The filter of a kernel log prints the text of each group of its lines, once and in order, and
+/// then the counts, or the `stop` line of a rejection. A line is rejected only if it is too long.
 pub fn klog_is_told_by_groups()
     ensures exit { (boot cap : ℕ) (script : List ℕ)
         → filter_exit (klog_filter boot cap) script ≡ script_exit script }
     ensures output { (boot cap : ℕ) (script : List ℕ)
         → filter_output (klog_filter boot cap) script ≡ klog_output boot cap script }
 
-    // The texts of the lines are the texts of the groups so far as the log's end needn't be known,
-    // and the text after the lines is the rest.
+    // The lines' texts are the groups' text as far as it doesn't depend on the log's end; the text
+    // after the lines is the rest.
     ensures early { (boot cap : ℕ) (lines : List (List ℕ))
         → flat_map (λ text. text) (texts_in (klog_answers boot cap lines))
         ≡ early_text boot cap lines }

@@ -1,4 +1,4 @@
-//! What a line of a kernel log says.
+//! Reads what a line of a kernel log says.
 
 ghost use Rattle.std.specs.Prelude.{◌≡◌, ◌==◌, ◌-◌, ◌≤◌, ◌↔◌, length, not, true, IfSome, IsTrue};
 ghost use Rattle.std.specs.List.{list_all};
@@ -21,8 +21,8 @@ pub enum KlogLine {
         bank: u8,
         status: u64,
     },
-    /// The processor's time-stamp counter, and the bank's IA32_MCi_ADDR and IA32_MCi_MISC. Of the
-    /// last two, one that is missing is 0.
+    /// The processor's time-stamp counter, and the bank's IA32_MCi_ADDR and IA32_MCi_MISC, each of
+    /// which is 0 if it is missing.
     Tsc {
         tsc: u64,
         addr: u64,
@@ -46,8 +46,8 @@ const MARKER: &[u8] = b"[Hardware Error]: ";
 ///
 /// - `CPU <cpu>: Machine Check: <mcg> Bank <bank>: <status>`, or with `Machine Check Exception:`,
 ///   and then nothing but spaces
-/// - `TSC <tsc>`, then ` ADDR <addr>` if that reads, then ` MISC <misc>` if that reads, and then
-///   nothing, or a space and anything
+/// - `TSC <tsc>`, then ` ADDR <addr>` if it can be read, then ` MISC <misc>` if it can be read, and
+///   then nothing, or a space and anything
 /// - `PROCESSOR <n>:<m> TIME <seconds>`, and then nothing, or a space and anything
 ///
 /// `<cpu>` up to 65,535, `<bank>` up to 255, `<n>` and `<seconds>` are decimal; the other numbers
@@ -64,7 +64,7 @@ pub fn klog_line(bytes: &[u8]) -> KlogLine
     }
 }
 
-/// Returns what a line of a kernel log says, by what follows its first `[Hardware Error]: `.
+/// Returns what a line of a kernel log says, given the text after its first `[Hardware Error]: `.
 /// Allocates nothing.
 pub fn klog_line_after(text: &[u8]) -> KlogLine
     ensures { result ≡ klog_line_after text.now }
@@ -72,7 +72,7 @@ pub fn klog_line_after(text: &[u8]) -> KlogLine
     told_by(text).unwrap_or(KlogLine::Other)
 }
 
-// What follows the first prefix of a line, if it has one.
+// Returns the text after the first prefix of a line, if the line has one.
 fn after_marker(line: &[u8]) -> Option<&[u8]>
     ensures { option_map (λ text. text.now) result ≡ after_marker line.now }
 {
@@ -82,7 +82,7 @@ fn after_marker(line: &[u8]) -> Option<&[u8]>
     }
 }
 
-// The index of the first prefix of a line. It searches for the prefix's second byte, which few
+// Returns the index of the first prefix of a line. Searches for the prefix's second byte, which few
 // lines without the prefix have, because a search for the whole prefix costs more to set up than
 // looking through a line.
 fn marker_in(line: &[u8]) -> Option<usize>
@@ -99,7 +99,7 @@ fn marker_in(line: &[u8]) -> Option<usize>
     None
 }
 
-// Whether a prefix has its second byte at an index of a line.
+// Returns whether a prefix has its second byte at an index of a line.
 fn has_marker_round(line: &[u8], second: usize) -> bool
     requires { second ≤ length line.now }
     ensures { IsTrue result ↔ ((1 ≤ second) × OccursAt line.now marker (second - 1)) }
@@ -107,7 +107,7 @@ fn has_marker_round(line: &[u8], second: usize) -> bool
     second >= 1 && line[second - 1..].starts_with(MARKER)
 }
 
-// What a text after the prefix says.
+// Returns what a text after the prefix says.
 fn told_by(text: &[u8]) -> Option<KlogLine>
     ensures { result ≡ told_by_words (parts_of text.now) }
 {
@@ -123,7 +123,7 @@ fn told_by(text: &[u8]) -> Option<KlogLine>
     }
 }
 
-// `<cpu>: Machine `, and then what is checked.
+// `<cpu>: Machine `, followed by the check.
 #[tactic(auto, unfolding(crate::specs::Reading::start_line_of))]
 fn start_line_of(words: &mut Words<'_>) -> Option<KlogLine>
     ensures { result ≡ start_line_of (words_in words.old) }
@@ -135,7 +135,7 @@ fn start_line_of(words: &mut Words<'_>) -> Option<KlogLine>
     check_of(cpu, words)
 }
 
-// `Check: ` or `Check Exception: `, and then the bank.
+// `Check: ` or `Check Exception: `, followed by the bank.
 #[tactic(auto, unfolding(crate::specs::Reading::check_of))]
 fn check_of(cpu: u16, words: &mut Words<'_>) -> Option<KlogLine>
     ensures { result ≡ check_of cpu (words_in words.old) }
@@ -149,7 +149,7 @@ fn check_of(cpu: u16, words: &mut Words<'_>) -> Option<KlogLine>
     bank_of(cpu, words)
 }
 
-// `<mcg> Bank <bank>: <status>`, and then nothing but spaces.
+// `<mcg> Bank <bank>: <status>`, followed only by spaces.
 #[tactic(auto, unfolding(crate::specs::Reading::bank_of))]
 fn bank_of(cpu: u16, words: &mut Words<'_>) -> Option<KlogLine>
     ensures { result ≡ bank_of cpu (words_in words.old) }
@@ -183,7 +183,8 @@ fn tsc_of(words: &mut Words<'_>) -> Option<KlogLine>
     Some(KlogLine::Tsc { tsc, addr, misc })
 }
 
-// A hexadecimal number after its name. If they can't be read the number is 0, and no word is used.
+// Returns a hexadecimal number after its name. If name or number can't be read, returns 0 and uses
+// no word.
 #[inline(always)]
 #[tactic(auto, unfolding(crate::specs::Reading::named))]
 fn named(name: &[u8], words: &mut Words<'_>) -> u64
@@ -216,7 +217,7 @@ fn processor_line_of(words: &mut Words<'_>) -> Option<KlogLine>
     Some(KlogLine::Processor { seconds })
 }
 
-// A decimal number of at most `most` with a colon after it.
+// Returns a decimal number of at most `most` with a colon after it.
 fn colon_number(word: &[u8], most: u64) -> Option<u64>
     ensures value { result ≡ colon_number most word.now }
     ensures within { IfSome result (λ n. n ≤ most) }
@@ -224,7 +225,7 @@ fn colon_number(word: &[u8], most: u64) -> Option<u64>
     decimal(word.strip_suffix(b":")?, most)
 }
 
-// Whether a word is a decimal number, a colon and a hexadecimal number.
+// Returns whether a word is a decimal number, a colon and a hexadecimal number.
 fn is_vendor_and_model(word: &[u8]) -> bool
     ensures { result ≡ is_vendor_and_model word.now }
 {

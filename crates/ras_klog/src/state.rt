@@ -1,4 +1,4 @@
-//! The reports of a kernel log, line by line.
+//! Finds the reports of a kernel log, line by line.
 
 ghost use Rattle.std.specs.Prelude.{◌≡◌, ℕ, List};
 ghost use Rattle.ras_klog.specs.declared.line.KlogLine.{KlogLine};
@@ -30,14 +30,14 @@ struct Head {
     status: u64,
 }
 
-// How far the report that was begun has come.
+// How far the current report has come.
 #[derive(Clone, Copy, Debug, PartialEq, Eq)]
 enum Stage {
-    // No report is begun: none came yet, or the last one is complete.
+    // There is no current report: none came yet, or the last one is complete.
     Idle,
-    // The report has its first line.
+    // The report's first line came.
     Begun(Head),
-    // The report also has its counter.
+    // The report's counter came too.
     Timed {
         head: Head,
         tsc: u64,
@@ -46,8 +46,8 @@ enum Stage {
     },
 }
 
-/// The report that was begun last, if it isn't complete. A log is a list of lines, which are taken
-/// one after the other.
+/// The current report of a log, if it isn't complete. A log is a list of lines, which are taken one
+/// after another.
 #[derive(Clone, Copy, Debug)]
 pub struct KlogState {
     stage: Stage,
@@ -66,10 +66,9 @@ impl Model for KlogState {
 impl KlogState {
     /// Returns the state before a log's first line.
     ///
-    /// A log's lines are cut into groups, before each `Start`. What `step` returns for the lines,
-    /// and then `end`, are the reports of the groups, in order. A group's report consists of its
-    /// `Start`, its first `Tsc` and the first `Processor` after that; without these it is
-    /// incomplete.
+    /// Each `Start` of a log begins a group of lines. What `step` returns for the lines, and then
+    /// `end`, are the reports of the groups, in order. A group's report consists of its `Start`,
+    /// its first `Tsc` and the first `Processor` after that; without these it is incomplete.
     pub fn new() -> KlogState
         ensures start { result ≡ at_start }
         ensures groups { (boot cap : ℕ) (lines : List KlogLine)
@@ -113,7 +112,7 @@ impl KlogState {
         }
     }
 
-    // Takes a counter and the registers after it, if the report that was begun has none yet.
+    // Takes a counter and the registers after it, if the current report has none yet.
     fn take_counter(&mut self, tsc: u64, addr: u64, misc: u64)
         ensures { self.new ≡ stage_after self.old (Tsc tsc addr misc) }
     {
@@ -127,7 +126,7 @@ impl KlogState {
         }
     }
 
-    // Returns the report that was begun, complete with its time, if it has its counter.
+    // Returns the current report, completed by its time, if it has its counter.
     fn complete(&mut self, seconds: u64, boot: u64, cap: u64) -> KlogOut
         ensures out { result ≡ out_at boot cap self.old (Processor seconds) }
         ensures stage { self.new ≡ stage_after self.old (Processor seconds) }
@@ -156,8 +155,8 @@ impl KlogState {
         })
     }
 
-    /// Returns whether `step` would use a line: any `Start`, a `Tsc` right after one, and a
-    /// `Processor` after that. Other lines are passed over.
+    /// Returns whether `step` would use a line: any `Start`, a `Tsc` for a report without one, and
+    /// a `Processor` after that. Other lines are skipped.
     pub fn has_place(&self, line: KlogLine) -> bool
         ensures { result ≡ has_place self.now line }
     {
@@ -169,7 +168,7 @@ impl KlogState {
         )
     }
 
-    /// Ends the log, and returns the report that was begun as incomplete, if there is one.
+    /// Ends the log, and returns the current report as incomplete, if there is one.
     pub fn end(&mut self) -> KlogOut
         ensures out { result ≡ out_at_end self.old }
         ensures stage { self.new ≡ at_start }
@@ -180,7 +179,7 @@ impl KlogState {
     }
 }
 
-// The text of a report that was begun and can't be completed.
+// Returns the output of a current report that can't be completed.
 fn unfinished(stage: Stage) -> KlogOut
     ensures { result ≡ out_at_end stage }
 {

@@ -1,4 +1,4 @@
-//! The lines that are printed of the reports of a kernel log.
+//! Prints the lines for the reports of a kernel log.
 
 ghost use Rattle.std.specs.Prelude.{◌≡◌, ◌++◌, decimal, OnOk};
 ghost use Rattle.ras_klog.specs.Texts.{bank_text, klog_counts_line, out_text, partial_line};
@@ -10,7 +10,7 @@ use ras_facts::{BankReport, report_of_bank};
 use ras_texts::push_report;
 use std::alloc::Global;
 
-// Adds the text of what has to be printed.
+// Appends the text of an output.
 pub(crate) fn push_out(alloc: Global, text: &mut Vec<u8>, out: &KlogOut) -> Result<(), NoMemory>
     ensures { OnOk result (text.new.items ≡ text.old.items ++ out_text out.now) }
 {
@@ -21,8 +21,8 @@ pub(crate) fn push_out(alloc: Global, text: &mut Vec<u8>, out: &KlogOut) -> Resu
     }
 }
 
-// Adds the log line of a complete report, with an empty machine description: none if the bank has
-// no error.
+// Appends the log line of a complete report, with an empty machine description; no line if the bank
+// has no error.
 fn push_bank(alloc: Global, text: &mut Vec<u8>, bank: &BankReport) -> Result<(), NoMemory>
     ensures { OnOk result (text.new.items ≡ text.old.items ++ bank_text bank.now) }
 {
@@ -32,7 +32,7 @@ fn push_bank(alloc: Global, text: &mut Vec<u8>, bank: &BankReport) -> Result<(),
     }
 }
 
-// Adds the line of an incomplete report.
+// Appends the line of an incomplete report.
 fn push_partial(text: &mut Vec<u8>, cpu: u16, bank: u8) -> Result<(), NoMemory>
     ensures { OnOk result (text.new.items ≡ text.old.items ++ partial_line cpu bank) }
 {
@@ -42,7 +42,7 @@ fn push_partial(text: &mut Vec<u8>, cpu: u16, bank: u8) -> Result<(), NoMemory>
     Ok(())
 }
 
-// Adds the line that a whole log ends with.
+// Appends the last line of a whole log.
 pub(crate) fn push_counts(text: &mut Vec<u8>, reports: u64, partial: u64) -> Result<(), NoMemory>
     ensures { OnOk result (text.new.items ≡ text.old.items ++ klog_counts_line reports partial) }
 {
@@ -52,7 +52,7 @@ pub(crate) fn push_counts(text: &mut Vec<u8>, reports: u64, partial: u64) -> Res
     Ok(())
 }
 
-// Adds a number after its name.
+// Appends a number after its name.
 fn push_named(text: &mut Vec<u8>, name: &[u8], number: u64) -> Result<(), NoMemory>
     ensures { OnOk result (text.new.items ≡ text.old.items ++ name.now ++ decimal number) }
 {

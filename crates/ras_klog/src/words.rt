@@ -1,4 +1,4 @@
-//! The words of a text, in turn.
+//! Returns the words of a text, one after another.
 
 ghost use Rattle.std.specs.Prelude.{◌≡◌, ◌==◌, [], ◌∷◌, ◌++◌, drop, nat_eq, not, slice_index_or, true, false, MatchOption, if◌then◌else◌};
 ghost use Rattle.std.specs.List.{list_all, starts_with};
@@ -9,21 +9,21 @@ ghost use Rattle.ras_klog.specs.Steps.Words.{words_in};
 
 use ras_script::position_of;
 
-// The words of a text that are left: everything between single spaces, empty words too.
+// The words of a text that are left: the texts between single spaces, including empty ones.
 #[derive(Clone, Copy)]
 pub(crate) struct Words<'a> {
     rest: Option<&'a [u8]>,
 }
 
 impl<'a> Words<'a> {
-    // All words of a text.
+    // Returns all words of a text.
     pub(crate) fn new(text: &'a [u8]) -> Words<'a>
         ensures { words_in result ≡ parts_of text.now }
     {
         Words { rest: Some(text) }
     }
 
-    // The next word, or an empty one after the last.
+    // Returns the next word, or an empty one after the last.
     pub(crate) fn next(&mut self) -> &'a [u8]
         ensures word { result.now ≡ slice_index_or (words_in self.old) 0 [] }
         ensures rest { words_in self.new ≡ drop 1 (words_in self.old) }
@@ -36,8 +36,8 @@ impl<'a> Words<'a> {
         word
     }
 
-    // Takes the next word if it is this one, and returns whether it is. The word has no space, so none
-    // is looked for; the call is inlined, so that the word's bytes are compared one by one.
+    // Takes the next word if it is `name`, and returns whether it is. The name has no space, so no
+    // space is searched for; the call is inlined, so that the name's bytes are compared one by one.
     #[inline(always)]
     #[tactic(auto, using(crate::proofs::LineLemmas::no_word, crate::proofs::LineLemmas::ended_word, crate::proofs::LineLemmas::spaced_word, crate::proofs::LineLemmas::longer_word, crate::proofs::LineLemmas::same_word))]
     pub(crate) fn takes(&mut self, name: &[u8]) -> bool
@@ -63,7 +63,7 @@ impl<'a> Words<'a> {
         true
     }
 
-    // Whether nothing is left but spaces.
+    // Returns whether only spaces are left.
     #[tactic(auto, using(crate::proofs::LineLemmas::empty_parts))]
     pub(crate) fn are_empty(&self) -> bool
         ensures { result ≡ list_all is_empty (words_in self.now) }
@@ -75,7 +75,7 @@ impl<'a> Words<'a> {
     }
 }
 
-// What follows a name that a text begins with.
+// Returns the text after a name, if the text begins with the name.
 #[inline(always)]
 #[tactic(auto, using(crate::proofs::LineLemmas::name_step, crate::proofs::LineLemmas::name_differs, crate::proofs::LineLemmas::name_whole))]
 fn after_name<'a>(name: &[u8], text: &'a [u8]) -> Option<&'a [u8]>
@@ -93,7 +93,7 @@ fn after_name<'a>(name: &[u8], text: &'a [u8]) -> Option<&'a [u8]>
     Some(&text[name.len()..])
 }
 
-// The first word of a text, and what follows the space after it.
+// Returns the first word of a text, and the text after its space.
 #[tactic(auto, using(crate::proofs::LineLemmas::parts_cut, crate::proofs::LineLemmas::parts_whole))]
 fn cut(text: &[u8]) -> (&[u8], Option<&[u8]>)
     ensures { parts_of text.now
@@ -105,7 +105,7 @@ fn cut(text: &[u8]) -> (&[u8], Option<&[u8]>)
     }
 }
 
-// Whether a text consists only of spaces.
+// Returns whether a text consists only of spaces.
 fn are_spaces(text: &[u8]) -> bool
     ensures { result ≡ list_all (λ b. b == 32) text.now }
 {

@@ -6,6 +6,7 @@ import uuid
 from reference import load, reports
 from reference.account import CLASSES, MOST_NAMES, STATES, text_of_name
 from reference.base import Refused, Stop
+from reference.feeds import log_feed, trace_feed
 from reference.firmware import lines_ghes
 from reference.journal import recover
 from reference.kernel import LAST_SECOND, decimal_of, klog, lines_klog, lines_mce, lines_trace
@@ -237,6 +238,21 @@ def boot_and_second(words):
     return None if None in numbers else numbers
 
 
+def boot_cap_and_second(words):
+    """The number of a boot, IA32_MCG_CAP, and the second at which the boot began; None where the words say none."""
+    first, last = boot_and_cap(words[:2]), boot_and_second(words[::2])
+    return (*first, last[1]) if len(words) == 3 and first and last else None
+
+
+def borders_of(words):
+    """From when on a trace has machine checks, and the firmware's reports, each None if never; None where the words say none."""
+    if not words:
+        return None, None
+    numbers = [decimal_of(word) if NUMBER.fullmatch(word) else None for word in words]
+    is_right = all(word == b"-" or number is not None for word, number in zip(words, numbers))
+    return numbers if len(words) == 2 and is_right else None
+
+
 def answer(words, data, files):
     """What a command prints over an input and two files, and its status; None where the words are none of these."""
     if (told := told_of_rasd(words)) is not None:
@@ -258,4 +274,8 @@ def answer(words, data, files):
         return lines_trace(*numbers, data)
     if words[:2] == [b"lines", b"ghes"] and (numbers := boot_and_second(words[2:])):
         return lines_ghes(*numbers, data)
+    if words[:2] == [b"lines", b"trace"] and (numbers := boot_cap_and_second(words[2:])):
+        return trace_feed(*numbers, data)
+    if words[:2] == [b"lines", b"log"] and (numbers := boot_cap_and_second(words[2:5])) and (both := borders_of(words[5:])):
+        return log_feed(*numbers, *both, data)
     return None

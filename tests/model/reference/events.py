@@ -108,17 +108,28 @@ def has_stray(line):
     return STRAYS.search(line) or memory.may_be_of_firmware(line) and STRAY_MC.search(line)
 
 
-def event_in(line):
-    """The time stamp of a line's event, and its severity, type and section; none if the line has no event that counts.
+def named_in(line):
+    """The clock of a line without a process's name, and the match of its event's name; none if no event is there.
 
     The event's name is behind the clock: the line's first colon before a space ends a word of at least four signs.
     """
-    line = behind_name(line)
     head, _, rest = line.partition(b": ")
     clock = head.rpartition(b" ")[2]
-    found = NAMED.fullmatch(b" " + rest)
-    is_event = found and re.fullmatch(rb"(?=.{4})[0-9.]*[0-9][0-9.]*", clock)
-    if not is_event or found[1] == b"mc" and memory.is_of_another_driver(found[2]):
+    is_clock = re.fullmatch(rb"(?=.{4})[0-9.]*[0-9][0-9.]*", clock)
+    return clock, NAMED.fullmatch(b" " + rest) if is_clock else None
+
+
+def is_of_extended_log(line):
+    """Whether a line's event is of the firmware's extended log."""
+    _, found = named_in(behind_name(line))
+    return bool(found) and found[1] == b"extlog_mem"
+
+
+def event_in(line):
+    """The time stamp of a line's event, and its severity, type and section; none if the line has no event that counts."""
+    line = behind_name(line)
+    clock, found = named_in(line)
+    if not found or found[1] == b"mc" and memory.is_of_another_driver(found[2]):
         check(not has_stray(line))
         return None
     stamp = STAMP.fullmatch(clock + b":")

@@ -3,11 +3,12 @@ import re
 
 from reference.base import Unreadable
 from reference.events import event_in
-from reference.kernel import MOST, SECOND, UNREAD, is_own, printed, stamp_in
+from reference.kernel import MOST, SECOND, UNREAD, is_behind, is_own, printed, stamp_in
 from reference.reports import Refused, read_block
 
 START = b"Hardware error from APEI Generic Hardware Error Source: "
 SEVERITIES = b"recoverable", b"fatal", b"corrected"
+FATAL = 1
 FIELDS = b"physical_address: 0x", b"physical_address_mask: 0x", b"error_type: "
 NAMES = b"node:", b"card:", b"module:"
 MARKED = rb"\{([0-9]+)\}\[Hardware Error\]: "
@@ -78,8 +79,11 @@ def table_of(sources):
 class Reports:
     """The report in work, and the sources of the last table."""
 
-    def __init__(self, boot, began):
+    def __init__(self, boot, began, reads_events=True, has_own_tables=False, border=None):
         self.boot, self.began, self.sources, self.work = boot, began, [], None
+        # from when on a trace has the memory errors too
+        self.border = border
+        self.reads_events, self.has_own_tables = reads_events, has_own_tables
 
     def end(self):
         """What is told of the report in work, which ends."""
@@ -88,15 +92,17 @@ class Reports:
             return text
         work["errors"] += [work["error"]] if work["error"] else []
         source, begun = work["source"], work["begun"]
-        if work["errors"]:
+        is_left = is_behind(self.border, begun) and work["severity"] != FATAL
+        if work["errors"] and not is_left:
             text = self.lines(source, begun, block_of(work["severity"], [*map(entry_of, work["errors"])]))
         return text + (PARTIAL.format(source, begun) if work["state"] in ("absent", "begun") else "")
 
     def lines(self, source, begun, block):
         """The line of a block, behind a table if the last one lacks its source."""
         text = ""
-        if source not in self.sources:
-            self.sources = [*(self.sources if len(self.sources) < MOST_SOURCES else []), source]
+        if self.has_own_tables or source not in self.sources:
+            is_new = self.has_own_tables or len(self.sources) == MOST_SOURCES
+            self.sources = [*([] if is_new else self.sources), source]
             text = f"hest {table_of(self.sources).hex()}\n"
         return f"{text}ghes {self.boot} {self.began + begun // SECOND} {source} {begun} {block.hex()}\n"
 
@@ -167,7 +173,7 @@ class Reports:
         if line is None:
             return PARTIAL.format(self.work["source"], self.work["begun"]) if self.work else ""
         try:
-            if event := event_in(bytes_of_line):
+            if self.reads_events and (event := event_in(bytes_of_line)):
                 return self.event(*event)
         except Unreadable:
             return UNREAD.format(line)

@@ -177,8 +177,8 @@ def fields_of(text):
     return found
 
 
-def event_text(names, boot, text):
-    """What is printed of an event, after these names."""
+def event_text(names, boot, text, lacking):
+    """What is printed of an event, after these names. Where it has no IA32_MCG_CAP, it gets this one."""
     found = fields_of(text)
     cpu, seconds = number_of(found["cpu"][0], 65_535), number_of(found["time"][0])
     vendor = number_of((found.get("vendor") or found["processor"])[0])
@@ -191,7 +191,7 @@ def event_text(names, boot, text):
         return ""
     if found["bank"] == 255:
         return FIRMWARE.format(cpu)
-    return names.line(boot, seconds, cpu, found["bank"], tsc, cap, mcg, status, addr, misc)
+    return names.line(boot, seconds, cpu, found["bank"], tsc, cap or lacking, mcg, status, addr, misc)
 
 
 def behind_name(line):
@@ -209,14 +209,14 @@ def is_front(front):
     return bool(colon and is_time and rest.lstrip(b" ") in (b"", b"mce:"))
 
 
-def trace_text(names, boot, number, line):
+def trace_text(names, boot, number, line, lacking=0):
     """What is printed of a line of a trace, after these names."""
     front, mark, text = line.rpartition(MARK)
     if not mark:
         return ""
     try:
         check(is_front(front))
-        return event_text(names, boot, text)
+        return event_text(names, boot, text, lacking)
     except Unreadable:
         return UNREAD.format(number)
 
@@ -293,6 +293,11 @@ def stamp_in(head):
     return int(stamp[1]) * SECOND + int(stamp[2]) if stamp and int(stamp[1]) <= LAST_SECOND else None
 
 
+def is_behind(border, stamp):
+    """Whether a time stamp stands at a border or behind it."""
+    return None not in (border, stamp) and border <= stamp
+
+
 # EDAC's drivers for Intel's memory controllers print a line for each register, skx's with 0x before numbers in hexadecimal.
 EDAC_MARK = b"EDAC "
 DRIVER = re.compile(rb"(?:skx|sbridge|pnd2) MC[0-9]+: (.*)", re.S)
@@ -325,8 +330,10 @@ def edac_told(kind, text):
 class LogLines:
     """The report in work, and the names that EDAC and the kernel gave."""
 
-    def __init__(self, boot, cap):
+    def __init__(self, boot, cap, border=None):
         self.boot, self.cap = boot, cap
+        # from when on a trace has machine checks too, and when the line was printed
+        self.border, self.stamp = border, None
         self.start = self.tsc = None
         # EDAC's registers so far, and the kind of its next line; None if no report of EDAC is in work
         self.registers, self.awaited, self.by_edac = [], None, False
@@ -353,7 +360,9 @@ class LogLines:
         status ^= is_torn << reports.ADDRV
         names = self.names[self.by_edac]
         line = names.line(self.boot, seconds, cpu, bank, tsc, self.cap, mcg, status, addr, misc)
-        return TORN.format(number) + line.removeprefix(FULL) if is_torn else line
+        if is_torn:
+            return TORN.format(number) + ("" if is_behind(self.border, self.stamp) else line.removeprefix(FULL))
+        return line
 
     def take_edac(self, number, head, text):
         """What is told as a line of EDAC's is read: of its three registers the last one tells all."""
@@ -390,6 +399,7 @@ class LogLines:
         """What is printed of a line, and of the log's end, which has no number."""
         if number is None:
             return self.begin(None)
+        self.stamp = stamp_in(line.partition(LOG_MARK if LOG_MARK in line else EDAC_MARK)[0])
         try:
             if LOG_MARK not in line and EDAC_MARK in line:
                 head, _, text = line.partition(EDAC_MARK)

@@ -5,7 +5,7 @@ use Rattle.bank_lines.specs.LogHeads.{without_spaces}
 use Rattle.bank_lines.specs.LogLines.{micros_of}
 use Rattle.bank_lines.specs.declared.log_line.TheConstants.{LAST_SECOND, MICROSECONDS}
 
--- `<seconds>.<micros>`, after spaces, of so many microseconds
+-- `<seconds>.<micros>`, after spaces, is a time of `stamp` microseconds
 pub record IsTime (time : List ℕ) (stamp : ℕ) : Type 0 where
   pub front : List ℕ
   pub behind : List ℕ

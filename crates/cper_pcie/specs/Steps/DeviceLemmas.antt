@@ -38,6 +38,6 @@ same_device-laws = record {
   congr = λ x y z same. ap (λ device. same_device device z) (same_device-exact x y same);
 }
 
--- functions that are the same are hashed alike
+-- functions that are the same have the same hash
 pub same_device-fed : (F : Option PcieDevice → HashWrites) (x y : Option PcieDevice) → same_device x y ≡ true → F x ≡ F y
 same_device-fed F x y same = ap F (same_device-exact x y same)

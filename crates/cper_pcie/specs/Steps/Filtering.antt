@@ -10,12 +10,12 @@ use Rattle.cper_pcie.specs.declared.reports.Sections.TheVariants as sections
 use Rattle.cper_pcie.specs.declared.section.PcieDevice.{PcieDevice}
 use Rattle.cper_pcie.specs.Along.{Counted}
 
--- the sections of a record or a block that was read
+-- the sections of a record or a block
 abbrev pub sections_in : Sections → List Found
 sections_in (sections.Record own) = record_sections own
 sections_in (sections.Block block) = block_sections block
 
--- the PCI Express sections of a report of this name
+-- the PCI Express sections of a report with this name
 abbrev pub taken_from : Name → List Found → List Taken
 taken_from name found = filter_map (pcie_section name) found
 

@@ -22,6 +22,6 @@ abbrev pub end_text : ℕ → ℕ → List ℕ
 end_text sections devices = line_with (
     codes "end sections=" ++ decimal sections ++ codes " devices=" ++ decimal devices)
 
--- a text after a comma, unless it is the first
+-- a text after a comma, or without a comma if it is the first
 abbrev pub next_bit_text : Bool → List ℕ → List ℕ
 next_bit_text is_first text = if is_first then text else 44 ∷ text

@@ -25,32 +25,31 @@ pub record Printed {X : Type 0} (see : X → Seen) (text : List ℕ) (old new : 
   pub stops : Passes (InOut (Begins text)) (see old).clock (see new).clock
   pub leads : Leads (InOut (Appends text)) (see old).clock (see new).clock
 
--- Printing it failed.
+-- Printing a text failed.
 pub record Unprinted {X : Type 0} (see : X → Seen) (text : List ℕ) (old new : X) : Type 0 where
   pub told : Relates (FailsPrint text) (see old).told (see new).told
   pub stops : Passes (InOut (Begins text)) (see old).clock (see new).clock
 
 -- ---- a line
 
--- a line ends a call: it is refused, or memory runs out
+-- A line ends a call: the line is rejected, or memory runs out.
 abbrev pub StopsAt : Exit → ℕ → List ℕ → Filter → Filter → Type 0
 StopsAt exit number line before after =
     ((why : LineRefused) × (exit ≡ unread_exit number why) × ((lines : List (List ℕ)) → before.answers (line ∷ lines) ≡ Err why ∷ []) × (after ≡ before))
     ⊎ (exit ≡ NoMemory)
 
--- A line was taken and its text waits behind others, or the call ends at it and no other text waits.
+-- A line was taken and its text waits after others; or the call ends at the line, and no other text waits.
 abbrev pub TakesLine : Result (Unit {0}) Exit → ℕ → List ℕ → Filter → Filter → List ℕ → List ℕ → Type 0
 TakesLine (Ok done) number line before after old new = Took line before after old new
 TakesLine (Err exit) number line before after old new = StopsAt exit number line before after × (new ≡ old)
 
--- how a call ends at a line that was given
+-- how a call may end at a line that was read
 abbrev pub IsTakeExit : Exit → Type 0
 IsTakeExit (BadLine line reason) = ⊤
 IsTakeExit NoMemory = ⊤
 IsTakeExit exit = ⊥
 
--- The texts that waited were printed; or none waited, or the source isn't read yet. Or printing them
--- failed.
+-- The waiting texts were printed; or no text waits, or the source isn't read yet; or printing them failed.
 abbrev pub PrintsWaiting : {X : Type 0} → (X → Seen) → Result (Unit {0}) Exit → Type 0 → List ℕ → List ℕ → X → X → Type 0
 PrintsWaiting see (Ok done) Held text rest old new =
     ((rest ≡ []) × Printed see text old new) ⊎ ((rest ≡ text) × (new ≡ old) × ((text ≡ []) ⊎ Held))
@@ -70,16 +69,16 @@ Ends see exit result text old new =
 
 -- ---- how far the lines were taken
 
--- Of a text so much was printed, and so much behind it waits. A crash now leaves what one before the call may have
--- left, with all that was printed.
+-- Of a text, this part was printed, and this part after it waits. A crash now leaves what a crash before the call
+-- might have left, with all that was printed.
 pub record Said (text : List ℕ) (before : Told) (old : Clock) (printed waiting : List ℕ) (now : Told) (new : Clock) : Type 0 where
   pub is : now ≡ after_print printed before
   pub begins : IsPrefixOf (printed ++ waiting) text
   pub stops : Adds (PrintMoment old text) old new
   pub leads : Leads (InOut (Appends printed)) old new
 
--- Lines were taken: what the call prints and how it ends is what they make, some of which waits, and
--- what is to come.
+-- Lines were taken. What the call prints, and how it ends, is what these lines give, some of which waits, and what
+-- the lines to come give.
 pub record Along (whole : Filter) (script : List ℕ) (before : Told) (old : Clock) (lines : Numbered) (filter : Filter) (waiting left : List ℕ) (now : Told) (new : Clock) : Type 0 where
   pub done : List (List ℕ)
   pub given : HasGiven script lines left done
@@ -92,7 +91,7 @@ pub record Along (whole : Filter) (script : List ℕ) (before : Told) (old : Clo
   pub all : flat_map (λ text. text) texts ≡ printed ++ waiting
   pub ahead : PrintsOn ⊥ whole script given.took.taken printed
 
--- The lines came to an end in this way, with this filter, and texts wait.
+-- The lines ended in this way, with this filter, and texts wait.
 pub record Waits (whole : Filter) (script : List ℕ) (before : Told) (old : Clock) (exit : Exit) (filter : Filter) (waiting : List ℕ) (reader : Reader) (left : List ℕ) (now : Told) (new : Clock) : Type 0 where
   pub printed : List ℕ
   pub said : Said (filter_output whole script) before old printed waiting now new
@@ -100,7 +99,7 @@ pub record Waits (whole : Filter) (script : List ℕ) (before : Told) (old : Clo
   pub ahead : PrintsOn (exit ≡ SourceFault) whole script took.taken printed
   pub answers : OnAnswer exit ((exit ≡ filter_exit whole script) × (filter_output whole script ≡ (printed ++ waiting) ++ closing_text filter [] exit))
 
--- The lines came to an end, and no text waits.
+-- The lines ended, and no text waits.
 pub record LinesEnd (whole : Filter) (script : List ℕ) (before : Told) (old : Clock) (exit : Exit) (filter : Filter) (reader : Reader) (left : List ℕ) (now : Told) (new : Clock) : Type 0 where
   pub printed : List ℕ
   pub is : now ≡ after_print printed before
@@ -110,13 +109,13 @@ pub record LinesEnd (whole : Filter) (script : List ℕ) (before : Told) (old : 
   pub stops : Adds (PrintMoment old (filter_output whole script)) old new
   pub answers : OnAnswer exit ((exit ≡ filter_exit whole script) × (filter_output whole script ≡ printed ++ closing_text filter [] exit) × Leads (InOut (Appends printed)) old new)
 
--- one or the other
+-- the lines ended: texts wait, or printing failed
 abbrev pub Gathers : Filter → List ℕ → Told → Clock → Exit → Filter → List ℕ → Reader → List ℕ → Told → Clock → Type 0
 Gathers whole script before old exit filter waiting reader left now new =
     Waits whole script before old exit filter waiting reader left now new
     ⊎ ((exit ≡ PrintFault) × LinesEnd whole script before old exit filter reader left now new)
 
--- the same if source and board are modelled at the end
+-- Source and board are modelled at the end, and the lines ended in this way.
 abbrev pub GathersBoth : Filter → List ℕ → Told → Clock → Exit → Filter → List ℕ → Reader → Option (List ℕ) → Option Told → Clock → Type 0
 GathersBoth whole script before old exit filter waiting reader left told new =
     IsSomeAnd left (λ rest. IsSomeAnd told (λ now. Gathers whole script before old exit filter waiting reader rest now new))
@@ -125,7 +124,7 @@ abbrev pub EndsBoth : Filter → List ℕ → Told → Clock → Exit → Filter
 EndsBoth whole script before old exit filter reader left told new =
     IsSomeAnd left (λ rest. IsSomeAnd told (λ now. LinesEnd whole script before old exit filter reader rest now new))
 
--- whether a call of the source or the board failed, which is then the last one
+-- whether a call of the source or the board failed; then no other call follows
 abbrev pub has_failed : Exit → Bool
 has_failed SourceFault = true
 has_failed PrintFault = true

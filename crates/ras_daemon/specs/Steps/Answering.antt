@@ -13,14 +13,14 @@ use Rattle.ras_exit.specs.declared.exit.Exit.TheVariants.{Damaged, DiskFault, No
 use Rattle.ras_exit.specs.Endings.{IsAnswer}
 use Rattle.ras_daemon.specs.Reporting.{IsReportExit, exit_by, output_by}
 
--- how a report ends over files that weren't recovered: by an answer, or cut short
+-- how a report ends if the files weren't recovered: with an answer, or cut short
 abbrev pub unrecovered : OpenRefused → Result Exit Exit
 unrecovered opening.Disk = Err DiskFault
 unrecovered opening.TooLong = Ok TooLong
 unrecovered (opening.Damaged file place) = Ok (Damaged file place)
 unrecovered opening.NoMemory = Err NoMemory
 
--- what stands before a stop line in the place of a listing
+-- the text before a `stop` line that is printed instead of a listing
 abbrev pub stop_mark : Listing → List ℕ
 stop_mark Metrics = codes "# "
 stop_mark listing = []
@@ -30,12 +30,12 @@ abbrev pub whole_listing : Listing → State → List ℕ
 whole_listing Metrics account = listing_lines Metrics account
 whole_listing listing account = listing_lines listing account ++ end_line account
 
--- this exit and this text are those of files that hold this
+-- exit and text of a report over files with this content
 pub record IsSaid (listing : Listing) (held : Result State Refusal) (exit : Exit) (text : List ℕ) : Type 0 where
   pub exit_is : exit ≡ exit_by held
   pub text_is : text ≡ output_by listing held
 
--- an exit of a report that isn't cut short
+-- the exit of a report that isn't cut short
 pub record IsReportAnswer (exit : Exit) : Type 0 where
   pub listed : IsReportExit exit
   pub answer : IsAnswer exit

@@ -1,4 +1,4 @@
--- How far a run has come among its lines, and what a crash leaves of it.
+-- How many of its lines a run has processed, and what a crash leaves of the run.
 use Rattle.std.specs.Prelude.{◌≡◌, ℕ, ◌⊎◌, List, [], ◌∷◌, ◌++◌, Option, ⊤, ◌+◌, ◌≤◌, length, IsSomeAnd, Some}
 use Rattle.std.specs.List.{AllByRecursion, flat_map}
 use Rattle.board_core.specs.Clock.{Clock, LeftNow}
@@ -29,21 +29,21 @@ use Rattle.ras_events.specs.DoneLines.{ended_lines}
 use Rattle.ras_daemon.specs.Ahead.{events_in}
 use Rattle.ras_daemon.specs.RunStatus.{run_exit}
 
--- each of these lines is accepted at its place
+-- whether each of these lines is accepted at its place
 abbrev pub AreAccepted : Start → List NumberedLine → Type 0
 AreAccepted start reads = AllByRecursion IsAccepted (places_from (first_site start) reads)
 
--- what they print
+-- what these lines print
 abbrev pub outputs : Start → List NumberedLine → List ℕ
 outputs start reads = flat_map output_at (places_from (first_site start) reads)
 
--- the first lines of a script, each of which is accepted
+-- These are the first lines of a script, and each is accepted.
 pub record AreFirst (start : Start) (script : List ℕ) (before : List NumberedLine) : Type 0 where
   pub rest : List NumberedLine
   pub splits : before ++ rest ≡ reads_of script
   pub accepted : AreAccepted start before
 
--- those before the line at which a run ends
+-- These are all lines before the line at which a run ends with this exit.
 pub record AreAll (start : Start) (script : List ℕ) (exit : Exit) (before : List NumberedLine) : Type 0 where
   pub first : AreFirst start script before
   pub all : places_taken start script ≡ places_from (first_site start) before
@@ -51,7 +51,7 @@ pub record AreAll (start : Start) (script : List ℕ) (exit : Exit) (before : Li
 
 -- ---- what a crash leaves; the text is the one before the lines
 
--- between two lines, or while the next one is taken or refused
+-- what a crash leaves between two lines, and while a line is processed or rejected
 pub record BetweenLines (start : Start) (script : List ℕ) (out : List ℕ) (left : Left) : Type 0 where
   pub before : List NumberedLine
   pub first : AreFirst start script before
@@ -70,8 +70,8 @@ pub record AtLine (start : Start) (script : List ℕ) (out : List ℕ) (left : L
 abbrev pub LinesMoment : Start → List ℕ → List ℕ → Left → Type 0
 LinesMoment start script out left = BetweenLines start script out left ⊎ AtLine start script out left
 
--- The store at the end of a run: what these lines left, if none is refused; or what the line after
--- them left, which is refused.
+-- The store at the end of a run: what these lines left, if no line is rejected; or what the rejected line after them
+-- left.
 pub record LeftByRefused (start : Start) (script : List ℕ) (before : List NumberedLine) (exit : Exit) (store : List Stored) : Type 0 where
   pub read : NumberedLine
   pub rest : List NumberedLine
@@ -83,7 +83,7 @@ abbrev pub StoreAtEnd : Start → List ℕ → List NumberedLine → Exit → Li
 StoreAtEnd start script before exit store =
     ((exit ≡ script_exit script) × (store ≡ (site_at start before).store)) ⊎ LeftByRefused start script before exit store
 
--- while the orders that stand at the start are printed, and while the last line is
+-- what a crash leaves while the outstanding orders are printed at the start, and while the last line is printed
 pub record AtStart (start : Start) (out : List ℕ) (left : Left) : Type 0 where
   pub recovers : Recovers start.account left
   pub store : left.store ≡ start.store
@@ -97,33 +97,33 @@ pub record AtEnd (start : Start) (script : List ℕ) (out : List ℕ) (left : Le
   pub store : StoreAtEnd start script before exit left.store
   pub text : Begins (closing_line (site_at start before).account exit) (out ++ outputs start before) left.out
 
--- the text that stands before the lines
+-- the text before the lines' text: the outstanding orders were printed after `out`
 abbrev pub lines_from : Start → List ℕ → List ℕ
 lines_from start out = out ++ standing_lines start.account
 
--- once the journal is open
+-- what a crash leaves once the journal is open
 abbrev pub OpenMoment : Start → List ℕ → List ℕ → Left → Type 0
 OpenMoment start script out left =
     AtStart start out left
     ⊎ (LinesMoment start script (lines_from start out) left ⊎ AtEnd start script (lines_from start out) left)
 
--- What a crash leaves of a run: what one at its start may have left, or what stands at a moment of
--- it. Once the journal is open, what it holds is an account.
+-- What a crash leaves of a run: what a crash at its start may have left, or the state at a moment of the run. Once
+-- the journal is open, its account is a valid one (`IsAccount`).
 abbrev pub RunMoment : Clock → Start → List ℕ → Left → Left → Type 0
 RunMoment clock start script here left =
     LeftNow clock left
     ⊎ (AtOpening start here.out left ⊎ (IsAccount start.account × OpenMoment start script here.out left))
 
--- a ledger with which a run begins so, on a board that tells this
+-- a run begins at this start with this ledger, on a board with this model
 pub record IsStart (start : Start) (ledger : Ledger) (t : Told) : Type 0 where
   pub account : ledger.account.state ≡ start.account
   pub standing : ledger.journal.standing ≡ start.standing
   pub board : IsBoardAt (first_site start) t
 
--- ---- how a run ends; the text is that before it
+-- ---- how a run ends; `out` is the text before the run
 
--- If memory ran out or the source failed, some first lines were taken, or not even the orders at
--- the start were printed.
+-- If memory ran out or the source failed, some first lines were taken, or not even the outstanding orders were
+-- printed.
 pub record EndsEarly (start : Start) (script out : List ℕ) (now : Told) : Type 0 where
   pub before : List NumberedLine
   pub first : AreFirst start script before
@@ -134,7 +134,7 @@ pub record EndsEarly (start : Start) (script out : List ℕ) (now : Told) : Type
       × (now.here.out ≡ out ++ (standing_lines start.account ++ outputs start before)))
       ⊎ ((now.here.out ≡ out) × (before ≡ []))
 
--- And if a run comes to an answer, its last line was printed.
+-- If a run ends with an answer, its last line was printed.
 pub record EndsSo (start : Start) (script : List ℕ) (exit : Exit) (out : List ℕ) (now : Told) : Type 0 where
   pub before : List NumberedLine
   pub all : AreAll start script exit before
@@ -153,14 +153,14 @@ RunEnds start script exit out now = EndsIn start script exit (ending_of exit) ou
 
 -- ---- how far the source was read
 
--- how long the first of these lines is, with its line feed
+-- the length of the first of these lines, with its line feed
 abbrev pub first_size : List (List ℕ) → ℕ
 first_size [] = 0
 first_size (line ∷ lines) = length line + 1
 
--- Lines of a script were done: what they print is printed, after a text. What was taken of the
--- script reaches at most 40,001 bytes past the line after them. If the source failed, they are
--- all that were taken with their line feeds.
+-- The first lines of a script were done, and their text is printed after `from`. What was read of the script reaches
+-- at most 40,001 bytes past the line after them. If the source failed, these lines have all events whose line feeds
+-- were read.
 pub record ReadAhead (Fault : Type 0) (start : Start) (script from left : List ℕ) (now : Told) : Type 0 where
   pub done : List (List ℕ)
   pub more : List (List ℕ)
@@ -172,7 +172,7 @@ pub record ReadAhead (Fault : Type 0) (start : Start) (script from left : List �
   pub splits : taken ++ left ≡ script
   pub whole : Fault → events_in (ended_lines taken) ≤ events_in done
 
--- the same if source and board tell at the end
+-- Source and board are modelled at the end, and the first lines were done in this way.
 abbrev pub EndsAhead : Type 0 → Start → List ℕ → List ℕ → Option (List ℕ) → Option Told → Type 0
 EndsAhead Fault start script from left told =
     IsSomeAnd left (λ rest. IsSomeAnd told (ReadAhead Fault start script from rest))

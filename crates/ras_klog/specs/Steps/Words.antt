@@ -1,4 +1,4 @@
--- The words that are left.
+-- The words of a text that are left.
 use Rattle.std.specs.Prelude.{ℕ, List, []}
 use Rattle.std.specs.Option.{option_map_or}
 use Rattle.ras_klog.specs.declared.words.Words.{Words}

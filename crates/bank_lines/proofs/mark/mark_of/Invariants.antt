@@ -4,7 +4,7 @@ use Rattle.bank_lines.specs.Steps.Marks.{FirstBelow}
 use Rattle.bank_lines.proofs.LogHeadLemmas.{NoneBelow}
 use Rattle.bank_lines.proofs.mark.mark_of.Given as goal
 
--- no mark of the kernel's own text has its letter before `from`, and EDAC's first one below it is known
+-- no prefix of the kernel's own text has its letter before `from`, and EDAC's first prefix below `from` is known
 abbrev pub invariant-loop-passed : goal.invariant-loop-passed
 invariant-loop-passed l = record {
   inside : l.from ≤ length l.line;

@@ -1,11 +1,11 @@
--- The table is held against the definition at each of the 16 values, by computing.
+-- The table agrees with the definition at each of the 16 values, by computing.
 use Rattle.std.proofs.Common.{◌≡◌, ℕ, zero, suc, ◌<◌, ◌&&◌, Bool, true, false, eqb, get_or, List, refl, arith, inl, inr}
 use Rattle.std.proofs.lemmas.Bool.{cases_eq, eqb-true}
 use Rattle.std.specs.Fmt.{digit_glyph}
 use Rattle.bank_lines.specs.declared.text.TheConstants.{DIGITS}
 use Rattle.bank_lines.proofs.text.digit_of.Goals as goal
 
--- a table has each digit below n
+-- whether a table has each digit below n
 agrees_below : List ℕ → ℕ → Bool
 agrees_below table zero = true
 agrees_below table (suc n) = eqb (get_or table n 0) (digit_glyph false n) && agrees_below table n

@@ -3,8 +3,8 @@ use Rattle.std.specs.Fmt.{digits_onto, digits}
 use Rattle.bank_lines.specs.declared.text.TheConstants.{WORD_BYTES}
 use Rattle.bank_lines.proofs.text.write_word.Given as goal
 
--- The digits from `place` on are the number's last ones, and what is left of it has fewer digits than
--- there is room for. The definition of digits takes at most 64 steps.
+-- The digits from `place` on are the number's last ones, and the rest of the number fits the bytes before them. The
+-- definition of digits takes at most 64 steps.
 abbrev pub invariant-loop-rest : goal.invariant-loop-rest
 invariant-loop-rest l = record {
   inside : (2 ≤ l.place) × (l.place ≤ WORD_BYTES);

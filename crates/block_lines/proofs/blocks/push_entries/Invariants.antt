@@ -1,4 +1,4 @@
--- The entries so far.
+-- The entries so far were appended.
 use Rattle.std.proofs.Common.{◌≡◌, ◌++◌, take}
 use Rattle.std.specs.List.{flat_map}
 use Rattle.block_lines.specs.Blocks.{error_entry_bytes}

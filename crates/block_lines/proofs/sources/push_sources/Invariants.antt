@@ -1,4 +1,4 @@
--- The sources so far.
+-- The sources so far were appended.
 use Rattle.std.proofs.Common.{◌≡◌, ◌++◌, take}
 use Rattle.std.specs.List.{flat_map}
 use Rattle.block_lines.specs.Sources.{source_bytes}

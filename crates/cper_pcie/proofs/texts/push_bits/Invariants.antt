@@ -1,4 +1,4 @@
--- The names so far are those of the bits so far.
+-- The text so far has the names of the bits so far.
 use Rattle.ras_base.specs.Bits.{is_set}
 use Rattle.cper_pcie.specs.Texts.{bit_name}
 use Rattle.cper_pcie.specs.Steps.TextSteps.{bit_names_of}

@@ -9,11 +9,13 @@ use Rattle.line_filters.specs.Steps.Feeding.{FedBoth, FeedEndsBoth, IsFeedStop}
 use Rattle.line_filters.proofs.FeedBothLemmas.{fed_start, stop_on, unprinted_on, wait_on, with_nil}
 use Rattle.line_filters.proofs.FeedRoomLemmas.{room, short_step}
 use Rattle.line_filters.proofs.FeedRoundLemmas.{ends_round, source_round, starved_round, step_round, unprinted_round}
+use Rattle.line_filters.proofs.LeftLemmas.{leaves_all, leaves_more}
 use Rattle.line_filters.proofs.feeding.gather_inputs.Goals as goal
 
 pub loop-number-init : goal.loop-number-init
 loop-number-init g c = record {
   fed = λ script t left told. fed_start (g.F.InputFilter.makes c.args.filter.now) script t c.args.inputs.now c.args.waiting.now.items (g.S.Source.left c.args.source.now) (g.B.Board.seen c.args.board.now).told (g.B.Board.seen c.args.board.now).clock c.requires.begins.0 (g.met.F.InputFilter.none c.args.filter.now) c.requires.begins.2 left told;
+  left = leaves_all (g.S.Source.left c.args.source.now);
   short = omega (arith, ap length c.requires.begins.2);
   taken = omega (arith, c.requires.begins.1);
   source = refl;
@@ -56,6 +58,10 @@ returns-in_default-advance-clause-ends g c =
     c.has_line.result c.loop-number.board c.print_unless.new.board (left c.loop-number.source) (left c.advance.new.source) (c.loop-number.invariant.fed script t given here) c.in_default.ensures.prints
     c.has_line.ensures (g.met.F.InputFilter.none c.loop-number.filter) c.advance.new.self c.in_default-advance.field-0 c.in_default-advance.ensures.moves
 
+pub returns-in_default-advance-clause-takes : goal.returns-in_default-advance-clause-takes
+returns-in_default-advance-clause-takes g c =
+    leaves_more (Err c.in_default-advance.field-0) c.loop-number.inputs c.advance.new.self (g.S.Source.left c.args.source.now) (g.S.Source.left c.loop-number.source) (g.S.Source.left c.advance.new.source) c.in_default-advance.ensures.moves c.loop-number.invariant.left
+
 pub returns-in_default-advance-clause-causes : goal.returns-in_default-advance-clause-causes
 returns-in_default-advance-clause-causes g c = (
   subst (λ n. Rose n (g.S.Source.faults c.advance.new.source)) c.loop-number.invariant.source c.in_default-advance.ensures.cause.failed,
@@ -77,6 +83,16 @@ returns-in-End-clause-ends g c =
     ends_round (makes c.args.filter.now) script t (see c.args.board.now).clock c.loop-number.inputs (makes c.loop-number.filter) see c.loop-number.waiting.items c.print_unless.new.waiting.items
     c.has_line.result c.loop-number.board c.print_unless.new.board (left c.loop-number.source) (left c.advance.new.source) (c.loop-number.invariant.fed script t given here) c.in_default.ensures.prints
     c.has_line.ensures (g.met.F.InputFilter.none c.loop-number.filter) c.advance.new.self c.in-End.cut (λ held. ap left (c.in-Ok.ensures.held_first held)) moves
+
+pub returns-in-End-clause-takes : goal.returns-in-End-clause-takes
+returns-in-End-clause-takes g c =
+    leaves_more (Ok c.in-Ok.step) c.loop-number.inputs c.advance.new.self (g.S.Source.left c.args.source.now) (g.S.Source.left c.loop-number.source) (g.S.Source.left c.advance.new.source) c.in-Ok.ensures.moves c.loop-number.invariant.left
+
+pub returns-in-End-clause-all : goal.returns-in-End-clause-all
+returns-in-End-clause-all g c =
+    let left = g.S.Source.left in
+    let moves = subst (λ (s : InputStep). MovesInput (Ok s) c.loop-number.inputs c.advance.new.self (left c.loop-number.source) (left c.advance.new.source)) c.in-End.is c.in-Ok.ensures.moves in
+    moves.4
 
 pub returns-in-End-clause-causes : goal.returns-in-End-clause-causes
 returns-in-End-clause-causes g c = (c.in-Ok.ensures.cause.same ∙ c.loop-number.invariant.source, c.in_default.ensures.faults ∙ c.loop-number.invariant.faults)
@@ -103,6 +119,8 @@ returns-in_default-take_step g c =
           c.has_line.result c.loop-number.board c.print_unless.new.board (left c.loop-number.source) (left c.advance.new.source) (c.loop-number.invariant.fed script t given here) c.in_default.ensures.prints
           c.has_line.ensures (g.met.F.InputFilter.none c.loop-number.filter) c.advance.new.self c.in-Ok.step (makes c.take_step.new.filter) (λ held. ap left (c.in-Ok.ensures.held_first held)) c.in-Ok.ensures.moves;
       short = omega (arith, c.loop-number.invariant.short, c.print_unless.ensures.size);
+      takes = leaves_more (Ok c.in-Ok.step) c.loop-number.inputs c.advance.new.self (left c.args.source.now) (left c.loop-number.source) (left c.advance.new.source) c.in-Ok.ensures.moves c.loop-number.invariant.left;
+      all = tt;
       few = tt;
       exits = tt;
       causes = (c.in-Ok.ensures.cause.same ∙ c.loop-number.invariant.source, c.in_default.ensures.faults ∙ c.loop-number.invariant.faults);
@@ -125,6 +143,8 @@ returns-in-Err-print_unless g c =
           c.has_line.ensures (g.met.F.InputFilter.none c.loop-number.filter) c.advance.new.self
           c.in-Ok.step (makes c.take_step.new.filter) c.take_step.new.text.items c.in_default-step.not-End (λ held. ap left (c.in-Ok.ensures.held_first held)) c.in-Ok.ensures.moves c.in-Ok-take_step.ensures.takes) c.in-Err-print_unless.ensures.prints;
       short = omega (arith, c.loop-number.invariant.short, c.print_unless.ensures.size, c.print_unless-in-loop-number.ensures.size);
+      takes = leaves_more (Ok c.in-Ok.step) c.loop-number.inputs c.advance.new.self (left c.args.source.now) (left c.loop-number.source) (left c.advance.new.source) c.in-Ok.ensures.moves c.loop-number.invariant.left;
+      all = tt;
       few = tt;
       exits = subst IsFeedStop (sym c.in-Err-print_unless.ensures.prints.0) tt;
       causes = (
@@ -152,6 +172,8 @@ returns-in_default-extend_from_slice g c =
           c.has_line.ensures (g.met.F.InputFilter.none c.loop-number.filter) c.advance.new.self
           c.in-Ok.step (makes c.take_step.new.filter) c.take_step.new.text.items c.in_default-step.not-End (λ held. ap left (c.in-Ok.ensures.held_first held)) c.in-Ok.ensures.moves c.in-Ok-take_step.ensures.takes) c.in_default-print_unless.ensures.prints));
       short = omega (arith, ap length c.in_default-extend_from_slice.ensures.items, c.loop-number.invariant.short, c.print_unless.ensures.size, c.print_unless-in-loop-number.ensures.size);
+      takes = leaves_more (Ok c.in-Ok.step) c.loop-number.inputs c.advance.new.self (left c.args.source.now) (left c.loop-number.source) (left c.advance.new.source) c.in-Ok.ensures.moves c.loop-number.invariant.left;
+      all = tt;
       few = tt;
       exits = tt;
       causes = (c.in-Ok.ensures.cause.same ∙ c.loop-number.invariant.source, c.in_default-print_unless.ensures.faults ∙ c.in_default.ensures.faults ∙ c.loop-number.invariant.faults);
@@ -176,6 +198,7 @@ loop-number-preserved g c =
           c.has_line.result c.loop-number.board c.print_unless.new.board (left c.loop-number.source) (left c.advance.new.source) (c.loop-number.invariant.fed script t given here) c.in_default.ensures.prints
           c.has_line.ensures (g.met.F.InputFilter.none c.loop-number.filter) c.advance.new.self
           c.in-Ok.step (makes c.take_step.new.filter) c.take_step.new.text.items c.in_default-step.not-End (λ held. ap left (c.in-Ok.ensures.held_first held)) c.in-Ok.ensures.moves c.in-Ok-take_step.ensures.takes) c.in_default-print_unless.ensures.prints);
+      left = leaves_more (Ok c.in-Ok.step) c.loop-number.inputs c.advance.new.self (left c.args.source.now) (left c.loop-number.source) (left c.advance.new.source) c.in-Ok.ensures.moves c.loop-number.invariant.left;
       short = omega (arith, ap length kept, length-append c.print_unless-in-loop-number.new.waiting.items c.take_step.new.text.items, room g.B.Board.seen (c.fits.result ≡ true) c.print_unless.new.waiting.items c.print_unless-in-loop-number.new.waiting.items c.take_step.new.text.items c.print_unless.new.board c.print_unless-in-loop-number.new.board c.in_default-print_unless.ensures.prints (λ is. omega (arith, c.fits.ensures.0 is, ap length c.deref.ensures.value, ap length c.deref-in-loop-number.ensures.value)) (short_step c.in-Ok.step c.advance.new.self.line (g.F.InputFilter.makes c.loop-number.filter) (g.F.InputFilter.makes c.take_step.new.filter) c.take_step.new.text.items c.in-Ok-take_step.ensures.takes));
       taken = omega (arith, c.loop-number.invariant.taken, c.in-Ok-take_step.ensures.taken);
       source = c.in-Ok.ensures.cause.same ∙ c.loop-number.invariant.source;

@@ -151,7 +151,7 @@ returns-then-not-branch-clause-causes g c = (c.in_ok-next.ensures.ends.source âˆ
 pub returns-then-not-branch-clause-device : goal.returns-then-not-branch-clause-device
 returns-then-not-branch-clause-device g c = device_goes_on _ _ _ _ _ _ c.loop-lines.invariant.device c.in_ok-print_waiting.ensures.device
 
--- ---- a line was refused, or memory ran out at it
+-- ---- a line was rejected, or memory ran out at it
 
 pub returns-in_err-take_line-clause-ends : goal.returns-in_err-take_line-clause-ends
 returns-in_err-take_line-clause-ends g c = Î» script t left told.

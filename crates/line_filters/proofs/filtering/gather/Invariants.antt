@@ -7,7 +7,7 @@ use Rattle.line_filters.specs.Steps.Reading.{HasTaken}
 use Rattle.line_filters.proofs.BothLemmas.{AlongBoth}
 use Rattle.line_filters.proofs.filtering.gather.Given as goal
 
--- The first lines were taken, and the others are to come. Each has at least one byte of the script.
+-- The first lines were taken, and the other lines are to come. Each line has at least one byte of the script.
 abbrev pub invariant-loop-lines : goal.invariant-loop-lines
 invariant-loop-lines g l = record {
   along : (script : List ℕ) (t : Told) → g.S.Source.left l.fn.source ≡ Some script → (g.B.Board.seen l.fn.board).told ≡ Some t

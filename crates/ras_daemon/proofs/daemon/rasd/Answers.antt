@@ -1,4 +1,4 @@
--- Each clause of a run from what it did.
+-- Each clause of a run follows from what the run did.
 use Rattle.std.proofs.Common.{◌≡◌, Some, ap, refl, sym, ◌∙◌}
 use Rattle.ras_exit.specs.StopLine.{stop_line}
 use Rattle.ras_exit.specs.declared.exit.Exit.TheVariants.{Done, Usage}
@@ -6,7 +6,7 @@ use Rattle.ras_daemon.specs.Help.{help_text, version_line}
 use Rattle.ras_daemon.specs.Promises.{Ran, RunStops, StillTell}
 use Rattle.ras_daemon.specs.Task.{task_of}
 use Rattle.ras_daemon.proofs.CallLemmas.{run-ran, run-stops}
-use Rattle.ras_daemon.proofs.FilterLemmas.{filters_as, stops_as}
+use Rattle.ras_daemon.proofs.FilterLemmas.{feeds_as, filters_as, stops_as, stops_feeding_as}
 use Rattle.ras_daemon.proofs.RunLemmas.{over_comes}
 use Rattle.ras_daemon.proofs.SaidLemmas.{says_causes, says_printed}
 use Rattle.ras_daemon.proofs.TellingLemmas.{printed_commands}
@@ -58,6 +58,26 @@ returns-in-Some-Klog-clause-commands g c =
       tells = filters_as _ _ exit _ _ _ _ c.new-filter-in-Some-Klog.ensures.makes c.filter_lines-in-Some-Klog.ensures.filters;
       stops = stops_as _ _ _ _ _ _ c.new-filter-in-Some-Klog.ensures.makes c.filter_lines-in-Some-Klog.ensures.stops;
       device = c.filter_lines-in-Some-Klog.ensures.device;
+    })
+
+pub returns-in-Some-TraceFeed-clause-commands : goal.returns-in-Some-TraceFeed-clause-commands
+returns-in-Some-TraceFeed-clause-commands g c =
+    let exit = c.feed_lines.result in
+    rw (sym c.task_of.ensures.task ∙ c.in-Some-TraceFeed.is ∙ ap Some c.in-Some-TraceFeed.field-0-is)
+    (record {
+      tells = feeds_as _ _ exit _ _ _ _ c.new-filter-in-Some-TraceFeed.ensures.makes c.feed_lines.ensures.feeds;
+      stops = stops_feeding_as _ _ _ _ _ _ c.new-filter-in-Some-TraceFeed.ensures.makes c.feed_lines.ensures.stops;
+      device = c.feed_lines.ensures.device;
+    })
+
+pub returns-in-Some-LogFeed-clause-commands : goal.returns-in-Some-LogFeed-clause-commands
+returns-in-Some-LogFeed-clause-commands g c =
+    let exit = c.feed_lines-in-Some-LogFeed.result in
+    rw (sym c.task_of.ensures.task ∙ c.in-Some-LogFeed.is ∙ ap Some c.in-Some-LogFeed.field-0-is)
+    (record {
+      tells = feeds_as _ _ exit _ _ _ _ c.new-filter-in-Some-LogFeed.ensures.makes c.feed_lines-in-Some-LogFeed.ensures.feeds;
+      stops = stops_feeding_as _ _ _ _ _ _ c.new-filter-in-Some-LogFeed.ensures.makes c.feed_lines-in-Some-LogFeed.ensures.stops;
+      device = c.feed_lines-in-Some-LogFeed.ensures.device;
     })
 
 pub returns-in-Some-TraceLines-clause-commands : goal.returns-in-Some-TraceLines-clause-commands

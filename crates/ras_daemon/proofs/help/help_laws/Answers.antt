@@ -1,4 +1,4 @@
--- What the help says, by computation.
+-- The help's lines, by computation.
 use Rattle.std.proofs.Common.{[], refl}
 use Rattle.std.specs.Fmt.{digits}
 use Rattle.listing_texts.specs.declared.listing.Listing.TheVariants.{Counts, Pages, Names, Modules, Metrics}
@@ -7,7 +7,7 @@ use Rattle.ras_exit.specs.declared.exit.Exit.{Exit}
 use Rattle.ras_exit.specs.declared.exit.Exit.TheVariants.{Done, Usage, BadLine, SourceFault, DiskFault, RegisterFault, PrintFault, Damaged, Full, ErstRefused, ErstBusy, ErstStatus, NoMemory, TooLong}
 use Rattle.ras_daemon.specs.Help.{HasOneLine, exit_words, form_of, help_lines, status_column}
 use Rattle.ras_daemon.specs.declared.word.Task.{Task}
-use Rattle.ras_daemon.specs.declared.word.Task.TheVariants.{Run, Report, Load, Pcie, Klog, TraceLines, KlogLines, GhesLines, MceLine, Help, Version}
+use Rattle.ras_daemon.specs.declared.word.Task.TheVariants.{Run, Report, Load, Pcie, Klog, TraceFeed, LogFeed, TraceLines, KlogLines, GhesLines, MceLine, Help, Version}
 use Rattle.ras_daemon.proofs.help.help_laws.Goals as goal
 
 commands : (task : Task) → HasOneLine (form_of task) []
@@ -18,6 +18,8 @@ commands (Report Pages) = record { one = refl; same = refl }
 commands (Report Names) = record { one = refl; same = refl }
 commands (Report Modules) = record { one = refl; same = refl }
 commands (Report Metrics) = record { one = refl; same = refl }
+commands (TraceFeed boot cap began) = record { one = refl; same = refl }
+commands (LogFeed boot cap began borders) = record { one = refl; same = refl }
 commands (TraceLines boot) = record { one = refl; same = refl }
 commands (KlogLines boot cap) = record { one = refl; same = refl }
 commands (GhesLines boot began) = record { one = refl; same = refl }

@@ -9,8 +9,8 @@ use Rattle.ras_daemon.proofs.FewLemmas.{TakesOf}
 use Rattle.ras_daemon.proofs.LinesLemmas.{Took}
 use Rattle.ras_daemon.proofs.lines.take_lines.Given as goal
 
--- The first lines were taken and did their acts, and the others are to come. Each has at least one
--- byte of the script.
+-- The first lines were taken and did their acts, and the other lines are to come. Each line has at least one byte of
+-- the script.
 abbrev pub invariant-loop-alloc : goal.invariant-loop-alloc
 invariant-loop-alloc g l = record {
   took : (start : Start) (script : List ℕ) (t : Told) → IsRunAt (first_site start) l.fn.run → g.S.Source.left l.fn.source ≡ Some script → (g.B.Board.seen l.fn.board).told ≡ Some t → HoldsAt (first_site start) t

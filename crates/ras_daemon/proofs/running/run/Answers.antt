@@ -49,7 +49,7 @@ pub returns-in-Ok-open-clause-causes : goal.returns-in-Ok-open-clause-causes
 returns-in-Ok-open-clause-causes g c =
     subst (λ f. Caused c.take_script.result (g.S.Source.faults c.args.source.now) (g.S.Source.faults c.take_script.new.source) f (g.B.Board.seen c.take_script.new.board).faults) c.in-Ok-open.ensures.ends.cause c.take_script.ensures.causes
 
--- ---- it wasn't
+-- ---- the journal wasn't opened
 
 pub returns-clause-comes : goal.returns-clause-comes
 returns-clause-comes g c =

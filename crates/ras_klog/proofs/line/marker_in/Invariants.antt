@@ -2,7 +2,7 @@ use Rattle.std.proofs.Common.{◌-◌, ◌≤◌, length}
 use Rattle.ras_klog.proofs.LineLemmas.{NoneBelow}
 use Rattle.ras_klog.proofs.line.marker_in.Given as goal
 
--- no marker has its second byte before `from`
+-- no prefix has its second byte before `from`
 abbrev pub invariant-loop-passed : goal.invariant-loop-passed
 invariant-loop-passed l = record {
   inside : l.from ≤ length l.line;

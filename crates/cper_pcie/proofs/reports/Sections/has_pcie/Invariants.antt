@@ -1,4 +1,4 @@
--- None so far is one of PCI Express.
+-- No section so far is a PCI Express section.
 use Rattle.std.proofs.Common.{◌≡◌, false, take}
 use Rattle.std.specs.List.{list_any}
 use Rattle.cper_pcie.specs.Reports.{is_pcie}

@@ -1,4 +1,4 @@
--- The lines so far are those of the rows so far.
+-- The text so far has the lines of the rows so far.
 use Rattle.std.proofs.Common.{◌≡◌, ◌++◌, take}
 use Rattle.std.specs.List.{flat_map}
 use Rattle.cper_pcie.specs.Texts.{device_line}

@@ -1,0 +1,4 @@
+pub mod Comments
+pub mod Borders
+pub mod TraceFeed
+pub mod LogFeed

@@ -1,4 +1,0 @@
-pub mod Layout
-pub mod Records
-pub mod Printing
-pub mod Steps

@@ -1,2 +1,0 @@
--- What only proofs use: no public clause comes to it.
-pub mod Reading
