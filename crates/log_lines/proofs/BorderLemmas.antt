@@ -1,5 +1,5 @@
 -- What a log leaves to a trace.
-use Rattle.std.proofs.Common.{◌≡◌, ℕ, ◌+◌, Bool, true, false, List, [], ◌∷◌, ◌++◌, refl, sym, ap, ◌∙◌, append_assoc, append-nil, Option, None, Some, if◌then◌else◌}
+use Rattle.std.proofs.Common.{◌≡◌, ℕ, ◌+◌, Bool, true, false, List, [], ◌∷◌, ◌++◌, ◌&&◌, refl, sym, ap, ◌∙◌, append_assoc, append-nil, Option, None, Some, if◌then◌else◌}
 use Rattle.std.specs.Option.{option_map_or}
 use Rattle.bank_lines.specs.LogAlong.{error_in}
 use Rattle.bank_lines.specs.LogLines.{marked_stamp_of}
@@ -12,7 +12,7 @@ use Rattle.block_lines.specs.Reports.{Reporting, ended_at, is_end, left_to_trace
 use Rattle.block_lines.specs.Texts.{block_text, blocks_text_at, blocks_text_beside, cut_text, end_text, end_text_beside, remark_text, report_text, report_text_beside}
 use Rattle.block_lines.specs.declared.report.OpenReport.{OpenReport}
 use Rattle.log_lines.specs.declared.borders.Borders.{Borders}
-use Rattle.log_lines.specs.Borders.{LeavesCheck, LeavesReport, check_said, is_behind, leaves_check, no_borders, torn_comment}
+use Rattle.log_lines.specs.Borders.{LeavesCheck, LeavesReport, check_said, has_made_counter, is_behind, leaves_check, no_borders, torn_comment}
 use Rattle.log_lines.specs.LogFeed.{LogFeedState, log_found, log_said}
 use Rattle.log_lines.proofs.CheckLemmas.{all_said}
 
@@ -20,22 +20,25 @@ use Rattle.log_lines.proofs.CheckLemmas.{all_said}
 
 torn_left : (border : Option ℕ) (number : ℕ) (bytes : List ℕ) (report : BankReport)
     → ¬ (check_said border number bytes (Torn report) ≡ found_text number (Torn report)) → LeavesCheck border number bytes (Torn report)
-torn_left border number bytes report left = by (is_behind border (marked_stamp_of bytes)) refl left
+torn_left border number bytes report left = by (is_behind border (marked_stamp_of bytes)) (has_made_counter report) refl refl left
   where
     Said : Bool → List ℕ
-    Said behind = if behind then torn_comment number else found_text number (Torn report)
+    Said leaves = if leaves then torn_comment number else found_text number (Torn report)
 
-    by : (behind : Bool) → is_behind border (marked_stamp_of bytes) ≡ behind → ¬ (Said behind ≡ found_text number (Torn report))
-        → LeavesCheck border number bytes (Torn report)
-    by false is left = absurd (left refl)
-    by true is left = record {
+    by : (behind made : Bool) → is_behind border (marked_stamp_of bytes) ≡ behind → has_made_counter report ≡ made
+        → ¬ (Said (behind && made) ≡ found_text number (Torn report)) → LeavesCheck border number bytes (Torn report)
+    by false made is counted left = absurd (left refl)
+    by true false is counted left = absurd (left refl)
+    by true true is counted left = record {
       report = report;
       torn = refl;
+      made = counted;
       behind = is;
       all =
           ap (λ (line : List ℕ). (torn_line number ++ 10 ∷ []) ++ line) (append-nil (asking_line report ++ 10 ∷ []))
           ∙ sym (append_assoc (torn_line number ++ 10 ∷ []) (asking_line report) (10 ∷ []))
-          ∙ ap (λ (behind : Bool). Said behind ++ asking_line report ++ 10 ∷ []) (sym is);
+          ∙ ap (λ (leaves : Bool). Said leaves ++ asking_line report ++ 10 ∷ [])
+          (sym (ap (λ (b : Bool). b && has_made_counter report) is ∙ counted));
     }
 
 pub check_left : (border : Option ℕ) (number : ℕ) (bytes : List ℕ) (found : Finding)

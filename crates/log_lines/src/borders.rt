@@ -1,11 +1,16 @@
 //! What a log leaves to a trace that the same run gets.
 
 ghost use Rattle.std.specs.Prelude.{◌≡◌, ◌++◌, OnOk};
-ghost use Rattle.log_lines.specs.Borders.{check_said, is_behind, leaves_check};
+ghost use Rattle.log_lines.specs.Borders.{check_said, has_made_counter, is_behind, leaves_check};
 
 use crate::comments::push_about;
 use bank_lines::{Finding, marked_stamp, push_found};
 use ras_base::NoMemory;
+use ras_facts::BankReport;
+
+/// The least counter that isn't a processor's own: a counter made of a second since 2001 and of
+/// registers is above it, and a processor of 3 GHz counts ten years up to it.
+pub const LEAST_MADE: u64 = 1_000_000_000_000_000_000;
 
 /// From when on a trace that the same run gets has what the log of a boot has too. Both are time
 /// stamps, in microseconds since the boot. `None`: the trace never has it, or there is no trace.
@@ -36,14 +41,24 @@ pub(crate) fn push_check(
     }
 }
 
-// Whether a trace has a machine check whole that lost its address in the log.
+// Returns whether a trace has a machine check under another name, and whole, that lost its address
+// in the log.
 fn leaves_check(border: Option<u64>, line: &[u8], found: &Finding) -> bool
     ensures leaves { result ≡ leaves_check border line.now found.now }
 {
     match found {
-        Finding::Torn(_) => is_behind(border, marked_stamp(line)),
+        Finding::Torn(report) => {
+            is_behind(border, marked_stamp(line)) && has_made_counter(report)
+        }
         _ => false,
     }
+}
+
+// Returns whether a report's counter is made of its second and its registers.
+fn has_made_counter(report: &BankReport) -> bool
+    ensures made { result ≡ has_made_counter report.now }
+{
+    LEAST_MADE <= report.tsc
 }
 
 // Whether a time stamp stands at a border or behind it.

@@ -7,7 +7,7 @@ mod laws;
 mod log_feed;
 mod trace_feed;
 
-pub use borders::Borders;
+pub use borders::{Borders, LEAST_MADE};
 pub use comments::MOST_SHOWN;
 pub use laws::{
     blocks_bring_their_tables, events_are_never_left_unsaid, machine_checks_are_named_alike,

@@ -95,6 +95,9 @@ def bank_line(boot, seconds, cpu, bank, tsc, cap, mcg, status, addr, misc):
     return f"bank {boot} {seconds} {cpu} {bank} {tsc} {cap:x} {mcg:x} {status:x} {addr:x} {misc:x}\n"
 
 
+# A counter that is made of a second and of registers is at least this; a processor's own isn't.
+LEAST_MADE = 10**18
+
 class Names:
     """How many errors without a counter one printer told so far, by what those alike have in common."""
 
@@ -361,7 +364,9 @@ class LogLines:
         names = self.names[self.by_edac]
         line = names.line(self.boot, seconds, cpu, bank, tsc, self.cap, mcg, status, addr, misc)
         if is_torn:
-            return TORN.format(number) + ("" if is_behind(self.border, self.stamp) else line.removeprefix(FULL))
+            bank_line = line.removeprefix(FULL)
+            is_made = int(bank_line.split()[5]) >= LEAST_MADE
+            return TORN.format(number) + ("" if is_made and is_behind(self.border, self.stamp) else bank_line)
         return line
 
     def take_edac(self, number, head, text):
