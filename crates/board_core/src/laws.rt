@@ -1,4 +1,4 @@
-//! What the clauses of a board say of several calls in a row.
+//! What the clauses of a board say about several calls in a row.
 ghost use Rattle.std.specs.Prelude.{◌≡◌, ℕ, ◌≤◌, ◌↔◌, List, [], ◌∷◌, ◌++◌, length};
 ghost use Rattle.erst_store.specs.Store.{Stored};
 ghost use Rattle.board_core.specs.declared.board.FileNo.{FileNo};
@@ -12,11 +12,10 @@ ghost use Rattle.board_core.specs.Told.{overlay};
 
 use crate::Board;
 
-/// Every board keeps to the disk model, over any calls in a row.
+/// Every board obeys the disk model, over any calls in a row.
 pub fn disk_model<B: Board>()
-    // Whatever calls are made after a sync of a file, a crash during them or after them leaves of
-    // that file what the disk model says, from the bytes as of that sync and the ranges written
-    // since.
+    // Whatever calls are made after a sync of a file, a crash during them or after them leaves the
+    // file as the disk model says, from the bytes as of that sync and the ranges written since.
     ensures file { (file : FileNo) (bytes : List ℕ) (calls : List Call) (first last : B)
         → IsSynced file bytes (B.seen first).clock → AreMade B.seen calls first last
         → (left : Left) → (B.seen last).clock.may_leave_since (B.seen first).clock.now left
@@ -35,7 +34,7 @@ pub fn disk_model<B: Board>()
         → KeepsDisk (after_all calls disk) (B.seen last).clock }
 {}
 
-/// What the definitions of the disk model amount to.
+/// What the definitions of the disk model mean.
 pub fn disk_model_words()
     // A file that wasn't written since its last sync is left as it was at that sync.
     ensures unwritten { (bytes left : List ℕ)
