@@ -48,7 +48,7 @@ register_of address =
     if nat_eq address action_address then Some Action
     else (if nat_eq address value_address then Some Value else None)
 
--- the register of an address space, a bit offset and an address, if it is a good one
+-- the register at an address, if the address space and the bit offset are valid for it
 abbrev pub register_at : ℕ → ℕ → ℕ → Option Reg
 register_at space offset address = if nat_eq space 0 && nat_lt offset 64 then register_of address else None
 
