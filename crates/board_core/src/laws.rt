@@ -55,7 +55,8 @@ pub fn disk_model_words()
         → (clock_of (with_act (prints (part ++ missing)) past)).may_leave_since
         (clock_of past).now (record (now_of past).here { out = (now_of past).here.out ++ part }) }
 
-    // During a call of its device it leaves the store as before the call and as after it.
+    // During a call of its device, a board in memory may leave the store as before the call, and
+    // the store as after it.
     ensures acting { (past : Past) (call : DeviceCall) (store : List Stored)
         → Becomes (after_device call (now_of past)).here.store
         (now_of past).here.store store

@@ -150,7 +150,7 @@ sections_refused own i descriptors inside below refused =
     some_below_at count i (is_section_refused own) below (refused_err own i ∙ refused) in
     rw (long, none_out, some_refused) refl
 
--- Bytes that begin with bytes that have a header are refused as these are.
+-- If the front of bytes has a header, a refusal of the front is a refusal of the bytes.
 behind_header : (bytes own : List ℕ) (answer : Result (List ℕ) RecordRefused) → IsPrefixOf own bytes → HasHeader own
     → sections_of own ≡ answer → record_of bytes ≡ answer
 behind_header bytes own answer (rest, is) front same = ap (λ (xs : List ℕ). record_of xs) (sym is) ∙ read_own own rest front ∙ same

@@ -36,7 +36,7 @@ pub(crate) enum Use {
     Reads,
     /// The field is written.
     Writes,
-    /// The field is read, and another number written.
+    /// The field is read, and then another number is written.
     Changes,
     /// The field is an offset of bytes that are moved.
     Moves,

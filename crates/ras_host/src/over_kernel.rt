@@ -53,8 +53,8 @@ impl<K: Kernel + Drop> OverKernel<K> {
     }
 }
 
-// Each call makes these calls of the kernel. Faults aren't counted separately: each fault is a
-// failed call of the kernel, or a refusal that `Refused` counts.
+// The system's calls, each made up of calls of the kernel. Faults aren't counted separately: each
+// fault is a failed call of the kernel, or a refusal that `Refused` counts.
 impl<K: Kernel + Drop> System for OverKernel<K> {
     ghost told = { λ s. K.told s.kernel };
 

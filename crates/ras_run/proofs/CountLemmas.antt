@@ -53,7 +53,7 @@ pub print_exit : {T : Type 0} (result : Result T Exit) → OnErr result (result 
 print_exit (Ok done) is = tt
 print_exit {T} (Err why) is = subst (λ (r : Result T Exit). IfErr r IsPrintExit) (sym is) refl
 
--- The part after the new entries are counted was cut short.
+-- The run was cut short after the new entries were counted.
 abbrev pub IsCutShort : Exit → Type 0
 IsCutShort exit = EndsBy ⊥ (Unit {0}) AnyFault (ending_of exit)
 

@@ -377,7 +377,7 @@ module _ {K R : Type 0} (same : K → K → Bool) (exact : (x y : K) → same x 
         by true h ih = absurd (true≢false h)
         by false h ih = ap (λ (rest : List (K × R)). e ∷ rest) (ih h)
 
-    -- A row replaced the key's own row, which then replaced it again.
+    -- A row replaced the key's own row, and then the key's own row was put back.
     pub put_back : (es : List (K × R)) (row known : R) → lookup (same k) es ≡ Some known
         → set_value_at (insert_entry same es k row) (position_or_len (same k) (keys_of es)) known ≡ es
     put_back [] row known there = cc

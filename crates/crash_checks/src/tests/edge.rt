@@ -1,6 +1,6 @@
 //! The program's own board, over a system in memory: a crash of the machine before each call of the
-//! system in a run, or after a failed call, what it leaves by choices of names and of writes, and a
-//! run that goes on from that.
+//! system in a run, or after a failed call, what the crash leaves by choices of names and of
+//! writes, and a run that continues from it.
 
 ghost use Rattle.ras_base.specs.LittleEndian.{AreBytes};
 

@@ -22,7 +22,7 @@ abbrev pub Over : (Told → Type 0) → Option Told → Type 0
 Over P None = Unit {0}
 Over P (Some t) = IsDevice (device_of t) → P t
 
--- The model's device was a device, which is known if an admitted table made a device call.
+-- The model's device was a device, because an admitted table made a device call.
 pub record HasDevice (lists : List (List InstructionEntry)) (told : Option Told) : Type 0 where
   pub admitted : IsAdmittedTable lists
   pub device : IfSome told (λ t. IsDevice (device_of t))

@@ -30,7 +30,7 @@ pub enum Answer {
 }
 
 /// Whether the table is the padded one, how many records the store has (their identifiers begin
-/// with 1), how slow the device is, the call that fails (0 for none) and how many may go well.
+/// with 1), how slow the device is, the call that fails (0 for none) and how many may succeed.
 #[derive(Clone, Copy)]
 pub struct Start {
     pub is_padded: bool,
@@ -102,7 +102,7 @@ pub fn answer_on(alloc: Global, start: Start, operation: Operation) -> Result<An
 }
 
 // What the operations answer by the driver of a table; None if memory runs out. No function here
-// that owns a board or a driver goes on by `?`: each way out would be proved to drop it.
+// that owns a board or a driver uses `?`: each way out would be proved to drop it.
 fn answers_on(
     alloc: Global,
     is_padded: bool,
