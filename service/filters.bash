@@ -1,7 +1,8 @@
 #!/usr/bin/env bash
 # The commands that convert the kernel's log and trace to lines for rasd.
 #
-# usage: source filters.bash, as service/feed and service/earlier-lines do, with the folder of the scripts in `here`
+# usage: source filters.bash, as service/feed and service/earlier-lines do, behind files.bash, with the folder of the scripts in
+# `here`
 # shellcheck disable=SC2034
 program=${RASD:-/usr/libexec/rasd/rasd}
 traces=${RASD_TRACE:-/var/lib/rasd-trace}
@@ -10,7 +11,8 @@ piece=${RASD_PIECE:-50000000}
 # Makes a command end with the process TIED_TO, which starts it.
 tied=("$here/tied")
 # Passes on each line whole, or not at all.
-whole=("$here/whole-lines" --most 4096)
+pass_lines=("${perl_script[@]}" "$here/whole-lines")
+whole=("${pass_lines[@]}" --most 4096)
 
 # The end of a complete log: a line later than any, which ends the last report.
 log_end='[999999999999.000000] the end'
@@ -38,7 +40,7 @@ log_reports=("${whole[@]}" --only '\}\[Hardware Error\]: ' --only '^\[9{12}\.' -
 find_firmware() {
     local first=''
     firmware=log
-    [[ ! -f $1 ]] || read -r first <"$1"
+    ! has "$1" || read -r first <"$1" || fail "$1 can't be read"
     [[ $first != '# '*' mc_event'* ]] || firmware=trace
 }
 
@@ -58,16 +60,23 @@ report_filter() {
         -- "${tied[@]}" "$program" lines ghes "$1" "$2")
 }
 
+# Sets first to the first time stamp of a boot's trace, or to nothing. The status is that of a killed command if one failed.
+find_first() {
+    first=$(awk -f "$here/first-stamp.awk" "$traces/trace.$1" && echo .)
+    [[ $first == *. ]] || return 130
+    first=${first%.} && first=${first%$'\n'}
+}
+
 # Prints of a boot's log the machine checks from before its trace: NAME-OF-BOOT CURSOR. They aren't in the trace, for example
 # what the last crash left in the banks.
 log_before_trace() {
     local first
-    first=$(awk -f "$here/first-stamp.awk" "$traces/trace.$1")
+    find_first "$1" || return
     if [[ -z $first ]]; then
         echo "feed: $traces/trace.$1 has no time stamp, so machine checks from before the trace don't count" >&2
         return
     fi
-    "$here/kernel-log" -b "${1//-/}" ${2:+"--after-cursor=$2"} |
+    "${perl_script[@]}" "$here/kernel-log" -b "${1//-/}" ${2:+"--after-cursor=$2"} |
         awk -v begins=': Machine Check' -v end="$first" -f "$here/older-lines.awk"
 }
 
@@ -75,9 +84,9 @@ log_before_trace() {
 # a report before it traces it, so the trace may have a report of the last second.
 reports_before_trace() {
     local first
-    first=$(awk -f "$here/first-stamp.awk" "$traces/trace.$1")
+    find_first "$1" || return
     [[ -n $first ]] || return 0
-    "$here/kernel-log" -b "${1//-/}" ${2:+"--after-cursor=$2"} |
+    "${perl_script[@]}" "$here/kernel-log" -b "${1//-/}" ${2:+"--after-cursor=$2"} |
         awk -v begins='Hardware error from APEI' -v end="$first" -v margin=1 -f "$here/older-lines.awk" && echo "$log_end"
 }
 

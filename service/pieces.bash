@@ -48,7 +48,7 @@ find_place() {
     is_begun=0
     if has fed; then
         read_file fed
-        read -r number id both <<<"$text"
+        read -r number id both <<<"$text" || fail "fed can't be read"
     fi
     if [[ "$number $id" == "$boot $boot_id" && $both =~ ^[^[:space:]]*,[0-9]{1,15}$ ]]; then
         is_begun=1
@@ -76,7 +76,8 @@ find_lead() {
 # Gives a piece of the trace, if it has whole lines that weren't given. Sets is_given, and is_more if there are more.
 give_trace() {
     local total to
-    total=$(wc -l <"$trace_file") || fail "$trace_file can't be read"
+    total=$(wc -l <"$trace_file")
+    [[ -n $total ]] || fail "$trace_file can't be read"
     ((total > known)) || return 0
     to=$total
     if ((total - known > piece_lines)); then to=$((known + piece_lines)) is_more=1; fi
@@ -92,16 +93,18 @@ give_trace() {
 
 # Gives a piece of the log, up to a line at which no report is going on. Sets is_given, and is_more if there is more.
 give_log() {
-    local cursor='' status
+    local cursor='' status size
     rm -f -- "$run/cursor" || fail "$run can't be written"
-    "$here/kernel-log" --settled "$run/cursor" --most "$piece_bytes" -b "${boot_id//-/}" ${place:+"--after-cursor=$place"} >"$run/piece"
+    "${perl_script[@]}" "$here/kernel-log" --settled "$run/cursor" --most "$piece_bytes" -b "${boot_id//-/}" ${place:+"--after-cursor=$place"} >"$run/piece"
     status=$?
     ((status <= 128)) || exit 1
     # What can't be read now comes as the log goes on, or at the next start.
     ((status == 0)) || { echo "feed: the log can't be read: journalctl's status is $status" >&2 && return; }
     ! has "$run/cursor" || read -r cursor <"$run/cursor" || fail "$run/cursor can't be read"
     place=${cursor:-$place}
-    [[ -s $run/piece ]] || return 0
+    size=$(stat -c %s -- "$run/piece")
+    [[ -n $size ]] || fail "$run/piece can't be read"
+    ((size)) || return 0
     if [[ $source == log ]]; then
         log_filter "$boot" "$cap"
         "${make_lines[@]}" <"$run/piece" | "${pass_on[@]}" || exit 1
@@ -110,7 +113,7 @@ give_log() {
     echo "$log_end" >>"$run/piece" || fail "$run/piece can't be written"
     "${log_reports[@]}" <"$run/piece" | "${make_lines[@]}" | "${pass_on[@]}" || exit 1
     is_given=1
-    (($(stat -c %s -- "$run/piece") < piece_bytes)) || is_more=1
+    ((size < piece_bytes)) || is_more=1
 }
 
 # Gives all that is there, and keeps the place after each piece.
@@ -133,6 +136,7 @@ catch_up() {
 # none after it is: what was given as it came is before the place.
 close_number() {
     ask "$here/boot-number" --next "$place,$known"
+    [[ $answer =~ ^[0-9]+$ ]] || fail "the rest of this boot gets no number"
     boot=$answer first=$known
     echo "feed: the account has $count names, so the errors of this boot from here on come under number $boot, and" \
         "the names of lower numbers are retired; sums and pages stay" >&2

@@ -70,7 +70,7 @@ if ($words =~ /--list-boots/) {{ pass_on("$room/boots") if -e "$room/boots" }}
 elsif (-e "$room/volatile" && $words !~ / $boot | -f /) {{ print STDERR "No such boot ID in journal\n"; exit 1 }}
 elsif ($words =~ / -n 1 /) {{
     # The other boots began later than the one that tests call the earlier one.
-    printf "__REALTIME_TIMESTAMP=%d000000\n__MONOTONIC_TIMESTAMP=5000000\n", $words =~ / {earlier} / ? 1400000005 : 1400001005;
+    printf "__REALTIME_TIMESTAMP=%d000000\n__MONOTONIC_TIMESTAMP=5000000\n", $words =~ / {earlier} / || -e "$room/same-second" ? 1400000005 : 1400001005;
 }}
 elsif ($words =~ / -f /) {{ note('words', "$words\n"); note('process', "$$\n"); print_log("$room/log", 1) }}
 elsif ($words =~ / $boot /) {{ print_log("$room/log") }}
@@ -159,6 +159,7 @@ class Service:
         stub.chmod(0o755)
         (self.room / "log").touch()
         (self.room / "rows").write_text(ROWS)
+        (self.room / "settings").touch()
         self.environment = {
             **{key: value for key, value in os.environ.items() if key not in SETTINGS},
             "PATH": f"{self.room}/bin:{os.environ['PATH']}",
@@ -171,10 +172,11 @@ class Service:
             "RASD_PSTORE": f"{self.room}/pstore",
             "RASD_BERT": f"{self.room}/bert",
             "RASD_EDAC": f"{self.room}/mc",
+            "RASD_SETTINGS": f"{self.room}/settings",
         }
         self.process = None
 
-    def start(self, *where, loud=False, wait=True):
+    def start(self, *where, loud=False, wait=True, begin=subprocess.Popen):
         """Begins the command, as the service manager does; if it is loud, the output has the lines that are left out. Without
         waiting, what comes before the command is begun with it.
         """
@@ -182,14 +184,14 @@ class Service:
         words = shlex.split(command)
         if loud:
             numbers = f"{SERVICE}/whole-lines --acknowledged {self.room}/acknowledged"
-            words[-1] = re.sub(r" > >\(.*\)$", f" > >(exec {numbers})", words[-1])
+            words[-1] = re.sub(r" > >\(.*\);", f" > >(exec {numbers});", words[-1])
         how = {"cwd": self.folder, "env": self.environment, "stdin": subprocess.DEVNULL}
         with open(self.room / "out", "wb") as out, open(self.room / "errors", "wb") as errors:
             if wait:
                 subprocess.run(shlex.split(before.lstrip("-")), stdout=out, stderr=errors, **how)
             else:
                 words = ["bash", "-c", '"$1"; shift; exec "$@"', "-", before.lstrip("-"), *words]
-            self.process = subprocess.Popen(words, stdout=out, stderr=errors, start_new_session=True, **how)
+            self.process = begin(words, stdout=out, stderr=errors, start_new_session=True, **how)
 
     def processes(self):
         """The command's processes that are left: all of its session."""
