@@ -7,6 +7,7 @@ import pathlib
 import re
 import shlex
 import signal
+import struct
 import subprocess
 import sys
 import tempfile
@@ -98,6 +99,12 @@ REPORT = (
     "[{0:5}.100005] node7 kernel: {{{0}}}[Hardware Error]:   physical_address: 0x{1:016x}\n"
     "[{0:5}.100006] node7 kernel: {{{0}}}[Hardware Error]:   node:1 card:0 module:2 rank:0 bank:3 row:12 column:8 \n"
 )
+# The kernel's own record of a fatal error in the second SECOND: struct mce as Linux 6.1 has it (arch/x86/include/uapi/asm/mce.h).
+# The stub of journalctl says that the earlier boot began in the second 1400000000, and others 1,000 seconds later.
+FATAL, SECOND = 0xBE00000000800400, 1400000900
+RECORD = struct.pack(
+    "<7Q4BI4B3IQ", FATAL, 0, 0, 5, 0, 0x123456789ABC, SECOND, 0, 0, 0, 0, 0x50654, 0, 4, 0, 0, 0, 0, 0, 0x100010A
+) + bytes(32)
 LATER = "[99999.000001] node7 kernel: eth0: up\n"
 # Other events of a trace. The first's text ends with a line feed of its own, so an empty line follows.
 PCIE = (

@@ -10,7 +10,7 @@ import typing
 
 from failing import Failing
 from servers import SKYLAKE, Server, dimms_of, letters
-from serving import BOOT, EARLIER, ERROR, LATER, MARK, PATIENCE, PCIE, PROGRAM, REPORT, SERVICE, TRACED
+from serving import BOOT, EARLIER, ERROR, LATER, MARK, PATIENCE, PCIE, PROGRAM, RECORD, REPORT, SECOND, SERVICE, TRACED
 
 MIDDLE = "76543210-89ab-cdef-0123-456789abcdef"
 # The board, the filters and rasd's run are the program, and journalctl and others are stubs.
@@ -102,15 +102,19 @@ class NumberBoots(Script):
         self.it.has_before("")
         (self.it.room / "boots").write_text("".join(f" {id.replace('-', '')} Mon\n" for id in (EARLIER, MIDDLE, BOOT)))
         (self.it.folder / "boots-before").write_text(f"6 {MIDDLE.replace('7', '8')} log\n")
+        (self.it.room / "pstore").mkdir()
+        (self.it.room / "pstore/mce-erst-7").write_bytes(RECORD)
+        os.utime(self.it.room / "pstore/mce-erst-7", (SECOND, SECOND))
+        (self.it.folder / "saved-logs").write_text("- 1400000000.0000000000 77/dmesg.txt\n")
 
     def left(self):
-        return texts(self.it.folder, "boot-number", "boots-before", "boots-numbered")
+        return texts(self.it.folder, "boot-number", "boots-before", "boots-numbered", "saved-logs")
 
     def wrong(self, ran, wanted, before, hit):
         got = self.left()
         # The number is the last file that is written.
-        is_early = got["boot-number"] == wanted[1]["boot-number"] and got["boots-before"] != wanted[1]["boots-before"]
-        return "numbered before the boots are noted" if is_early else super().wrong(ran, wanted, before, hit)
+        is_early = got["boot-number"] == wanted[1]["boot-number"] and got != wanted[1]
+        return "numbered before all is noted" if is_early else super().wrong(ran, wanted, before, hit)
 
 
 class BootNumber(Script):
@@ -335,6 +339,8 @@ class EarlierLines(Script):
             "PROCESSOR 0:50654 TIME 1400000900 SOCKET 0 APIC 0 microcode 1"), 1)]
         (it.room / "pstore/77").mkdir(parents=True)
         (it.room / "pstore/77/dmesg.txt").write_text("Panic#1 Part1\n" + "".join(saved))
+        (it.room / "pstore/mce-erst-7").write_bytes(RECORD)
+        (it.folder / "saved-logs").write_text("8 1.0 77/dmesg.txt\n8 1.0 mce-erst-7\n- 1.0 gone\n")
 
     def whole(self, ran):
         return sorted(ran.out.splitlines()), {}
