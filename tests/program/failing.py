@@ -111,7 +111,7 @@ class Call:
 
     def signature(self):
         """What it is known by: process numbers and the names of temporary files aren't the same in the next start."""
-        text = f"{self.words()} | {self.name} {PIPE.sub(':', self.file())}"
+        text = re.sub(r"/\S*/service/", "", f"{self.words()} | {self.name} {PIPE.sub(':', self.file())}")
         text = re.sub(r":[^ ]*$", "pipe", re.sub(r"rasd-\w+-\w{8}/?|/dev/shm/|/tmp/|tmp\.\w+", "", text))
         return re.sub(r"\b\d{3,}\b|\w{32}|[\w-]{36}", "N", text)
 
