@@ -72,7 +72,7 @@ find_last() {
 give_until() {
     local cursor=${ready%/*}/cursor until=$1 filter=("$program" lines log "$boot" "$cap" "$began" "$checks" "$reports") lines
     rm -f -- "$cursor" || fail "$cursor can't be removed"
-    { "$here/kernel-log" --settled "$cursor" --until "$until" -b "${boot_id//-/}" ${place:+"--after-cursor=$place"} &&
+    { "${perl_script[@]}" "$here/kernel-log" --settled "$cursor" --until "$until" -b "${boot_id//-/}" ${place:+"--after-cursor=$place"} &&
         echo "$log_end"; } | counted "${filter[@]}" || fail "the log can't be read"
     if [[ -n $trace ]]; then
         trace_lines | awk -v until="$until" -f "$here/stamp.awk" -f "$here/before.awk" |
@@ -87,6 +87,7 @@ give_until() {
 close_number() {
     count_names
     ask "$here/boot-number" --next "$place,$known"
+    [[ $answer =~ ^[0-9]+$ ]] || fail "the rest of this boot gets no number"
     boot=$answer no_error="bank $answer 0 0 0 0 $cap 0 0 0 0"
     echo "feed: the account has $count names, so the errors of this boot from here on come under number $boot, and" \
         "the names of lower numbers are retired; sums and pages stay" >&2

@@ -7,6 +7,7 @@ import pathlib
 import re
 import shlex
 import signal
+import struct
 import subprocess
 import sys
 import tempfile
@@ -80,7 +81,7 @@ elsif (-e "$room/volatile" && $words !~ / $boot | -f /) {{ print STDERR "No such
 elsif ($is_short) {{ print_log("$room/log"); print $last if $words =~ / -n 1/ }}
 elsif ($words =~ / -n 1 /) {{
     # The other boots began later than the one that tests call the earlier one.
-    printf "__REALTIME_TIMESTAMP=%d000000\n__MONOTONIC_TIMESTAMP=5000000\n", $words =~ / {earlier} / ? 1400000005 : 1400001005;
+    printf "__REALTIME_TIMESTAMP=%d000000\n__MONOTONIC_TIMESTAMP=5000000\n", $words =~ / {earlier} / || -e "$room/same-second" ? 1400000005 : 1400001005;
 }}
 elsif ($words =~ / -f /) {{ note('words', "$words\n"); note('process', "$$\n"); print_log("$room/log", 1) }}
 elsif ($words =~ / $boot /) {{ print_log("$room/log") }}
@@ -108,6 +109,12 @@ REPORT = (
     "[{0:5}.100005] node7 kernel: {{{0}}}[Hardware Error]:   physical_address: 0x{1:016x}\n"
     "[{0:5}.100006] node7 kernel: {{{0}}}[Hardware Error]:   node:1 card:0 module:2 rank:0 bank:3 row:12 column:8 \n"
 )
+# The kernel's own record of a fatal error in the second SECOND: struct mce as Linux 6.1 has it (arch/x86/include/uapi/asm/mce.h).
+# The stub of journalctl says that the earlier boot began in the second 1400000000, and others 1,000 seconds later.
+FATAL, SECOND = 0xBE00000000800400, 1400000900
+RECORD = struct.pack(
+    "<7Q4BI4B3IQ", FATAL, 0, 0, 5, 0, 0x123456789ABC, SECOND, 0, 0, 0, 0, 0x50654, 0, 4, 0, 0, 0, 0, 0, 0x100010A
+) + bytes(32)
 LATER = "[99999.000001] node7 kernel: eth0: up\n"
 # Other events of a trace. The first's text ends with a line feed of its own, so an empty line follows.
 PCIE = (
@@ -168,6 +175,7 @@ class Service:
         stub.chmod(0o755)
         (self.room / "log").touch()
         (self.room / "rows").write_text(ROWS)
+        (self.room / "settings").touch()
         self.environment = {
             **{key: value for key, value in os.environ.items() if key not in SETTINGS},
             "PATH": f"{self.room}/bin:{os.environ['PATH']}",
@@ -181,10 +189,11 @@ class Service:
             "RASD_PSTORE": f"{self.room}/pstore",
             "RASD_BERT": f"{self.room}/bert",
             "RASD_EDAC": f"{self.room}/mc",
+            "RASD_SETTINGS": f"{self.room}/settings",
         }
         self.process = None
 
-    def start(self, *where, loud=False, wait=True):
+    def start(self, *where, loud=False, wait=True, begin=subprocess.Popen):
         """Begins the command, as the service manager does; if it is loud, the output has the lines that say nothing new. Without
         waiting, what comes before the command is begun with it.
         """
@@ -198,7 +207,7 @@ class Service:
                 subprocess.run(shlex.split(before.lstrip("-")), stdout=out, stderr=errors, **how)
             else:
                 words = ["bash", "-c", '"$1"; shift; exec "$@"', "-", before.lstrip("-"), *words]
-            self.process = subprocess.Popen(words, stdout=out, stderr=errors, start_new_session=True, **how)
+            self.process = begin(words, stdout=out, stderr=errors, start_new_session=True, **how)
 
     def processes(self):
         """The command's processes that are left: all of its session."""
