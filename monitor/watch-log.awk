@@ -17,8 +17,7 @@ FILENAME == ARGV[1] { next }
     next
 }
 /^[a-z-]+: left out: # / { leave_out(reason_of(substr($0, index($0, "# ") + 2))); next }
-/^[a-z-]+: left out / { leave_out("unread"); next }
-/^feed: the trace has a gap/ { leave_out("gap") }
+/^[a-z-]+: left out / { leave_out("unread") }
 
 # A comment's first words, in one: of `# vendor=2 cpu=3 bank=4` vendor, of `# left out 12` left-out.
 function reason_of(text) {
@@ -27,9 +26,10 @@ function reason_of(text) {
     gsub(/ +/, "-", text)
     return text
 }
-# Linux makes a machine check of bank 255 of each report of the firmware, which counts; a torn report counts without its page.
+# Linux makes a machine check of bank 255 of each report of the firmware, which counts; a torn report counts without its page,
+# or from the trace; an event of eMCA comes as a machine check too.
 function leave_out(reason) {
-    if (reason ~ /^(firmware|torn|no-error|)$/) return
+    if (reason ~ /^(firmware|torn|no-error|extlog|)$/) return
     count[reason]++
     last[reason] = now
 }

@@ -86,8 +86,8 @@ class Machine:
         return self.text("cut -d ' ' -f 2 /var/lib/rasd/boot-number 2>/dev/null")
 
     def source(self):
-        """The source of this boot's errors."""
-        return self.text("cat /run/rasd-prepare/settings /etc/default/rasd 2>/dev/null | sed -n 's/^SOURCE=//p' | tail -n 1") or "log"
+        """Where this boot's errors come from."""
+        return "log and trace" if self.is_active("rasd-trace") else "log"
 
     def counts_both(self, channel, page):
         """Whether a corrected error comes to the account, and an uncorrected one that the kernel recovers."""
@@ -304,15 +304,12 @@ def panic(it):
 
 
 def source(it):
-    """the other source, chosen by SOURCE and nothing else"""
-    other = "log" if it.source() == "trace" else "trace"
-    it.text(f"sed -i '/^SOURCE=/d' /etc/default/rasd; echo SOURCE={other} >> /etc/default/rasd")
+    """the log alone, as on a machine that doesn't let its trace be read"""
+    it.text("systemctl mask rasd-trace")
     it.guest.reboot()
-    yield f"the unit runs with SOURCE={other}", it.comes_up()
-    if other == "trace":
-        yield "and so does rasd-trace", it.is_active("rasd-trace")
-        it.text("systemctl start rasd-trace")
+    yield "the unit runs without a trace", it.comes_up() and not it.is_active("rasd-trace")
     yield from it.counts_both(1, "34444")
+    it.text("systemctl unmask rasd-trace")
 
 
 def purge(it):
