@@ -13,7 +13,7 @@ FILENAME == ARGV[1] { next }
 # Errors of a retired boot come again at each start; one of this boot is lost.
 /^stale (bank|block)=[0-9]+\// {
     split($2, of, /[=\/]/)
-    if (boot != "" && of[2] + 0 >= boot + 0) leave_out("stale")
+    if (boot != "" && of[2] + 0 >= boot + 0) leave_out("stale", word("for"))
     next
 }
 /^[a-z-]+: left out: # / { leave_out(reason_of(substr($0, index($0, "# ") + 2))); next }
@@ -28,18 +28,19 @@ function reason_of(text) {
 }
 # Linux makes a machine check of bank 255 of each report of the firmware, which counts; a torn report counts without its page,
 # or from the trace; an event of eMCA comes as a machine check too.
-function leave_out(reason) {
+function leave_out(reason, times) {
     if (reason ~ /^(firmware|torn|no-error|extlog|)$/) return
-    count[reason]++
+    count[reason] += times ? times : 1
     last[reason] = now
 }
 function word(name,   i) {
     for (i = 3; i <= NF; i++) if (index($i, name "=") == 1) return substr($i, length(name) + 2)
     return ""
 }
+# A line with `for=` stands for several corrected errors, and has the sum of their weights (service/quiet.pl).
 function take_error(   second, weight, is_bad) {
     second = word("t")
-    weight = word("weight")
+    weight = word(word("for") ? "corrected" : "weight")
     if (second !~ /^[0-9]+$/ || weight !~ /^[0-9]+$/ || word("label") == "") return
     is_bad = word("class") ~ /^(UCNA|SRAO|SRAR|UC|recoverable|fatal)$/
     add(second - second % 3600 " " word("label"), is_bad ? 0 : weight, is_bad ? weight : 0)

@@ -1,6 +1,7 @@
 """The command of service/rasd.service in a separate folder, over a stub of journalctl; tests/program/service and
 tests/program/feed run it.
 """
+import collections
 import contextlib
 import os
 import pathlib
@@ -145,6 +146,18 @@ def holds(what, is_so):
     return bool(is_so)
 
 
+def stands_for(text):
+    """By label, of how many errors the lines speak, and the sums of their weights."""
+    sums = collections.defaultdict(lambda: [0, 0, 0])
+    for line in re.findall(r"(?m)^log .*$", text):
+        words = dict(word.partition("=")[::2] for word in line.split()[1:])
+        is_bad = words["class"] in ("UCNA", "SRAO", "SRAR", "UC", "recoverable", "fatal")
+        one = (1, 0, int(words["weight"])) if is_bad else (1, int(words["weight"]), 0)
+        more = (int(words["for"]), int(words["corrected"]), 0) if "for" in words else one
+        sums[words["label"]] = [a + b for a, b in zip(sums[words["label"]], more)]
+    return dict(sums)
+
+
 def settings(name, unit="rasd.service"):
     """What a unit says of a setting, line by line."""
     return re.findall(rf"^{name}=(.*)$", (SERVICE / unit).read_text(), re.M)
@@ -180,6 +193,7 @@ class Service:
             **{key: value for key, value in os.environ.items() if key not in SETTINGS},
             "PATH": f"{self.room}/bin:{os.environ['PATH']}",
             "MCG_CAP": "1000c14",
+            "QUIET_SECONDS": "0",
             "RASD": str(PROGRAM),
             "RASD_ROWS": f"{self.room}/rows",
             "RASD_MADE_ROWS": f"{self.room}/made",
@@ -197,6 +211,8 @@ class Service:
         """Begins the command, as the service manager does; if it is loud, the output has the lines that say nothing new. Without
         waiting, what comes before the command is begun with it.
         """
+        # A killed pass-lines leaves it; tests/program/quiet looks at that by itself.
+        (self.folder / "held-lines").unlink(missing_ok=True)
         before, command = (with_our_paths(settings(it)[0], *where) for it in ("ExecStartPre", "ExecStart"))
         words = shlex.split(command)
         if loud:
@@ -233,17 +249,17 @@ class Service:
         finally:
             self.stop(signal.SIGTERM)
 
-    def text(self, name="out"):
+    def text(self, name="out", folder=None):
         """What the command printed, or its errors, or another file, if it is there already."""
-        file = self.room / name
+        file = (folder or self.room) / name
         return file.read_text() if file.exists() else ""
 
-    def awaits(self, text, name="out", seconds=PATIENCE):
+    def awaits(self, text, name="out", seconds=PATIENCE, folder=None):
         """Whether this is printed in time."""
         end = time.monotonic() + seconds
-        while text not in self.text(name) and time.monotonic() < end:
+        while text not in self.text(name, folder) and time.monotonic() < end:
             time.sleep(0.01)
-        return text in self.text(name)
+        return text in self.text(name, folder)
 
     def awaits_names(self, count):
         """Whether the account has so many names in time, while the command goes on."""
