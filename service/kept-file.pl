@@ -10,7 +10,6 @@ use strict;
 use warnings;
 use Errno qw(EINVAL EIO ENOSPC);
 use Fcntl qw(O_RDONLY O_RDWR O_APPEND O_CREAT O_NOFOLLOW O_DIRECTORY SEEK_SET SEEK_CUR);
-use IO::Handle;
 
 sub new {
     my ($class, $name, $times) = @_;
@@ -77,11 +76,17 @@ sub is_full {
     return $self->is_open && $self->{size} && $self->{size} + $length > $self->{most};
 }
 
+# Syncs a file or folder; false if a call fails. The module takes a megabyte, so it is loaded once there is something to sync.
+sub is_synced {
+    require IO::Handle;
+    return IO::Handle::sync(shift);
+}
+
 # Syncs the folder, so that a crash leaves the files' names as they are; false if a call fails.
 sub is_folder_synced {
     my $self = shift;
     sysopen my $folder, $self->{folder}, O_RDONLY | O_DIRECTORY or return 0;
-    return $folder->sync;
+    return is_synced($folder);
 }
 
 # Lets the file become FILE.old, and begins a new one, if a text has no room; false if a call fails.
@@ -130,7 +135,7 @@ sub sync {
     my $self = shift;
     return if !$self->is_dirty;
     @$self{qw(dirty synced)} = (0, time);
-    if ($self->{handle}->sync) { $self->{unsynced} = 0 }
+    if (is_synced($self->{handle})) { $self->{unsynced} = 0 }
     elsif (!$self->{unsynced}++) { say_words("$self->{name} can't be synced: $!") }
 }
 

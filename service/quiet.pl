@@ -13,14 +13,17 @@ use strict;
 use warnings;
 use Errno qw(ENOENT);
 use Fcntl qw(O_RDWR O_CREAT O_NOFOLLOW SEEK_SET);
-use POSIX ();
 
 my $MOST_GROUPS = 100;
 my $CORRECTED = qr/^log \S+ t=(\d+) class=(?:CE|corrected|informational) weight=(\d+) label=(\S+) /;
-my $ticks = POSIX::sysconf(POSIX::_SC_CLK_TCK());
+# A module with clocks would take as much memory as the rest of the process.
+open my $uptime, '<', '/proc/uptime';
 
-# Returns the seconds of a clock that nobody sets.
-sub now { return (POSIX::times())[0] / $ticks }
+# Returns the seconds of a clock that nobody sets, or of the one that is set if it can't be read.
+sub now {
+    my $text = '';
+    return $uptime && sysseek($uptime, 0, SEEK_SET) && sysread($uptime, $text, 99) && $text =~ /^(\d+\.\d+) / ? $1 : time;
+}
 
 sub new {
     my ($class, $seconds, $file) = @_;
@@ -155,7 +158,7 @@ sub keep {
 # Removes the file, once what was held is written.
 sub end {
     my $self = shift;
-    return if !$self->{handle};
+    return if !$self->{seconds};
     unlink $self->{file} or $! == ENOENT or KeptFile::say_words("$self->{file} can't be removed: $!");
 }
 
