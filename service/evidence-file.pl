@@ -17,7 +17,7 @@ sub new {
     my ($class, $name) = @_;
     # The lines that the file has, and its heads by what they are about.
     my $self = bless { file => KeptFile->new($name, 1), known => {}, heads => {} }, $class;
-    $self->{file}->reads(sub { $self->new_of($_[0]) })
+    $self->{file}->reads(sub { $self->learn($_[0]) })
         or KeptFile::say_words("$name can't be read, so lines may be there twice: $!");
     return $self;
 }
@@ -26,7 +26,9 @@ sub file { return $_[0]{file} }
 
 # Whether a line makes a report: a bank without a valid error makes none.
 sub is_report {
-    return $_[0] =~ /^(?:bank +(?:\S+ +){7}[89a-fA-F][0-9a-fA-F]{15}\s|(?:panic|ghes|bert|put) )/;
+    # As the filters print it; the rest is for lines by hand.
+    return $_[0] =~ /^bank (?>(?:\S+ ){7})[89a-f][0-9a-f]{15} / || $_[0] =~ /^(?:panic|ghes|bert|put) /
+        || $_[0] =~ /^bank +(?>(?:\S+ +){7})[89a-f][0-9a-f]{15}\s/i;
 }
 
 # Returns what a line is about, if the service has to know it of later reports: a CPU's socket, a socket's PPIN, a DIMM.
@@ -34,13 +36,27 @@ sub head_of {
     return $_[0] =~ /^(cpu \d+|# ppin \d+|# dimm\t[^\t\n]+)\s/ ? $1 : undef;
 }
 
+# Returns the part of a line by which it is known.
+sub key_of { return length $_[0] > $MOST_KNOWN ? substr $_[0], 0, $MOST_KNOWN : $_[0] }
+
+# Takes lines that the file has.
+sub learn {
+    my ($self, $lines) = @_;
+    for my $line (split /^/m, $lines) {
+        if ($line =~ /^[c#]/) { $self->{heads}{head_of($line) // next} = $line }
+        else { $self->{known}{key_of($line)} = undef }
+    }
+}
+
 # Returns what is to be kept of whole lines.
 sub new_of {
     my ($self, $lines) = @_;
     my ($known, $heads, $text) = (@$self{qw(known heads)}, '');
     for my $line (split /^/m, $lines) {
+        my $key = key_of($line);
+        next if exists $known->{$key};
         if (is_report($line)) {
-            next if $known->{substr $line, 0, $MOST_KNOWN}++;
+            $known->{$key} = undef;
         } else {
             my $about = head_of($line) // next;
             next if ($heads->{$about} // '') eq $line;
