@@ -76,7 +76,7 @@ give_until() {
         echo "$log_end"; } | counted "${filter[@]}" || fail "the log can't be read"
     if [[ -n $trace ]]; then
         trace_lines | awk -v until="$until" -f "$here/stamp.awk" -f "$here/before.awk" |
-            "$program" lines trace "$boot" "$cap" "$began" || fail "$trace can't be read"
+            "$program" lines trace "$boot" "$cap" "$began" "${drivers[@]}" || fail "$trace can't be read"
         lines=$(trace_lines | awk -v until="$until" -f "$here/stamp.awk" -f "$here/before.awk" | wc -l) || fail "$trace can't be read"
         known=$((known + lines))
     fi
