@@ -7,8 +7,8 @@
 # usage: require "$here/copies.pl"; my $copies = Copies->new(DRIVERS, SUB); each of its methods says what it does
 #
 # So a comment of a trace is a copy if a memory error comes right behind it, and one of the log if the trace has a copy of the same
-# bank then. SUB says all other comments: those of a trace within seconds, those of the log after 20. If DRIVERS isn't `edac`
-# (service/prepare), no comment is a copy, and SUB says each at once.
+# bank then. SUB says all other comments: those of a trace within seconds, those of the log after 20, or later while there is more
+# to read. If DRIVERS isn't `edac` (service/prepare), no comment is a copy, and SUB says each at once.
 package Copies;
 use strict;
 use warnings;
@@ -87,11 +87,15 @@ sub settle {
     $self->{say}->($last->[0]) if $last;
 }
 
-# Says what has waited long enough.
+# Says what has waited long enough. While rasd is behind, the sources aren't read, and the trace, which has more lines, is behind
+# the log: then the log's comments wait longer.
 sub say_due {
-    my ($self, $now) = @_;
+    my ($self, $now, $is_idle) = @_;
+    return if !defined $self->{live};
+    my $late = $is_idle ? $LATE : 30 * $LATE;
+    $self->say_held($now - $late) if $now - $self->{live} >= $late;
+    return if !$is_idle;
     for my $source (keys %{ $self->{last} }) { $self->settle($source) if $now - $self->{last}{$source}[1] >= $SOON }
-    $self->say_held($now - $LATE) if defined $self->{live} && $now - $self->{live} >= $LATE;
 }
 
 # Says all that waits.

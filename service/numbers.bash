@@ -75,12 +75,12 @@ give_until() {
     { "${perl_script[@]}" "$here/kernel-log" --settled "$cursor" --until "$until" -b "${boot_id//-/}" ${place:+"--after-cursor=$place"} &&
         echo "$log_end"; } | counted "${filter[@]}" || fail "the log can't be read"
     if [[ -n $trace ]]; then
-        echo '# feed: trace'
+        echo '# feed: trace' || fail "the lines can't be printed"
         trace_lines | awk -v until="$until" -f "$here/stamp.awk" -f "$here/before.awk" |
             "$program" lines trace "$boot" "$cap" "$began" "${drivers[@]}" || fail "$trace can't be read"
         lines=$(trace_lines | awk -v until="$until" -f "$here/stamp.awk" -f "$here/before.awk" | wc -l) || fail "$trace can't be read"
         known=$((known + lines))
-        echo '# feed: log'
+        echo '# feed: log' || fail "the lines can't be printed"
     fi
     ! has "$cursor" || read -r place <"$cursor" || fail "$cursor can't be read"
 }
