@@ -9,7 +9,7 @@ import time
 import typing
 
 from failing import Failing
-from servers import SKYLAKE, Server, dimms_of, letters
+from servers import SKYLAKE, Epyc, Server, dimms_of, epyc_dimms, letters
 from serving import BOOT, EARLIER, ERROR, LATER, MARK, PATIENCE, PCIE, PROGRAM, RECORD, REPORT, SECOND, SERVICE, TRACED
 
 MIDDLE = "76543210-89ab-cdef-0123-456789abcdef"
@@ -191,6 +191,26 @@ class Setup(Script):
         # A label may lack a part of what names it, with a message.
         is_told = ran.status == 0 and ran.said != self.usual
         return "" if is_told else super().fault(ran, wanted, before, hit)
+
+
+class SetupDrivers(Setup):
+    """A server of AMD's: each rank has a line `place`."""
+
+    def lay_out(self):
+        board = {"board_vendor": "Maker", "board_name": "Board X", "product_name": "Power 940"}
+        server = Epyc(self.it.room, "server", epyc_dimms(1, 2, 2), sockets=1, board=board, ras=lambda _: True)
+        names = {"RASD_EDAC": "mc", "RASD_CPUINFO": "cpuinfo", "RASD_DMI": "dmi", "RASD_LABELS": "etc"}
+        self.environment.update({key: str(server.folder / it) for key, it in names.items()}, SERIALS="yes")
+        self.environment["PATH"] = f"{server.folder}/bin:{self.environment['PATH']}"
+
+    def fault(self, ran, wanted, before, hit):
+        if ran.status == 0:
+            rows = [re.findall(r"(?m)^place ([^# ]+)\S* (\d+ \d+ \d+)$", text) for text in (ran.out, wanted[0])]
+            right = {place: {name, "M{0}.C{2}.D{3}".format(*place.split(), int(place.split()[1]) // 2)} for name, place in rows[1]}
+            wrong = [(name, place) for name, place in rows[0] if name not in right[place]]
+            if wrong or len(rows[0]) != len(rows[1]):
+                return f"wrong places: {wrong} of {len(rows[0])}"
+        return super().fault(ran, wanted, before, hit)
 
 
 class KeepTrace(Script):
@@ -478,7 +498,7 @@ class FeedTrace(Feed):
 
 
 SUBJECTS = {
-    "number-boots": NumberBoots, "boot-number": BootNumber, "prepare": Prepare, "setup": Setup, "keep-trace": KeepTrace,
+    "number-boots": NumberBoots, "boot-number": BootNumber, "prepare": Prepare, "setup": Setup, "setup-drivers": SetupDrivers, "keep-trace": KeepTrace,
     "keep-new-trace": KeepNewTrace, "tell": Tell, "settle": Settle, "kernel-log": KernelLog, "settled-log": SettledLog,
     "earlier-lines": EarlierLines, "earlier-trace": EarlierTrace, "offline": Offline, "feed": Feed, "feed-trace": FeedTrace,
 }
