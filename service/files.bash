@@ -11,6 +11,10 @@ script_name=${0##*/}
 # Perl takes a script that it can't read for an empty one, which does nothing and ends with status 0. `require` doesn't.
 # shellcheck disable=SC2034
 perl_script=(perl -e 'require shift')
+# So does bash, if it can't look at the script that it has opened. `source` says so, and a script that this calls ends with `exit`,
+# or with status 0.
+# shellcheck disable=SC2016,SC2034
+bash_script=(bash -c 'source "$0" "$@" || exit 75')
 
 refuse() {
     echo "$script_name: $*" >&2
