@@ -15,8 +15,8 @@ find_trace() {
     local found
     trace='' checks=- reports=-
     has "$traces/trace.$1" || return 0
-    found=$(awk -f "$here/stamp.awk" -f "$here/since.awk" -- "$traces/trace.$1") || fail "$traces/trace.$1 can't be read"
-    read -r checks reports <<<"$found"
+    found=$(awk -f "$here/stamp.awk" -f "$here/since.awk" -- "$traces/trace.$1") && read -r checks reports <<<"$found" &&
+        [[ -n $reports ]] || fail "$traces/trace.$1 can't be read"
     trace=$traces/trace.$1
 }
 

@@ -32,8 +32,8 @@ class Script:
     most = 6
     # Whether what one call has brought stays.
     is_kept = False
-    # What an undisturbed call says.
-    usual = ""
+    # What an undisturbed call says, and in which room.
+    usual, usual_room = "", "-"
     before_words, words = (), ()
 
     def __init__(self, it):
@@ -65,6 +65,11 @@ class Script:
     def whole(self, ran):
         """All that a call has brought."""
         return ran.out, self.left()
+
+    def news(self, ran):
+        """What was said beside the usual."""
+        usual = {line.replace(self.usual_room, str(self.it.room)) for line in self.usual.splitlines()}
+        return "\n".join(line for line in ran.said.splitlines() if line not in usual)
 
     def fault(self, ran, wanted, before, hit):
         """What is wrong after a failed call, or nothing."""
@@ -165,8 +170,9 @@ class Prepare(Script):
 
     def fault(self, ran, wanted, before, hit):
         fault = super().fault(ran, wanted, before, hit)
-        # An older version's rows count in place of new ones if they can't be dropped.
-        return "" if fault.startswith("not all") and "they count, in place of new ones" in ran.said else fault
+        # Something may be missing, with a message that says more than how many DIMMs there are.
+        news = re.sub(r"(?m)^prepare: \d+ DIMMs .*|^setup: \d+ DIMMs have no name .*|^prepare: .* has its own lines .*", "", self.news(ran))
+        return "" if fault.startswith("not all") and news.strip() else fault
 
 
 class Setup(Script):
@@ -189,7 +195,7 @@ class Setup(Script):
         if ran.status == 0 and alone:
             return f"a label of one of several DIMMs: {alone[0]}"
         # A label may lack a part of what names it, with a message.
-        is_told = ran.status == 0 and ran.said != self.usual
+        is_told = ran.status == 0 and self.news(ran)
         return "" if is_told else super().fault(ran, wanted, before, hit)
 
 
@@ -280,6 +286,9 @@ class Settle(Script):
 
     def whole(self, ran):
         return sorted(self.synced), {}
+
+    def wrong(self, ran, wanted, before, hit):
+        return "" if ran.status == 4 or ran.status < 0 else "a status that rasd has for something else"
 
 
 class Synced:
@@ -482,10 +491,6 @@ class PassLines(Script):
     def whole(self, ran):
         return sorted(self.it.report("names").splitlines()), sorted(self.evidence("given")), len(self.evidence("logged")), stands_for(ran.out)
 
-    def news(self, ran):
-        """What was said beside the usual."""
-        return "\n".join(line for line in ran.said.splitlines() if line not in self.usual)
-
     def fault(self, ran, wanted, before, hit):
         self.ran = ran
         if ran.status == -99:
@@ -556,9 +561,11 @@ class Feed(Script):
             return f"it ended for good: {ran.out[-200:]}"
         if ran.status == 0 and names != wanted[0]:
             return "it goes on, and not all is counted"
-        if ran.status > 200 and not 200 <= ran.status <= 206:
+        if ran.status > 206 and ran.status != 275:
             return "an odd status"
-        return "" if ran.said or ran.status in (0, 200) else "no word of it"
+        # Of rasd's statuses and of a signal service/say-status says what they mean.
+        is_told = ran.status < 200 or 203 <= ran.status <= 206 or self.news(ran)
+        return "" if ran.status == 0 or is_told else "no word of it"
 
 
 class FeedTrace(Feed):
