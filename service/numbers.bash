@@ -65,9 +65,10 @@ find_end() {
 # Sets until to a time after all reports that there are, and waits until both log and trace have them.
 find_last() {
     local logged traced
-    logged=$(entry_times -n 1 | awk -f "$here/stamp.awk" -f "$here/last.awk") && [[ -n $logged ]] || fail "the log can't be read"
-    traced=$(trace_lines | tail -n 99 | awk -f "$here/stamp.awk" -f "$here/last.awk") && [[ -n $traced ]] ||
-        fail "$trace can't be read"
+    logged=$(entry_times -n 1 | awk -f "$here/stamp.awk" -f "$here/last.awk") || logged=''
+    [[ -n $logged ]] || fail "the log can't be read"
+    traced=$(trace_lines | tail -n 99 | awk -f "$here/stamp.awk" -f "$here/last.awk") || traced=''
+    [[ -n $traced ]] || fail "$trace can't be read"
     until=$(((logged > traced ? logged : traced) + 1))
     sleep "${RASD_LAG:-5}"
 }
@@ -81,8 +82,8 @@ give_until() {
     if [[ -n $trace ]]; then
         trace_lines | awk -v until="$until" -f "$here/stamp.awk" -f "$here/before.awk" |
             "$program" lines trace "$boot" "$cap" "$began" || fail "$trace can't be read"
-        lines=$(trace_lines | awk -v until="$until" -f "$here/stamp.awk" -f "$here/before.awk" | wc -l) && [[ -n $lines ]] ||
-            fail "$trace can't be read"
+        lines=$(trace_lines | awk -v until="$until" -f "$here/stamp.awk" -f "$here/before.awk" | wc -l) || lines=''
+        [[ -n $lines ]] || fail "$trace can't be read"
         known=$((known + lines))
     fi
     ! has "$cursor" || read -r place <"$cursor" || fail "$cursor can't be read"
@@ -113,7 +114,8 @@ find_given() {
         given=$time
     else
         # A version before this one may have given errors, or somebody may have removed the file.
-        names=$("$program" report names) && [[ $names == *' names='* ]] || fail "the account can't be read: $names"
+        names=$("$program" report names) || fail "the account can't be read: $names"
+        [[ $names == *' names='* ]] || fail "the account can't be read: $names"
         [[ ! $'\n'$names =~ $'\n'(bank|block)=0*$boot/ ]] || given=-
     fi
 }

@@ -547,8 +547,10 @@ class Feed(Script):
                 break
             time.sleep(0.1)
         status = it.process.poll()
+        # What comes behind is said of the end that the test brings.
+        said = it.text("errors")
         it.stop(signal.SIGTERM if status is None else signal.SIGKILL)
-        return Ran(0 if status is None else 200 + status, it.text(), it.text("errors"))
+        return Ran(0 if status is None else 200 + status, it.text(), said)
 
     def whole(self, ran):
         return sorted(self.it.report("names").splitlines()), {}
