@@ -39,10 +39,14 @@ has() {
     [[ -z ${1##*/} || $'\n'$names == *$'\n'"${1##*/}"$'\n'* ]]
 }
 
-# Ends the script unless a file is of a kind, `-f` or `-p`: a false test may also be a failed call.
+# Ends the script unless a file is of a kind, `-f` or `-p`: a false test may also be a failed call, so it is of another kind only
+# if that test is true.
 need_kind() {
-    [[ ($1 != -f || ! -f $2) && ($1 != -p || ! -p $2) ]] || return 0
-    [[ ! -f $2 && ! -p $2 && ! -d $2 && ! -S $2 && ! -b $2 && ! -c $2 ]] || refuse "$2 isn't a $3"
+    local kind
+    ! test "$1" "$2" || return 0
+    for kind in -f -p -d -S -b -c; do
+        [[ $kind == "$1" ]] || ! test "$kind" "$2" || refuse "$2 isn't a $3"
+    done
     fail "$2 can't be read"
 }
 

@@ -117,6 +117,8 @@ class NumberBoots(Script):
 
     def wrong(self, ran, wanted, before, hit):
         got = self.left()
+        if ran.status == 1:
+            return "it says that somebody has to change something"
         # The number is the last file that is written.
         is_early = got["boot-number"] == wanted[1]["boot-number"] and got != wanted[1]
         return "numbered before all is noted" if is_early else super().wrong(ran, wanted, before, hit)
@@ -133,6 +135,9 @@ class BootNumber(Script):
 
     def left(self):
         return texts(self.it.folder, "boot-number")
+
+    def wrong(self, ran, wanted, before, hit):
+        return "it says that somebody has to change something" if ran.status == 1 else super().wrong(ran, wanted, before, hit)
 
 
 class Prepare(Script):
