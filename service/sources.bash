@@ -18,8 +18,9 @@ find_trace() {
     local found
     trace='' checks=- reports=-
     has "$traces/trace.$1" || return 0
-    found=$(awk -f "$here/stamp.awk" -f "$here/since.awk" -- "$traces/trace.$1") || fail "$traces/trace.$1 can't be read"
+    found=$(awk -f "$here/stamp.awk" -f "$here/since.awk" -- "$traces/trace.$1") || found=''
     read -r checks reports <<<"$found"
+    [[ -n $reports ]] || fail "$traces/trace.$1 can't be read"
     trace=$traces/trace.$1
 }
 
