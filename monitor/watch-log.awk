@@ -16,6 +16,8 @@ FILENAME == ARGV[1] { next }
     if (boot != "" && of[2] + 0 >= boot + 0) leave_out("stale", word("for"))
     next
 }
+# Linux makes it up of a report of the firmware, which counts (arch/x86/kernel/cpu/mce/apei.c line 48 of linux-source-6.1 6.1.192-3).
+/^[a-z-]+: left out: # vendor=[0-9]+ cpu=[0-9]+ bank=255( |$)/ { next }
 /^[a-z-]+: left out: # / { leave_out(reason_of(substr($0, index($0, "# ") + 2))); next }
 /^[a-z-]+: left out / { leave_out("unread") }
 
@@ -26,7 +28,7 @@ function reason_of(text) {
     gsub(/ +/, "-", text)
     return text
 }
-# Linux makes a machine check of bank 255 of each report of the firmware, which counts; a torn report counts without its page,
+# `firmware` is such a machine check of an Intel processor; a torn report counts without its page,
 # or from the trace; an event of eMCA comes as a machine check too.
 function leave_out(reason, times) {
     if (reason ~ /^(firmware|torn|no-error|extlog|)$/) return

@@ -11,6 +11,10 @@ script_name=${0##*/}
 # Perl takes a script that it can't read for an empty one, which does nothing and ends with status 0. `require` doesn't.
 # shellcheck disable=SC2034
 perl_script=(perl -e 'require shift')
+# So does bash, if it can't look at the script that it has opened. `source` says so, and a script that this calls ends with `exit`,
+# or with status 0.
+# shellcheck disable=SC2016,SC2034
+bash_script=(bash -c 'source "$0" "$@" || exit 75')
 
 refuse() {
     echo "$script_name: $*" >&2
@@ -35,10 +39,14 @@ has() {
     [[ -z ${1##*/} || $'\n'$names == *$'\n'"${1##*/}"$'\n'* ]]
 }
 
-# Ends the script unless a file is of a kind, `-f` or `-p`: a false test may also be a failed call.
+# Ends the script unless a file is of a kind, `-f` or `-p`: a false test may also be a failed call, so it is of another kind only
+# if that test is true.
 need_kind() {
-    [[ ($1 != -f || ! -f $2) && ($1 != -p || ! -p $2) ]] || return 0
-    [[ ! -f $2 && ! -p $2 && ! -d $2 && ! -S $2 && ! -b $2 && ! -c $2 ]] || refuse "$2 isn't a $3"
+    local kind
+    ! test "$1" "$2" || return 0
+    for kind in -f -p -d -S -b -c; do
+        [[ $kind == "$1" ]] || ! test "$kind" "$2" || refuse "$2 isn't a $3"
+    done
     fail "$2 can't be read"
 }
 

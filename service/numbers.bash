@@ -52,9 +52,12 @@ trace_lines() {
 find_end() {
     local logged traced
     # journalctl's status is 1 if no entry has the pattern.
-    logged=$(entry_times -g "$first_line" | awk -v most="$piece_lines" -f "$here/stamp.awk" -f "$here/many.awk") || (($? == 1)) ||
-        fail "the log can't be read"
-    traced=$(trace_lines | awk -v most="$piece_lines" -f "$here/stamp.awk" -f "$here/many.awk") || fail "$trace can't be read"
+    logged=$(entry_times -g "$first_line" | awk -v most="$piece_lines" -f "$here/stamp.awk" -f "$here/many.awk" || (($? == 1)) &&
+        echo .)
+    [[ $logged == *. ]] || fail "the log can't be read"
+    traced=$(trace_lines | awk -v most="$piece_lines" -f "$here/stamp.awk" -f "$here/many.awk" && echo .)
+    [[ $traced == *. ]] || fail "$trace can't be read"
+    logged=${logged//[^0-9]/} traced=${traced//[^0-9]/}
     until=$logged
     [[ -z $traced || (-n $until && $until -le $traced) ]] || until=$traced
 }
@@ -62,8 +65,10 @@ find_end() {
 # Sets until to a time after all reports that there are, and waits until both log and trace have them.
 find_last() {
     local logged traced
-    logged=$(entry_times -n 1 | awk -f "$here/stamp.awk" -f "$here/last.awk") || fail "the log can't be read"
-    traced=$(trace_lines | tail -n 99 | awk -f "$here/stamp.awk" -f "$here/last.awk") || fail "$trace can't be read"
+    logged=$(entry_times -n 1 | awk -f "$here/stamp.awk" -f "$here/last.awk") || logged=''
+    [[ -n $logged ]] || fail "the log can't be read"
+    traced=$(trace_lines | tail -n 99 | awk -f "$here/stamp.awk" -f "$here/last.awk") || traced=''
+    [[ -n $traced ]] || fail "$trace can't be read"
     until=$(((logged > traced ? logged : traced) + 1))
     sleep "${RASD_LAG:-5}"
 }
@@ -75,10 +80,13 @@ give_until() {
     { "${perl_script[@]}" "$here/kernel-log" --settled "$cursor" --until "$until" -b "${boot_id//-/}" ${place:+"--after-cursor=$place"} &&
         echo "$log_end"; } | counted "${filter[@]}" || fail "the log can't be read"
     if [[ -n $trace ]]; then
+        echo '# feed: trace' || fail "the lines can't be printed"
         trace_lines | awk -v until="$until" -f "$here/stamp.awk" -f "$here/before.awk" |
-            "$program" lines trace "$boot" "$cap" "$began" || fail "$trace can't be read"
-        lines=$(trace_lines | awk -v until="$until" -f "$here/stamp.awk" -f "$here/before.awk" | wc -l) || fail "$trace can't be read"
+            "$program" lines trace "$boot" "$cap" "$began" "${drivers[@]}" || fail "$trace can't be read"
+        lines=$(trace_lines | awk -v until="$until" -f "$here/stamp.awk" -f "$here/before.awk" | wc -l) || lines=''
+        [[ -n $lines ]] || fail "$trace can't be read"
         known=$((known + lines))
+        echo '# feed: log' || fail "the lines can't be printed"
     fi
     ! has "$cursor" || read -r place <"$cursor" || fail "$cursor can't be read"
 }
@@ -89,6 +97,7 @@ close_number() {
     ask "$here/boot-number" --next "$place,$known"
     [[ $answer =~ ^[0-9]+$ ]] || fail "the rest of this boot gets no number"
     boot=$answer no_error="bank $answer 0 0 0 0 $cap 0 0 0 0"
+    echo "# feed: number $boot"
     echo "feed: the account has $count names, so the errors of this boot from here on come under number $boot, and" \
         "the names of lower numbers are retired; sums and pages stay" >&2
     echo "retire $boot"
@@ -108,6 +117,7 @@ find_given() {
     else
         # A version before this one may have given errors, or somebody may have removed the file.
         names=$("$program" report names) || fail "the account can't be read: $names"
+        [[ $names == *' names='* ]] || fail "the account can't be read: $names"
         [[ ! $'\n'$names =~ $'\n'(bank|block)=0*$boot/ ]] || given=-
     fi
 }

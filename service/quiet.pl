@@ -37,13 +37,15 @@ sub new {
     return $self;
 }
 
-# Opens the file; false if it can't be opened, or is a symlink or no file.
+# Opens the file, or makes it, unless it is a symlink or no file. Returns whether it was there.
 sub opens_file {
-    my ($self, $flags) = @_;
-    my $is_open = sysopen my $handle, $self->{file}, O_RDWR | O_NOFOLLOW | $flags, 0640;
+    my $self = shift;
+    my $is_open = sysopen my $handle, $self->{file}, O_RDWR | O_NOFOLLOW;
+    my $is_new = !$is_open && $! == ENOENT;
+    $is_open = sysopen $handle, $self->{file}, O_RDWR | O_NOFOLLOW | O_CREAT, 0640 if $is_new;
     if ($is_open && -f $handle) {
         $self->{handle} = $handle;
-        return 1;
+        return !$is_new;
     }
     KeptFile::say_words("$self->{file} can't be opened, so after a kill lines may be missing: " . ($is_open ? 'it is no file' : $!));
     return 0;
@@ -52,9 +54,8 @@ sub opens_file {
 # Passes on what one that was killed held, if one was.
 sub begin {
     my $self = shift;
-    my $is_new = !lstat $self->{file};
     $self->{is_changed} = 1;
-    $self->opens_file($is_new && $! == ENOENT ? O_CREAT : 0) && !$is_new or return;
+    $self->opens_file or return;
     KeptFile::say_words('it was killed, or the machine crashed, so lines of rasd may be missing here, or come twice: rasd report counts has all');
     my $got = sysread $self->{handle}, my $text, 1 << 20;
     # It was killed before it wrote.

@@ -8,6 +8,9 @@ program=${RASD:-/usr/libexec/rasd/rasd}
 traces=${RASD_TRACE:-/var/lib/rasd-trace}
 # A line later than any: it ends the last report of a complete log.
 log_end='[999999999999.000000] the end'
+# The trace's filter gets this word if each event of EDAC's drivers is an error: service/prepare has found out.
+drivers=()
+[[ ${DRIVERS-} != edac ]] || drivers=(edac)
 
 # Sets trace to the file of a boot's trace, or to nothing, checks to the time of the boot, in microseconds, from which it has
 # machine checks, and reports to the time from which it has the firmware's memory errors: - if it never has them.
@@ -15,8 +18,9 @@ find_trace() {
     local found
     trace='' checks=- reports=-
     has "$traces/trace.$1" || return 0
-    found=$(awk -f "$here/stamp.awk" -f "$here/since.awk" -- "$traces/trace.$1") || fail "$traces/trace.$1 can't be read"
+    found=$(awk -f "$here/stamp.awk" -f "$here/since.awk" -- "$traces/trace.$1") || found=''
     read -r checks reports <<<"$found"
+    [[ -n $reports ]] || fail "$traces/trace.$1 can't be read"
     trace=$traces/trace.$1
 }
 

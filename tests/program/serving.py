@@ -133,7 +133,7 @@ MEMORY = (
     "bank:3 row:12 column:8 DIMM location: DIMM_B3 status(0x0000000000000400): Storage error in DRAM memory)\n"
 )
 EVENTS = "mce_record aer_event non_standard_event"
-SETTINGS = ("MCG_CAP", "BOOTS_KEPT")
+SETTINGS = ("MCG_CAP", "BOOTS_KEPT", "DRIVERS")
 ROWS = "cpu 0 0\nmodule DIMM_A1 0 7 0\nmodule-limit 4 86400"
 # The feed's last line before the first error is a bank without an error, behind rows, another one, a table, and a poll.
 HEAD = 8

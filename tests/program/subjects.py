@@ -9,12 +9,12 @@ import time
 import typing
 
 from failing import Failing
-from servers import SKYLAKE, Server, dimms_of, letters
-from serving import BOOT, EARLIER, ERROR, LATER, MARK, PATIENCE, PCIE, PROGRAM, RECORD, REPORT, SECOND, SERVICE, TRACED
+from servers import SKYLAKE, Epyc, Server, dimms_of, epyc_dimms, letters
+from serving import BOOT, EARLIER, ERROR, LATER, MARK, PATIENCE, PCIE, PROGRAM, RECORD, REPORT, SECOND, SERVICE, TRACED, stands_for
 
 MIDDLE = "76543210-89ab-cdef-0123-456789abcdef"
-# The board, the filters and rasd's run are the program, and journalctl and others are stubs.
-NOT_OURS = re.compile(r"(env )?(perl journalctl|bash (dmidecode|lscpu)|rasd run|ras_cli run|\S*python3 -S)")
+# The board, the filters and rasd's run are the program, and journalctl, a feed and others are stubs.
+NOT_OURS = re.compile(r"(env )?(perl (journalctl|feeding)|bash (dmidecode|lscpu)|rasd run|ras_cli run|\S*python3 -S)")
 
 
 class Ran(typing.NamedTuple):
@@ -32,8 +32,8 @@ class Script:
     most = 6
     # Whether what one call has brought stays.
     is_kept = False
-    # What an undisturbed call says.
-    usual = ""
+    # What an undisturbed call says, and in which room.
+    usual, usual_room = "", "-"
     before_words, words = (), ()
 
     def __init__(self, it):
@@ -65,6 +65,11 @@ class Script:
     def whole(self, ran):
         """All that a call has brought."""
         return ran.out, self.left()
+
+    def news(self, ran):
+        """What was said beside the usual."""
+        usual = {line.replace(self.usual_room, str(self.it.room)) for line in self.usual.splitlines()}
+        return "\n".join(line for line in ran.said.splitlines() if line not in usual)
 
     def fault(self, ran, wanted, before, hit):
         """What is wrong after a failed call, or nothing."""
@@ -112,6 +117,8 @@ class NumberBoots(Script):
 
     def wrong(self, ran, wanted, before, hit):
         got = self.left()
+        if ran.status == 1:
+            return "it says that somebody has to change something"
         # The number is the last file that is written.
         is_early = got["boot-number"] == wanted[1]["boot-number"] and got != wanted[1]
         return "numbered before all is noted" if is_early else super().wrong(ran, wanted, before, hit)
@@ -128,6 +135,9 @@ class BootNumber(Script):
 
     def left(self):
         return texts(self.it.folder, "boot-number")
+
+    def wrong(self, ran, wanted, before, hit):
+        return "it says that somebody has to change something" if ran.status == 1 else super().wrong(ran, wanted, before, hit)
 
 
 class Prepare(Script):
@@ -165,8 +175,9 @@ class Prepare(Script):
 
     def fault(self, ran, wanted, before, hit):
         fault = super().fault(ran, wanted, before, hit)
-        # An older version's rows count in place of new ones if they can't be dropped.
-        return "" if fault.startswith("not all") and "they count, in place of new ones" in ran.said else fault
+        # Something may be missing, with a message that says more than how many DIMMs there are.
+        news = re.sub(r"(?m)^prepare: \d+ DIMMs .*|^setup: \d+ DIMMs have no name .*|^prepare: .* has its own lines .*", "", self.news(ran))
+        return "" if fault.startswith("not all") and news.strip() else fault
 
 
 class Setup(Script):
@@ -189,14 +200,35 @@ class Setup(Script):
         if ran.status == 0 and alone:
             return f"a label of one of several DIMMs: {alone[0]}"
         # A label may lack a part of what names it, with a message.
-        is_told = ran.status == 0 and ran.said != self.usual
+        is_told = ran.status == 0 and self.news(ran)
         return "" if is_told else super().fault(ran, wanted, before, hit)
+
+
+class SetupDrivers(Setup):
+    """A server of AMD's: each rank has a line `place`."""
+
+    def lay_out(self):
+        board = {"board_vendor": "Maker", "board_name": "Board X", "product_name": "Power 940"}
+        server = Epyc(self.it.room, "server", epyc_dimms(1, 2, 2), sockets=1, board=board, ras=lambda _: True)
+        names = {"RASD_EDAC": "mc", "RASD_CPUINFO": "cpuinfo", "RASD_DMI": "dmi", "RASD_LABELS": "etc"}
+        self.environment.update({key: str(server.folder / it) for key, it in names.items()}, SERIALS="yes")
+        self.environment["PATH"] = f"{server.folder}/bin:{self.environment['PATH']}"
+
+    def fault(self, ran, wanted, before, hit):
+        if ran.status == 0:
+            rows = [re.findall(r"(?m)^place ([^# ]+)\S* (\d+ \d+ \d+)$", text) for text in (ran.out, wanted[0])]
+            right = {place: {name, "M{0}.C{2}.D{3}".format(*place.split(), int(place.split()[1]) // 2)} for name, place in rows[1]}
+            wrong = [(name, place) for name, place in rows[0] if name not in right[place]]
+            if wrong or len(rows[0]) != len(rows[1]):
+                return f"wrong places: {wrong} of {len(rows[0])}"
+        return super().fault(ran, wanted, before, hit)
 
 
 class KeepTrace(Script):
     """A restart within a boot. What is read of trace_pipe is gone from the kernel."""
 
     before = MARK + TRACED
+    words = ("keep-trace",)
 
     def lay_out(self):
         room = self.it.room
@@ -280,6 +312,9 @@ class Settle(Script):
     def whole(self, ran):
         return sorted(self.synced), {}
 
+    def wrong(self, ran, wanted, before, hit):
+        return "" if ran.status == 4 or ran.status < 0 else "a status that rasd has for something else"
+
 
 class Synced:
     """Notes which files are synced, beside what another choice does."""
@@ -357,6 +392,8 @@ class EarlierTrace(EarlierLines):
 class Offline(Script):
     """Orders that stand, and the kernel's two files."""
 
+    words = ("offline",)
+
     def lay_out(self):
         room = self.it.room
         for name in ("memory", "state", "metrics"):
@@ -417,6 +454,89 @@ class Offline(Script):
         return f"the next start asked for {self.look()}"
 
 
+class Lengthen(Script):
+    """A file of an account, which has more than half of the least length, and a file that is missing."""
+
+    words = ("lengthen",)
+
+    def lay_out(self):
+        lines = "bank 1 100 0 8 1 1000c14 0 8c00004000010090 12345040 86\n"
+        subprocess.run([PROGRAM, "run"], input=lines, text=True, capture_output=True, cwd=self.it.folder, check=True)
+        os.truncate(self.it.folder / "rasd.0", 1_500_000)
+        (self.it.folder / "rasd.1").unlink()
+
+    def left(self):
+        folder = self.it.folder
+        files = {name: (folder / name).read_bytes() for name in ("rasd.0", "rasd.1") if (folder / name).exists()}
+        # What is behind the account is zeros.
+        return {name: (len(text), text.rstrip(b"\0")) for name, text in files.items()}
+
+    def wrong(self, ran, wanted, before, hit):
+        left, most = self.left(), {**wanted[1], "rasd.1": (0, b"")}
+        return "" if all(it in (before.get(name), wanted[1][name], most[name]) for name, it in left.items()) else "a wrong file"
+
+
+# A feed with two descriptors: the machine, errors of both, a comment of a filter, and errors that come later.
+FEEDING = r"""#!/usr/bin/perl
+my $second = shift;
+open my $other, '>&=', $second or exit 9;
+sub bank { return map { "bank 9 1400000000 0 7 $_ 1000c14 0 8c00004000010090 12345040 86\n" } @_ }
+syswrite STDOUT, "cpu 0 0\nmodule DIMM_A1 0 7 0\n# feed: await 1\nbank 9 0 0 0 0 0 0 0 0 0\n";
+my $answer = <STDIN> // exit 9;
+syswrite STDOUT, join '', bank(1 .. 6), "# unread a line\n";
+syswrite $other, join '', bank(101 .. 105);
+syswrite STDOUT, join '', "# feed: live 1000 0 \n", bank(7 .. 9);
+"""
+
+
+class PassLines(Script):
+    """A storm, evidence that begins new files and that a killed writer left, and lines that one held."""
+
+    most = 4
+    count = 6 + 5 + 3
+    held = "log bank=8/0/7/1 t=100 class=CE weight=1 label=DIMM_B1 page=- code=- for=7 corrected=7\n"
+
+    def lay_out(self):
+        stub = self.it.room / "bin/feeding"
+        stub.write_text(FEEDING)
+        stub.chmod(0o755)
+        self.words = ("pass-lines", str(stub), str(PROGRAM), "run")
+        self.environment.update(QUIET_SECONDS="60", EVIDENCE_BYTES="1500")
+        given = "".join(f"bank 8 100 0 7 {n} 1000c14 0 8c00004000010090 12345040 86\n" for n in range(5))
+        (self.it.folder / "evidence.given").write_text(given + "bank 8 100 0")
+        (self.it.folder / "evidence.logged").write_text(self.held * 12 + "log bank=8")
+        (self.it.folder / "held-lines").write_text(f"{self.held}end {sum(self.held.encode())}\n")
+        self.ran = None
+
+    def evidence(self, name):
+        """The lines of this boot in a file of evidence, and in the one before it."""
+        lines = "".join(texts(self.it.folder, f"evidence.{name}.old", f"evidence.{name}").values()).splitlines()
+        return {line for line in lines if line.startswith(("bank 9 1", "log bank=9/"))}
+
+    def whole(self, ran):
+        return sorted(self.it.report("names").splitlines()), sorted(self.evidence("given")), len(self.evidence("logged")), stands_for(ran.out)
+
+    def fault(self, ran, wanted, before, hit):
+        self.ran = ran
+        if ran.status == -99:
+            return ran.said
+        if ran.status in (1, 2, 7, 9, 11):
+            return f"it ended for good: {ran.out[-200:]}"
+        # service/say-status says that of rasd, and of a signal.
+        is_told = ran.status < 0 or ran.status in range(3, 7) or self.news(ran)
+        return "" if is_told or self.whole(ran) == wanted else f"no word of it: {self.whole(ran)}"
+
+    def fault_after(self, ran, wanted):
+        names, given, logged, _ = self.whole(ran)
+        whole, said = stands_for(self.ran.out + ran.out), self.news(self.ran) + "".join(re.findall(r".*it was killed.*", ran.said))
+        if ran.status or (names, given) != wanted[:2]:
+            return f"the next start doesn't bring all: {names} {given}"
+        if logged != wanted[2] and "evidence.logged" not in said and self.ran.status >= 0 and "killed" not in said:
+            return f"lines are missing in evidence.logged, and no word of it: {logged}"
+        is_told = whole == wanted[3] or "may be missing" in said or "held-lines" in said
+        return "" if is_told else f"lines are missing in the unit's journal, and no word of it: {whole}"
+
+
 class Feed(Script):
     """The service's command: rasd, and all that feeds it."""
 
@@ -452,8 +572,10 @@ class Feed(Script):
                 break
             time.sleep(0.1)
         status = it.process.poll()
+        # What comes behind is said of the end that the test brings.
+        said = it.text("errors")
         it.stop(signal.SIGTERM if status is None else signal.SIGKILL)
-        return Ran(0 if status is None else 200 + status, it.text(), it.text("errors"))
+        return Ran(0 if status is None else 200 + status, it.text(), said)
 
     def whole(self, ran):
         return sorted(self.it.report("names").splitlines()), {}
@@ -466,9 +588,11 @@ class Feed(Script):
             return f"it ended for good: {ran.out[-200:]}"
         if ran.status == 0 and names != wanted[0]:
             return "it goes on, and not all is counted"
-        if ran.status > 200 and not 200 <= ran.status <= 206:
+        if ran.status > 206 and ran.status != 275:
             return "an odd status"
-        return "" if ran.said or ran.status in (0, 200) else "no word of it"
+        # Of rasd's statuses and of a signal service/say-status says what they mean.
+        is_told = ran.status < 200 or 203 <= ran.status <= 206 or self.news(ran)
+        return "" if ran.status == 0 or is_told else "no word of it"
 
 
 class FeedTrace(Feed):
@@ -478,6 +602,7 @@ class FeedTrace(Feed):
 
 
 SUBJECTS = {
+    "lengthen": Lengthen, "pass-lines": PassLines, "setup-drivers": SetupDrivers,
     "number-boots": NumberBoots, "boot-number": BootNumber, "prepare": Prepare, "setup": Setup, "keep-trace": KeepTrace,
     "keep-new-trace": KeepNewTrace, "tell": Tell, "settle": Settle, "kernel-log": KernelLog, "settled-log": SettledLog,
     "earlier-lines": EarlierLines, "earlier-trace": EarlierTrace, "offline": Offline, "feed": Feed, "feed-trace": FeedTrace,
