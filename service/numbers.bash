@@ -86,7 +86,7 @@ give_until() {
         lines=$(trace_lines | awk -v until="$until" -f "$here/stamp.awk" -f "$here/before.awk" | wc -l) || lines=''
         [[ -n $lines ]] || fail "$trace can't be read"
         known=$((known + lines))
-        echo '# feed: log' || fail "the lines can't be printed"
+        echo "# feed: log $checks" || fail "the lines can't be printed"
     fi
     ! has "$cursor" || read -r place <"$cursor" || fail "$cursor can't be read"
 }
