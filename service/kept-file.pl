@@ -8,7 +8,7 @@
 package KeptFile;
 use strict;
 use warnings;
-use Errno qw(EINVAL EIO ENOSPC);
+use Errno qw(EINTR EINVAL EIO ENOSPC);
 use Fcntl qw(O_RDONLY O_RDWR O_APPEND O_CREAT O_NOFOLLOW O_DIRECTORY SEEK_SET SEEK_CUR);
 
 sub new {
@@ -26,7 +26,9 @@ sub new {
 sub say_words {
     my $text = shift;
     my $script = $0 =~ s{.*/}{}r;
-    syswrite STDERR, "$script: $text\n";
+    $text = "$script: $text\n";
+    # A child's end interrupts it.
+    while (!defined syswrite STDERR, $text) { last if $! != EINTR }
 }
 
 # Returns how long the file is without a half line at its end, or nothing if it can't be read.

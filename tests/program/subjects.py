@@ -483,7 +483,7 @@ open my $other, '>&=', $second or exit 9;
 sub bank { return map { "bank 9 1400000000 0 7 $_ 1000c14 0 8c00004000010090 12345040 86\n" } @_ }
 syswrite STDOUT, "cpu 0 0\nmodule DIMM_A1 0 7 0\n# feed: await 1\nbank 9 0 0 0 0 0 0 0 0 0\n";
 my $answer = <STDIN> // exit 9;
-syswrite STDOUT, join '', bank(1 .. 6), "# unread a line\n";
+syswrite STDOUT, join '', "# feed: number 9\n", bank(1 .. 6), "# unread a line\n";
 syswrite $other, join '', bank(101 .. 105);
 syswrite STDOUT, join '', "# feed: live 1000 0 \n", bank(7 .. 9);
 """
@@ -506,6 +506,7 @@ class PassLines(Script):
         (self.it.folder / "evidence.given").write_text(given + "bank 8 100 0")
         (self.it.folder / "evidence.logged").write_text(self.held * 12 + "log bank=8")
         (self.it.folder / "held-lines").write_text(f"{self.held}end {sum(self.held.encode())}\n")
+        (self.it.folder / "comments.said").write_text("9 # unread another\n8 # unread a line\n9 # unr")
         self.ran = None
 
     def evidence(self, name):
@@ -522,8 +523,9 @@ class PassLines(Script):
             return ran.said
         if ran.status in (1, 2, 7, 9, 11):
             return f"it ended for good: {ran.out[-200:]}"
-        # service/say-status says that of rasd, and of a signal.
-        is_told = ran.status < 0 or ran.status in range(3, 7) or self.news(ran)
+        # service/say-status says that of rasd, and of a signal. A killed pass-lines leaves a file, of which the next start says it.
+        is_left = (self.it.folder / "held-lines").exists()
+        is_told = is_left or ran.status < 0 or ran.status in range(3, 7) or self.news(ran)
         return "" if is_told or self.whole(ran) == wanted else f"no word of it: {self.whole(ran)}"
 
     def fault_after(self, ran, wanted):
@@ -533,6 +535,8 @@ class PassLines(Script):
             return f"the next start doesn't bring all: {names} {given}"
         if logged != wanted[2] and "evidence.logged" not in said and self.ran.status >= 0 and "killed" not in said:
             return f"lines are missing in evidence.logged, and no word of it: {logged}"
+        if "left out: # unread a line" not in self.ran.said + ran.said:
+            return "nobody said a comment"
         is_told = whole == wanted[3] or "may be missing" in said or "held-lines" in said
         return "" if is_told else f"lines are missing in the unit's journal, and no word of it: {whole}"
 
