@@ -312,9 +312,6 @@ class Settle(Script):
     def whole(self, ran):
         return sorted(self.synced), {}
 
-    def wrong(self, ran, wanted, before, hit):
-        return "" if ran.status == 4 or ran.status < 0 else "a status that rasd has for something else"
-
 
 class Synced:
     """Notes which files are synced, beside what another choice does."""
