@@ -1,5 +1,5 @@
 -- The text of an event is whole lines, and there is one.
-use Rattle.std.proofs.Common.{◌≡◌, ℕ, ◌+◌, Bool, true, false, List, [], ◌∷◌, ◌++◌, refl, Option, None, Some}
+use Rattle.std.proofs.Common.{◌≡◌, ℕ, ◌+◌, true, false, List, [], ◌∷◌, ◌++◌, refl, sym, ap, ◌∙◌, Option, None, Some}
 use Rattle.std.specs.Option.{option_map_or}
 use Rattle.block_lines.specs.Filter.{BlockProgress}
 use Rattle.block_lines.specs.Reports.{Reporting}
@@ -7,7 +7,7 @@ use Rattle.block_lines.specs.Texts.{source_block_text, table_text, unread_report
 use Rattle.block_lines.specs.Whole.{AreWholeLines}
 use Rattle.block_lines.proofs.WholeLemmas.{blocks_whole, ends, source_block_whole, source_line}
 use Rattle.event_lines.specs.Events.{is_there, tells_event}
-use Rattle.event_lines.specs.Filter.{event_block, event_text_by, memory_block, report_text_at, section_block_of, section_event_text}
+use Rattle.event_lines.specs.Filter.{event_block, event_text_by, memory_block, section_block_of, section_event_text}
 use Rattle.event_lines.specs.Traced.{line_event_of}
 use Rattle.event_lines.specs.declared.filter.TheConstants.{TRACE_SOURCE}
 use Rattle.event_lines.specs.declared.traced.FoundSection.{FoundSection}
@@ -21,15 +21,12 @@ section_whole : (p : BlockProgress) (found : FoundSection) (made : Option (List 
 section_whole p found None = ends (unread_report_line (p.taken + 1))
 section_whole p found (Some block) = source_block_whole p.reports TRACE_SOURCE found.stamp block
 
-event_whole : (p : BlockProgress) (line : List ℕ) (event : LineEvent) → AreWholeLines (event_text_by p line event)
+pub event_whole : (p : BlockProgress) (line : List ℕ) (event : LineEvent) → AreWholeLines (event_text_by p line event)
 event_whole p line Absent = blocks_whole None p.reports (p.taken + 1) line
 event_whole p line Unread = ends (unread_report_line (p.taken + 1))
 event_whole p line (Found found) = source_block_whole p.reports TRACE_SOURCE found.stamp (event_block found.event)
 event_whole p line (Section found) = section_whole p found (section_block_of found line)
 event_whole p line (Memory found) = source_block_whole p.reports TRACE_SOURCE found.stamp (memory_block found.error)
-
-pub text_whole : (p : BlockProgress) (line : List ℕ) → AreWholeLines (report_text_at p line)
-text_whole p line = event_whole p line (line_event_of line)
 
 -- ---- a text
 
@@ -56,12 +53,12 @@ section_said : (p : BlockProgress) (found : FoundSection) (made : Option (List �
 section_said p found None = said_after (unread_report_line (p.taken + 1)) 10 []
 section_said p found (Some block) = block_said p.reports TRACE_SOURCE found.stamp block
 
-event_said : (p : BlockProgress) (line : List ℕ) (event : LineEvent) → is_there event ≡ true → IsSaid (event_text_by p line event)
-event_said p line Absent there = absurd cc
+pub event_said : (p : BlockProgress) (line : List ℕ) (event : LineEvent) → ¬ (event ≡ Absent) → IsSaid (event_text_by p line event)
+event_said p line Absent there = absurd (there refl)
 event_said p line Unread there = said_after (unread_report_line (p.taken + 1)) 10 []
 event_said p line (Found found) there = block_said p.reports TRACE_SOURCE found.stamp (event_block found.event)
 event_said p line (Section found) there = section_said p found (section_block_of found line)
 event_said p line (Memory found) there = block_said p.reports TRACE_SOURCE found.stamp (memory_block found.error)
 
-pub text_said : (p : BlockProgress) (line : List ℕ) → tells_event line ≡ true → IsSaid (report_text_at p line)
-text_said p line there = event_said p line (line_event_of line) there
+pub told_there : (line : List ℕ) → tells_event line ≡ true → ¬ (line_event_of line ≡ Absent)
+told_there line tells absent = let wrong : false ≡ true = sym (ap is_there absent) ∙ tells in cc

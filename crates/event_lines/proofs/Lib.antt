@@ -10,9 +10,10 @@ mod PlaceLemmas
 mod PlacedLemmas
 mod KindLemmas
 mod MemoryLemmas
+mod DriverLemmas
 mod ExtlogLemmas
 mod LineLemmas
-mod NameLemmas
+pub mod NameLemmas
 pub mod SectionLemmas
 mod MemoryBlockLemmas
 pub mod EventTextLemmas
