@@ -13,7 +13,7 @@ mod MemoryLemmas
 mod DriverLemmas
 mod ExtlogLemmas
 mod LineLemmas
-pub mod NameLemmas
+mod NameLemmas
 pub mod SectionLemmas
 mod MemoryBlockLemmas
 pub mod EventTextLemmas
