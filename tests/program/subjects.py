@@ -589,8 +589,6 @@ class Feed(Script):
             return f"it ended for good: {ran.out[-200:]}"
         if ran.status == 0 and names != wanted[0]:
             return "it goes on, and not all is counted"
-        if ran.status > 206 and ran.status != 275:
-            return "an odd status"
         # Of rasd's statuses and of a signal service/say-status says what they mean.
         is_told = ran.status < 200 or 203 <= ran.status <= 206 or self.news(ran)
         return "" if ran.status == 0 or is_told else "no word of it"
