@@ -61,12 +61,15 @@ sub begin {
     # It was killed before it wrote.
     return if defined $got && !$got;
     my ($lines, $sum) = ($text // '') =~ /\A(.*?)^end (\d+)$/ms;
-    if (defined $sum && $sum == unpack '%32C*', $lines) {
+    # After a power cut a file system may have a longer text's size, and zeros for what wasn't on the disk.
+    if (defined $sum && $sum == unpack('%32C*', $lines) && $text !~ /\0/) {
         $self->{out} = $lines;
         return;
     }
     my $why = defined $got ? 'is half written' : "can't be read: $!";
     KeptFile::say_words("$self->{file} $why, so what was held is missing here");
+    # Otherwise zeros would stand behind what is held from here on.
+    truncate $self->{handle}, 0 or KeptFile::say_words("$self->{file} can't be emptied: $!");
 }
 
 # Returns the line that stands for a group.
