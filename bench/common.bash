@@ -14,6 +14,8 @@ begin() {
         sed -n '2s/^# //p' "$0" >&2
         exit 2
     }
+    # It makes the texts.
+    have mawk || exit 0
     program=$(readlink -f -- "$1")
     export full=${2-}
     local in=/dev/shm
@@ -57,7 +59,7 @@ lines() {
     block=$(sed -n '/^ghes/{s/.* //p;q}' "$bench/../demo/pcie.script")
     record=$(od -An -v -tx1 -N353 "$bench/../demo/firmware.records" | tr -d ' \n')
     table=$(grep '^erst' "$bench/../service/store.script")
-    awk -v kind="$1" -v count="$2" -v boot="${3-2}" -v block="$block" -v record="$record" -v table="$table" \
+    mawk -v kind="$1" -v count="$2" -v boot="${3-2}" -v block="$block" -v record="$record" -v table="$table" \
         -f "$bench/lines.awk"
 }
 
@@ -79,17 +81,22 @@ ranked() {
     if [[ $2 == 0 ]]; then echo 0; else cut -d ' ' -f "$2" -- "$1" | sort -g; fi
 }
 best() { ranked "$@" | sed -n 1p; }
-middle() { ranked "$@" | awk '{ them[NR] = $1 } END { print them[int(NR / 2) + 1] }'; }
+middle() { ranked "$@" | mawk '{ them[NR] = $1 } END { print them[int(NR / 2) + 1] }'; }
 
 # Prints the ratio of two files of rounds, of a column less another one: FILE FILE COLUMN COLUMN. First that of the best
-# rounds, then, in brackets, that of the middle ones.
+# rounds, then, in brackets, that of the middle ones; but - if one is more than half again as much as the other, since neither says
+# anything then.
 ratio() {
     local how
     for how in best middle; do
         echo "$("$how" "$1" "$3") $("$how" "$1" "$4") $("$how" "$2" "$3") $("$how" "$2" "$4")"
-    done | awk '
-        { told[NR] = $1 > $2 && $3 > $4 ? sprintf("%.2f", ($1 - $2) / ($3 - $4)) : "-" }
-        END { print told[1] " (" told[2] ")" }'
+    done | mawk '
+        { told[NR] = $1 > $2 && $3 > $4 ? ($1 - $2) / ($3 - $4) : 0 }
+        END {
+            if (told[1] > 0 && told[2] > 0 && told[1] <= 1.5 * told[2] && told[2] <= 1.5 * told[1])
+                printf "%.2f (%.2f)\n", told[1], told[2]
+            else print "-"
+        }'
 }
 
 # Prints a number with commas between its thousands.

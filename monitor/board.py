@@ -3,7 +3,8 @@ import re
 
 from page import UNCORRECTED, element, grouped, joined, named
 
-PLACE = re.compile(r"S(\d+)\.M(\d+)\.C(\d+)\.D(\d+)")
+# Only Intel's drivers tell the socket.
+PLACE = re.compile(r"(?:S(\d+)\.)?M(\d+)\.C(\d+)\.D(\d+)")
 
 
 def names_of(label):
@@ -64,13 +65,14 @@ class Board:
                 maybe.setdefault(name, []).append(label)
         for it in self.dimms.values():
             if it.place:
-                sockets.setdefault(int(it.place[1]), {}).setdefault((int(it.place[2]), int(it.place[3])), []).append(it)
+                part = ("Controller", int(it.place[2])) if it.place[1] is None else ("Socket", int(it.place[1]))
+                sockets.setdefault(part, {}).setdefault((int(it.place[2]), int(it.place[3])), []).append(it)
         for socket in sorted(sockets):
             channels = [
                 element("div", *(self.slot(it, maybe.get(it.name, ()), counts, replaced) for it in sockets[socket][key]), class_="channel")
                 for key in sorted(sockets[socket])
             ]
-            yield element("div", element("h3", f"Socket {socket}"), element("div", *channels, class_="socket"), class_="frame board")
+            yield element("div", element("h3", "{} {}".format(*socket)), element("div", *channels, class_="socket"), class_="frame board")
 
     def slot(self, dimm, maybe, counts, replaced):
         """The picture of a slot: its own errors, or else those that may be its."""

@@ -13,12 +13,13 @@ FILENAME == ARGV[1] { next }
 # Errors of a retired boot come again at each start; one of this boot is lost.
 /^stale (bank|block)=[0-9]+\// {
     split($2, of, /[=\/]/)
-    if (boot != "" && of[2] + 0 >= boot + 0) leave_out("stale")
+    if (boot != "" && of[2] + 0 >= boot + 0) leave_out("stale", word("for"))
     next
 }
+# Linux makes it up of a report of the firmware, which counts (arch/x86/kernel/cpu/mce/apei.c line 48 of linux-source-6.1 6.1.192-3).
+/^[a-z-]+: left out: # vendor=[0-9]+ cpu=[0-9]+ bank=255( |$)/ { next }
 /^[a-z-]+: left out: # / { leave_out(reason_of(substr($0, index($0, "# ") + 2))); next }
-/^[a-z-]+: left out / { leave_out("unread"); next }
-/^feed: the trace has a gap/ { leave_out("gap") }
+/^[a-z-]+: left out / { leave_out("unread") }
 
 # A comment's first words, in one: of `# vendor=2 cpu=3 bank=4` vendor, of `# left out 12` left-out.
 function reason_of(text) {
@@ -27,19 +28,21 @@ function reason_of(text) {
     gsub(/ +/, "-", text)
     return text
 }
-# Linux makes a machine check of bank 255 of each report of the firmware, which counts; a torn report counts without its page.
-function leave_out(reason) {
-    if (reason ~ /^(firmware|torn|no-error|)$/) return
-    count[reason]++
+# `firmware` is such a machine check of an Intel processor; a torn report counts without its page,
+# or from the trace; an event of eMCA comes as a machine check too.
+function leave_out(reason, times) {
+    if (reason ~ /^(firmware|torn|no-error|extlog|)$/) return
+    count[reason] += times ? times : 1
     last[reason] = now
 }
 function word(name,   i) {
     for (i = 3; i <= NF; i++) if (index($i, name "=") == 1) return substr($i, length(name) + 2)
     return ""
 }
+# A line with `for=` stands for several corrected errors, and has the sum of their weights (service/quiet.pl).
 function take_error(   second, weight, is_bad) {
     second = word("t")
-    weight = word("weight")
+    weight = word(word("for") ? "corrected" : "weight")
     if (second !~ /^[0-9]+$/ || weight !~ /^[0-9]+$/ || word("label") == "") return
     is_bad = word("class") ~ /^(UCNA|SRAO|SRAR|UC|recoverable|fatal)$/
     add(second - second % 3600 " " word("label"), is_bad ? 0 : weight, is_bad ? weight : 0)

@@ -63,6 +63,8 @@ BEGIN {
     if (at && type in part_keys) type = "name"
     for (i = at ? 1 : 2; i <= NF; i++) {
         at = index($i, "=")
+        # What service/quiet.pl adds isn't a part of the section.
+        if ($i ~ /^for=/ && closing) { members = members closing; closing = "" }
         if (at) take(substr($i, 1, at - 1), substr($i, at + 1))
         else if (i == 2 && type in word_keys) add(word_keys[type], json("", $i))
         else if (type == "stop") add(is_number($i) ? "status" : "reason", json("", $i))

@@ -24,7 +24,7 @@ function find_board_labels(   i, place) {
     if (labels_from == "" || !places) return
     for (i = 1; i <= places; i++) {
         place = place_at[i]
-        by_board[place] = board_label(edac_number[place], edac_location[place])
+        by_board[place] = drivers ? label_of_ranks(place) : board_label(edac_number[place], edac_location[place])
     }
     board_known = is_whole("labels of " labels_from, by_board)
 }

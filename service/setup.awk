@@ -1,5 +1,5 @@
 # The program of service/setup, which says what it does. It prints
-#   cpu, module                       lines for rasd
+#   cpu, module, place                lines for rasd
 #   # dimm LABEL NAME SERIAL SIZE PART PLACE   with tabs between: what is known of a DIMM, `-` for nothing; SIZE in MB
 #   # slot LABEL TEXT                 the label of the DIMM that the kernel calls TEXT: EDAC's label; what the firmware's reports
 #                                     have after `DIMM location: `; or `DMI handle: 0x1107`
@@ -64,6 +64,9 @@ function take_rule(text,   of, first, last) {
 # label's counts.
 function take_dimm(number, name, location, megabytes, mode, text,   of, s, m, place) {
     text = trimmed(text)
+    if (drivers && take_rank(number, location, megabytes, text)) return
+    if (drivers && name != "ghes_edac")
+        warn("EDAC's location of " text " can't be read, so its errors have no label: mc" number " " trimmed(location))
     if (text in edac_twice) edac_twice[text]++; else edac_twice[text] = 1
     if (split(trimmed(location), of, " ") == 4 && of[1] == "channel" && of[3] == "slot" && text !~ /_HBMC#/) {
         s = number_behind(text, "^CPU_SrcID#")
@@ -104,7 +107,8 @@ function add_place(place, s, m, c, d,   i) {
 }
 # Without EDAC's DIMMs, places are those that SMBIOS' Bank Locators say, and those in the table of slots.
 function find_places(   place, of) {
-    find_locators()
+    leave_different()
+    if (!drivers) find_locators()
     if (places) return
     for (place in device_at) add_said(place)
     if (!places) for (place in slot) if (place ~ /^S[0-9]+[.]M[0-9]+[.]C[0-9]+[.]D[0-9]+$/) add_said(place)
@@ -266,6 +270,7 @@ END {
     name_others()
     add_modules()
     if (rules) add_known_banks(); else if (banks) add_unknown_banks()
+    add_ranks()
     for (key in slot) if (!(key in used)) warn(key " is in the table of slots, but there is no such row or place")
     for (i = 1; i <= rows; i++) print lines[i]
     for (i = 1; i <= told; i++) print comments[i]

@@ -62,7 +62,7 @@ END {
         if (place[dimm[i]] == "-" && !errors(dimm[i])) { quiet++; continue }
         at = place[dimm[i]]
         sub(/[.].*/, "", at)
-        if (at != "-" && at != last) print "socket " substr(at, 2)
+        if (at != "-" && at != last) print (at ~ /^S/ ? "socket " : "controller ") substr(at, 2)
         last = at
         printf "  %s %-20s %-16s %s\n", mark(dimm[i]), name[dimm[i]], place[dimm[i]] == name[dimm[i]] ? "" : place[dimm[i]], errors(dimm[i])
     }

@@ -86,17 +86,17 @@ class Machine:
         return self.text("cut -d ' ' -f 2 /var/lib/rasd/boot-number 2>/dev/null")
 
     def source(self):
-        """The source of this boot's errors."""
-        return self.text("cat /run/rasd-prepare/settings /etc/default/rasd 2>/dev/null | sed -n 's/^SOURCE=//p' | tail -n 1") or "log"
+        """Where this boot's errors come from."""
+        return "log and trace" if self.is_active("rasd-trace") else "log"
 
     def counts_both(self, channel, page):
         """Whether a corrected error comes to the account, and an uncorrected one that the kernel recovers."""
         source = self.source()
         self.polls()
-        self.correct(5, channel=channel)
+        self.correct(7, channel=channel)
         yield self.agrees(f"{source}: a corrected error that the kernel polled is counted")
         text = self.text("rasd report counts")
-        yield f"it has the label of its module: {text[:120]}", f"counts label=S0.B5.C{channel} CE=1 " in text
+        yield f"it has the label of its module: {text[:120]}", f"counts label=S0.M0.C{channel} CE=1 " in text
         before = self.corrupted()
         self.guest.inject(8, RECOVERED, EXCEPTION, int(f"{page}040", 16), 0x8C)
         self.wanted[self.boot(), 8] += 1
@@ -162,13 +162,13 @@ def trial(it):
     """an error that isn't one, as docs/RECIPES.md has it"""
     it.text("modprobe mce-inject")
     words = "echo {} > /sys/kernel/debug/mce-inject/{}".format
-    values = (("0", "cpu"), ("sw", "flags"), ("0x8c00004000010091", "status"), ("0x2ab45040", "addr"), ("0x86", "misc"), ("6", "bank"))
+    values = (("0", "cpu"), ("sw", "flags"), ("0x8c00004000010091", "status"), ("0x2ab45040", "addr"), ("0x86", "misc"), ("7", "bank"))
     status, text = it.run(" && ".join(words(value, name) for value, name in values))
     yield f"mce-inject takes it{text}", status == 0
-    it.wanted[it.boot(), 6] += 1
+    it.wanted[it.boot(), 7] += 1
     yield it.agrees("an error of mce-inject is counted")
     text = it.text("rasd report counts; rasd report pages")
-    yield "under its module, and its page", "counts label=S0.B6.C1 CE=1 " in text and "page=000000002ab45000 state=kept" in text
+    yield "under its module, and its page", "counts label=S0.M0.C1 CE=1 " in text and "page=000000002ab45000 state=kept" in text
 
 
 def offline(it):
@@ -220,7 +220,8 @@ def shown(it):
 def kills(it):
     """a process that is killed costs nothing"""
     it.polls()
-    for what, find in (("rasd", "systemctl show -p MainPID --value rasd"), ("a filter", FILTER)):
+    processes = (("rasd", "systemctl show -p MainPID --value rasd"), ("a filter", FILTER), ("pass-lines", "pgrep -f lib/rasd/pass-lines"))
+    for what, find in processes:
         restarts = int(it.text("systemctl show -p NRestarts --value rasd") or 0)
         status, text = it.run(f"kill -9 $({find})")
         it.correct(7, address=0x24567040)
@@ -260,10 +261,11 @@ def cut(it):
     """a cut of the power loses nothing that was acknowledged"""
     boot, cap = it.boot(), it.text("modprobe msr; rdmsr 0x179")
     line = f"bank {boot} $((1700000000 + n)) 0 2 $n {cap} 0 8c00004000010090 $((n + 10))000 86"
-    # Else the lines would go into a file of that name, where the pipe has to come.
-    took = it.guest.awaits("stat -c %F /run/rasd/lines", "fifo", SOON)
-    yield "the service has its pipe", took is not None
-    it.text(f"(for n in $(seq 3000); do echo \"{line}\"; done > /run/rasd/lines) > /dev/null 2>&1 &")
+    # By then it has given what was before, which the lines would come between.
+    took = it.guest.awaits("ls /run/rasd", "ready", SOON)
+    yield "the service takes lines", took is not None
+    pipe = "/proc/$(systemctl show -P MainPID rasd)/fd/0"
+    it.text(f"(for n in $(seq 3000); do echo \"{line}\"; done > {pipe}) > /dev/null 2>&1 &")
     it.polls()
     it.correct(6, address=0x26789040)
     counted = {}
@@ -304,15 +306,12 @@ def panic(it):
 
 
 def source(it):
-    """the other source, chosen by SOURCE and nothing else"""
-    other = "log" if it.source() == "trace" else "trace"
-    it.text(f"sed -i '/^SOURCE=/d' /etc/default/rasd; echo SOURCE={other} >> /etc/default/rasd")
+    """the log alone, as on a machine that doesn't let its trace be read"""
+    it.text("systemctl mask rasd-trace")
     it.guest.reboot()
-    yield f"the unit runs with SOURCE={other}", it.comes_up()
-    if other == "trace":
-        yield "and so does rasd-trace", it.is_active("rasd-trace")
-        it.text("systemctl start rasd-trace")
-    yield from it.counts_both(1, "34444")
+    yield "the unit runs without a trace", it.comes_up() and not it.is_active("rasd-trace")
+    yield from it.counts_both(3, "34444")
+    it.text("systemctl unmask rasd-trace")
 
 
 def purge(it):

@@ -256,7 +256,7 @@ def any_damage(chance):
 
 def any_words(chance):
     """Words that are a command, or none."""
-    forms = "report", "report names", "load 20", "klog 1 c14", "lines klog 1 c14", "lines trace 1", "lines ghes 1 60", "lines mce 1", "lines log 1 c14 60", "lines log 1 c14 60 - 5", "lines trace 1 c14 60"
+    forms = "report", "report names", "load 20", "klog 1 c14", "lines klog 1 c14", "lines trace 1", "lines ghes 1 60", "lines mce 1", "lines log 1 c14 60", "lines log 1 c14 60 - 5", "lines trace 1 c14 60", "lines trace 1 c14 60 edac"
     forms = *forms, "pcie", "run", "--help"
     words = chance.choice(forms).split()
     place = chance.randrange(len(words))

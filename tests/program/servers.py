@@ -57,8 +57,8 @@ class Dimm:
 
     @property
     def name(self):
-        """Its place in a word."""
-        return "S{}.M{}.C{}.D{}".format(*self.place)
+        """Its place in a word: of an EPYC there is no socket in it."""
+        return ("M{}.C{}.D{}" if len(self.place) == 3 else "S{}.M{}.C{}.D{}").format(*self.place)
 
 
 class Server:
@@ -160,6 +160,95 @@ class Server:
         words = [command, *([self.folder / "slots"] if slots is not None else ["/dev/null"])]
         ran = subprocess.run(words, capture_output=True, text=True, env=environment)
         return ran.stdout, ran.stderr, ran.returncode
+
+
+# An event of amd64_edac in a trace, behind the machine check of which it tells: 1, a message and a label, a controller and layers.
+CHECK = (
+    "    kworker/3:1-77      [003] .....   {0:d}.{1:06d}: mce_record: CPU: 3, MCGc/s: 120/0, MC17: 9c2040000000011b, IPID: "
+    "0000009600050f00, ADDR/MISC/SYND: 0000000000000040/d01a0ffe00000000/00006bf40a800000, RIP: 00:<0000000000000000>, TSC: 0, "
+    "PROCESSOR: 2:a00f11, TIME: 1400000000, SOCKET: 0, APIC: 3\n"
+)
+DRIVER = (
+    "    kworker/3:1-77      [003] .....   {0:d}.{1:06d}: mc_event: 1 {2} error:{3} on {4} (mc:{5} location:{6}:{7}:-1 "
+    "address:0x{8:08x} grain:64 syndrome:0x00006bf4)\n"
+)
+
+
+class Epyc(Server):
+    """A server of AMD's: amd64_edac has a folder for each chip select of a channel, and a DIMM has two, or one."""
+
+    def __init__(self, room, name, dimms, ranks=2, controllers=2, **how):
+        self.ranks = ranks
+        super().__init__(room, name, (25, 1), dimms, **{"vendor": "AuthenticAMD", **how})
+
+    def selects(self, dimm):
+        """The chip selects of a DIMM."""
+        return [2 * dimm.place[2] + k for k in range(self.ranks)]
+
+    def rank_label(self, dimm, select):
+        """What EDAC calls a rank, if nobody registered a label."""
+        return f"mc#{dimm.place[0]}csrow#{select}channel#{dimm.place[1]}" if dimm.label is None else dimm.label
+
+    def write_edac(self):
+        """A folder for each rank, with its place; a rank has its part of the DIMM's size."""
+        for dimm in self.dimms:
+            m, c, _ = dimm.place
+            for select in self.selects(dimm):
+                folder = self.folder / "mc" / f"mc{m}" / f"rank{8 * select + c}"
+                folder.mkdir(parents=True)
+                (folder.parent / "mc_name").write_text("F19h\n")
+                (folder / "dimm_location").write_text(f"csrow {select} channel {c} \n")
+                (folder / "size").write_text(f"{1024 * dimm.size // self.ranks}\n")
+                (folder / "dimm_edac_mode").write_text("S16ECD16ED\n")
+                (folder / "dimm_label").write_text(f"{self.rank_label(dimm, select)}\n")
+
+    def write_labels(self, form, is_here):
+        """A file with a label for each rank, or in edac-utils' form for the first rank of each DIMM."""
+        lines = ["Vendor: Maker", " Model: BOARD X"]
+        for it in filter(is_here, self.dimms):
+            m, c, _ = it.place
+            selects = self.selects(it)[: 1 if form == "edac_utils" else None]
+            lines.append(f"  {it.locator}: " + ", ".join(f"{m}.{select}.{c}" for select in selects))
+        file = self.folder / "etc" / ("edac/labels.db" if form == "edac_utils" else "ras/dimm_labels.d/maker")
+        file.parent.mkdir(parents=True)
+        file.write_text("\n".join(lines) + "\n")
+
+    def trace(self):
+        """A trace with two errors of each rank, and the DIMM of each by the number of its event: its time stamp."""
+        lines, truth = [], {}
+        for dimm in self.dimms:
+            for select in self.selects(dimm) * 2:
+                n, (m, c, _) = len(truth) + 1, dimm.place
+                address = 0x100000000 + 4096 * n
+                lines.append(CHECK.format(100 + n, 0) + DRIVER.format(
+                    100 + n, 9, "Corrected", "", self.rank_label(dimm, select), m, select, c, address))
+                truth[1_000_000 * (100 + n) + 9] = dimm
+        return "".join(lines), truth
+
+
+def epycs(room):
+    """Servers of AMD's: by which source their DIMMs have names."""
+    board = {"board_vendor": "Maker", "board_name": "Board X", "product_name": "Power 940"}
+    table = lambda dimms: "".join(f"{it.name} {it.locator}\n" for it in dimms)
+    every = lambda it: True
+    both = epyc_dimms(2, 8, 2)
+    return [
+        Epyc(room, "epyc-slots", both, slots=table),
+        Epyc(room, "epyc-places", epyc_dimms(2, 8, 1), ranks=1),
+        Epyc(room, "epyc-labels", both, board=board, ras=every),
+        Epyc(room, "epyc-one-label", epyc_dimms(1, 8, 1), board=board, edac_utils=every, sockets=1),
+        Epyc(room, "epyc-registered", registered(epyc_dimms(8, 2, 2))),
+        Epyc(room, "hygon", epyc_dimms(1, 2, 1), sockets=1, vendor="HygonGenuine"),
+    ]
+
+
+def epyc_dimms(controllers, channels, dimms):
+    """A DIMM for each pair of chip selects. The firmware's letters of channels aren't in the order of EDAC's numbers."""
+    places = [(m, c, d) for m in range(controllers) for c in range(channels) for d in range(dimms)]
+    return [
+        Dimm(it, f"P{it[0]}_DIMM{'CDBAGHFE'[it[1]]}{it[2] + 1}", f"P{it[0]}_Node0_Channel{it[1]}_Dimm{it[2]}", f"2B0000{n:02X}")
+        for n, it in enumerate(places)
+    ]
 
 
 def dimms_of(kind, sockets, slots, name, bank=lambda *_: "Not Specified", channels=None, **how):

@@ -1,12 +1,14 @@
 """The command of service/rasd.service in a separate folder, over a stub of journalctl; tests/program/service and
 tests/program/feed run it.
 """
+import collections
 import contextlib
 import os
 import pathlib
 import re
 import shlex
 import signal
+import struct
 import subprocess
 import sys
 import tempfile
@@ -19,7 +21,7 @@ PROGRAM = pathlib.Path(sys.argv[1]).resolve()
 BOOT = pathlib.Path("/proc/sys/kernel/random/boot_id").read_text().strip()
 EARLIER = "01234567-89ab-cdef-0123-456789abcdef"
 SOON = 10.0
-PATIENCE = 60.0
+PATIENCE = float(os.environ.get("PATIENCE", 60))
 
 # It prints logs as journalctl's export form. The log of this boot goes on until the stub is ended, and its process and its
 # words are noted. Those of other boots are files, and come in two parts if they are to be slow; with a file `volatile` there are
@@ -33,10 +35,19 @@ sub note {{ open my $file, '>', "$room/$_[0]"; print $file $_[1] }}
 sub pass_on {{ open my $file, '<', $_[0] or exit print STDERR "$_[0]: No such file\n"; print while <$file> }}
 my ($count, $time, $message) = (0);
 my $after = $words =~ /--after-cursor=s=(\d+)/ ? $1 : 0;
+my ($pattern) = map {{ $ARGV[$_ + 1] }} grep {{ $ARGV[$_] eq '-g' }} 0 .. $#ARGV;
+my $is_short = $words =~ /--output-fields=_SOURCE/;
+my $last = '';
 sub print_entry {{
     return if !defined $message;
     return ++$count && undef $message if $count < $after;
     # journald reads a line later than the kernel prints it.
+    return ++$count && undef $message if defined $pattern && $message !~ $pattern;
+    if ($is_short) {{
+        $last = sprintf "__CURSOR=s=%d\n_SOURCE_MONOTONIC_TIMESTAMP=%.0f\n\n", ++$count, $time;
+        print $last if $words !~ / -n 1/;
+        return undef $message;
+    }}
     printf "__CURSOR=s=%d\n__REALTIME_TIMESTAMP=%.0f\n__MONOTONIC_TIMESTAMP=%.0f\nSYSLOG_IDENTIFIER=kernel\n",
         ++$count, 1400000000000000 + $time + 700000, $time + 700000;
     printf "_SOURCE_MONOTONIC_TIMESTAMP=%.0f\n", $time;
@@ -68,9 +79,10 @@ sub print_log {{
 open my $calls, '>>', "$room/calls"; print $calls "$words\n"; close $calls;
 if ($words =~ /--list-boots/) {{ pass_on("$room/boots") if -e "$room/boots" }}
 elsif (-e "$room/volatile" && $words !~ / $boot | -f /) {{ print STDERR "No such boot ID in journal\n"; exit 1 }}
+elsif ($is_short) {{ print_log("$room/log"); print $last if $words =~ / -n 1/ }}
 elsif ($words =~ / -n 1 /) {{
     # The other boots began later than the one that tests call the earlier one.
-    printf "__REALTIME_TIMESTAMP=%d000000\n__MONOTONIC_TIMESTAMP=5000000\n", $words =~ / {earlier} / ? 1400000005 : 1400001005;
+    printf "__REALTIME_TIMESTAMP=%d000000\n__MONOTONIC_TIMESTAMP=5000000\n", $words =~ / {earlier} / || -e "$room/same-second" ? 1400000005 : 1400001005;
 }}
 elsif ($words =~ / -f /) {{ note('words', "$words\n"); note('process', "$$\n"); print_log("$room/log", 1) }}
 elsif ($words =~ / $boot /) {{ print_log("$room/log") }}
@@ -98,6 +110,12 @@ REPORT = (
     "[{0:5}.100005] node7 kernel: {{{0}}}[Hardware Error]:   physical_address: 0x{1:016x}\n"
     "[{0:5}.100006] node7 kernel: {{{0}}}[Hardware Error]:   node:1 card:0 module:2 rank:0 bank:3 row:12 column:8 \n"
 )
+# The kernel's own record of a fatal error in the second SECOND: struct mce as Linux 6.1 has it (arch/x86/include/uapi/asm/mce.h).
+# The stub of journalctl says that the earlier boot began in the second 1400000000, and others 1,000 seconds later.
+FATAL, SECOND = 0xBE00000000800400, 1400000900
+RECORD = struct.pack(
+    "<7Q4BI4B3IQ", FATAL, 0, 0, 5, 0, 0x123456789ABC, SECOND, 0, 0, 0, 0, 0x50654, 0, 4, 0, 0, 0, 0, 0, 0x100010A
+) + bytes(32)
 LATER = "[99999.000001] node7 kernel: eth0: up\n"
 # Other events of a trace. The first's text ends with a line feed of its own, so an empty line follows.
 PCIE = (
@@ -115,11 +133,10 @@ MEMORY = (
     "bank:3 row:12 column:8 DIMM location: DIMM_B3 status(0x0000000000000400): Storage error in DRAM memory)\n"
 )
 EVENTS = "mce_record aer_event non_standard_event"
-SETTINGS = ("MCG_CAP", "SOURCE", "FIRMWARE", "BOOTS_KEPT")
+SETTINGS = ("MCG_CAP", "BOOTS_KEPT", "DRIVERS")
 ROWS = "cpu 0 0\nmodule DIMM_A1 0 7 0\nmodule-limit 4 86400"
-# The feed's last line before the first error is a bank without an error, behind rows, another one, a table with its comment, a
-# poll, and a mark.
-HEAD = 10
+# The feed's last line before the first error is a bank without an error, behind rows, another one, a table, and a poll.
+HEAD = 8
 
 
 def holds(what, is_so):
@@ -127,6 +144,18 @@ def holds(what, is_so):
     if not is_so:
         print(f"failed: {what}")
     return bool(is_so)
+
+
+def stands_for(text):
+    """By label, of how many errors the lines speak, and the sums of their weights."""
+    sums = collections.defaultdict(lambda: [0, 0, 0])
+    for line in re.findall(r"(?m)^log .*$", text):
+        words = dict(word.partition("=")[::2] for word in line.split()[1:])
+        is_bad = words["class"] in ("UCNA", "SRAO", "SRAR", "UC", "recoverable", "fatal")
+        one = (1, 0, int(words["weight"])) if is_bad else (1, int(words["weight"]), 0)
+        more = (int(words["for"]), int(words["corrected"]), 0) if "for" in words else one
+        sums[words["label"]] = [a + b for a, b in zip(sums[words["label"]], more)]
+    return dict(sums)
 
 
 def settings(name, unit="rasd.service"):
@@ -159,37 +188,42 @@ class Service:
         stub.chmod(0o755)
         (self.room / "log").touch()
         (self.room / "rows").write_text(ROWS)
+        (self.room / "settings").touch()
         self.environment = {
             **{key: value for key, value in os.environ.items() if key not in SETTINGS},
             "PATH": f"{self.room}/bin:{os.environ['PATH']}",
             "MCG_CAP": "1000c14",
+            "QUIET_SECONDS": "0",
             "RASD": str(PROGRAM),
             "RASD_ROWS": f"{self.room}/rows",
             "RASD_MADE_ROWS": f"{self.room}/made",
-            "RASD_PIPE": f"{self.room}/lines",
+            "RASD_READY": f"{self.room}/ready",
+            "RASD_LAG": "0.1",
             "RASD_TRACE": str(self.room),
             "RASD_PSTORE": f"{self.room}/pstore",
             "RASD_BERT": f"{self.room}/bert",
             "RASD_EDAC": f"{self.room}/mc",
+            "RASD_SETTINGS": f"{self.room}/settings",
         }
         self.process = None
 
-    def start(self, *where, loud=False, wait=True):
-        """Begins the command, as the service manager does; if it is loud, the output has the lines that are left out. Without
+    def start(self, *where, loud=False, wait=True, begin=subprocess.Popen):
+        """Begins the command, as the service manager does; if it is loud, the output has the lines that say nothing new. Without
         waiting, what comes before the command is begun with it.
         """
+        # A killed pass-lines leaves it; tests/program/quiet looks at that by itself.
+        (self.folder / "held-lines").unlink(missing_ok=True)
         before, command = (with_our_paths(settings(it)[0], *where) for it in ("ExecStartPre", "ExecStart"))
         words = shlex.split(command)
         if loud:
-            numbers = f"{SERVICE}/whole-lines --acknowledged {self.room}/acknowledged"
-            words[-1] = re.sub(r" > >\(.*\)$", f" > >(exec {numbers})", words[-1])
+            words.insert(1, "--loud")
         how = {"cwd": self.folder, "env": self.environment, "stdin": subprocess.DEVNULL}
         with open(self.room / "out", "wb") as out, open(self.room / "errors", "wb") as errors:
             if wait:
                 subprocess.run(shlex.split(before.lstrip("-")), stdout=out, stderr=errors, **how)
             else:
                 words = ["bash", "-c", '"$1"; shift; exec "$@"', "-", before.lstrip("-"), *words]
-            self.process = subprocess.Popen(words, stdout=out, stderr=errors, start_new_session=True, **how)
+            self.process = begin(words, stdout=out, stderr=errors, start_new_session=True, **how)
 
     def processes(self):
         """The command's processes that are left: all of its session."""
@@ -215,17 +249,17 @@ class Service:
         finally:
             self.stop(signal.SIGTERM)
 
-    def text(self, name="out"):
+    def text(self, name="out", folder=None):
         """What the command printed, or its errors, or another file, if it is there already."""
-        file = self.room / name
+        file = (folder or self.room) / name
         return file.read_text() if file.exists() else ""
 
-    def awaits(self, text, name="out", seconds=PATIENCE):
+    def awaits(self, text, name="out", seconds=PATIENCE, folder=None):
         """Whether this is printed in time."""
         end = time.monotonic() + seconds
-        while text not in self.text(name) and time.monotonic() < end:
+        while text not in self.text(name, folder) and time.monotonic() < end:
             time.sleep(0.01)
-        return text in self.text(name)
+        return text in self.text(name, folder)
 
     def awaits_names(self, count):
         """Whether the account has so many names in time, while the command goes on."""
@@ -273,7 +307,7 @@ class Service:
 
     def tell(self, *words):
         """The status of service/tell, and what it says."""
-        how = {"env": self.environment, "capture_output": True, "text": True, "timeout": PATIENCE}
+        how = {"env": {**self.environment, "RASD_PROCESS": str(self.process.pid)}, "capture_output": True, "text": True, "timeout": PATIENCE}
         ran = subprocess.run([SERVICE / "tell", *words], stdin=subprocess.DEVNULL, **how)
         return ran.returncode, ran.stdout + ran.stderr
 

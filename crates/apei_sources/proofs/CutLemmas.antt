@@ -1,4 +1,4 @@
--- The first entries of bytes, from a place on.
+-- The first entries of bytes, from an entry on.
 use Rattle.std.proofs.Common.{◌≡◌, ℕ, zero, suc, ◌+◌, ◌-◌, ◌<◌, ◌∙◌, true, false, List, [], ◌∷◌, length, get_or, refl, sym, ap, subst, arith, ◌||◌, not, Result, Ok, Err}
 use Rattle.std.specs.Result.{is_ok, is_err, IsOk}
 use Rattle.cper_sections.specs.Sections.{section_of}
@@ -21,13 +21,13 @@ length-cut zero bytes = unfold cut in refl
 length-cut (suc count) bytes = ap (λ (xs : List (List ℕ)). length xs) (cut_suc (suc count) count bytes refl)
     ∙ ap suc (length-cut count (rest_of bytes))
 
--- an entry of a block can be read
+-- An entry of a block can be read.
 pub readable_at : (count i : ℕ) (bytes : List ℕ) → list_any is_refused (cut count bytes) ≡ false → i < count
     → is_refused (get_or (cut count bytes) i []) ≡ false
 readable_at count i bytes none below =
     grind (arith, list_any_at is_refused (cut count bytes) i [] (omega (arith, length-cut count bytes)))
 
--- what is left of the first `count` entries behind `done` of them
+-- What is left of the first `count` entries after `done` of them.
 module _ (count done : ℕ) (bytes rest : List ℕ) (below : done < count) where
   pub next_inside : AreInside (count - done) rest
       → (has_entry rest ≡ true) × AreInside (count - (done + 1)) (rest_of rest)
@@ -61,7 +61,7 @@ get_or_suc : (first : List ℕ) (xs : List (List ℕ)) (i left : ℕ) → i ≡ 
     → get_or (first ∷ xs) i [] ≡ get_or xs left []
 get_or_suc first xs i left is = rw is refl
 
--- the entry at a place, behind those that were passed
+-- The entry at an index, after the skipped entries.
 module _ (count passed i : ℕ) (bytes rest : List ℕ) (within : i < count)
     (left : get_or (cut (count - passed) rest) (i - passed) [] ≡ get_or (cut count bytes) i []) where
   pub next_left : passed < i
@@ -81,7 +81,7 @@ module _ (count passed i : ℕ) (bytes rest : List ℕ) (within : i < count)
       (sym (cut_suc (count - passed) (count - (passed + 1)) rest (omega arith)))
       ∙ left
 
--- what can be read is not refused
+-- A section is refused if and only if it can't be read.
 pub not_is_ok : {X Y : Type 0} (read : Result X Y) → not (is_ok read) ≡ is_err read
 not_is_ok (Ok x) = refl
 not_is_ok (Err y) = refl
@@ -90,7 +90,7 @@ not_err : {X Y : Type 0} (read : Result X Y) → is_err read ≡ false → is_ok
 not_err (Ok x) is = refl
 not_err (Err y) is = cc
 
--- so the section of an entry of a block can be read
+-- The section of an entry of a block can be read.
 pub section_read : (count i : ℕ) (bytes : List ℕ) → list_any is_refused (cut count bytes) ≡ false → i < count
     → IsOk (section_of (entry_guid (get_or (cut count bytes) i [])) (entry_data (get_or (cut count bytes) i [])))
 unfolding is_refused

@@ -1,4 +1,4 @@
--- Entries, cut off one by one.
+-- Entries, cut off one after the other.
 use Rattle.std.proofs.Common.{◌≡◌, ℕ, zero, suc, ◌+◌, ◌-◌, ◌<◌, ◌≤◌, ◌∙◌, Bool, true, false, List, [], ◌∷◌, ◌++◌, length, take, drop, Option, Some, None, if◌then◌else◌, refl, sym, ap, subst, arith, add-one, nat_eq, length-append}
 use Rattle.std.specs.Option.{option_map}
 use Rattle.std.specs.List.{concat, AllByRecursion}
@@ -8,15 +8,15 @@ use Rattle.apei_sources.specs.Laid.{IsEntry}
 use Rattle.apei_sources.specs.Steps.Cut.{cut, AreInside}
 use Rattle.ras_base.specs.Steps.LittleEndianLemmas.{number_at-append, number_at-take}
 
--- the entries of bytes by those behind the first
+-- the entries of bytes, given the entries after the first
 abbrev pub with_first : List ℕ → Option (List (List ℕ)) → Option (List (List ℕ))
 with_first bytes entries = option_map (λ behind. first_of bytes ∷ behind) entries
 
--- the entries of bytes that begin with none
+-- the entries of bytes that don't begin with an entry
 abbrev pub none_of : List ℕ → Option (List (List ℕ))
 none_of bytes = if nat_eq (length bytes) 0 then Some [] else None
 
--- an entry that lies inside the bytes
+-- An entry lies inside the bytes.
 pub record Fits (bytes : List ℕ) : Type 0 where
   pub header : 64 ≤ length bytes
   pub inside : entry_length bytes ≤ length bytes
@@ -41,11 +41,11 @@ entries_in_more most bytes is =
     let some : nat_eq (length bytes) 0 ≡ false = grind arith in
     rw (some, is) refl
 
--- bytes that have an entry are some
+-- Bytes that begin with an entry aren't empty.
 no_entry : (bytes : List ℕ) → length bytes ≤ 0 → has_entry bytes ≡ false
 no_entry bytes none = grind arith
 
--- more than there are bytes change nothing
+-- A number of entries above the number of bytes changes nothing.
 entries_in_enough : (m n : ℕ) (bytes : List ℕ) → length bytes ≤ m → length bytes ≤ n
     → block_entries_in m bytes ≡ block_entries_in n bytes
 entries_in_enough zero n bytes first second = entries_in_last zero bytes (no_entry bytes first)
@@ -66,7 +66,7 @@ entries_in_enough (suc m) (suc n) bytes first second = by (has_entry bytes) refl
         (omega (arith, f, length-drop (entry_length bytes) bytes)))
         ∙ sym (entries_in_more n bytes is)
 
--- an entry at the front is before those of the rest
+-- An entry at the front comes before the entries of the rest.
 pub entries_of_more : (bytes : List ℕ) → has_entry bytes ≡ true
     → entries_of bytes ≡ with_first bytes (entries_of (rest_of bytes))
 entries_of_more bytes is =
@@ -76,18 +76,18 @@ entries_of_more bytes is =
     ∙ ap (with_first bytes) (entries_in_enough (length bytes - 1) (length (rest_of bytes)) (rest_of bytes)
     (omega (arith, f, length-drop (entry_length bytes) bytes)) (omega arith))
 
--- and where none is there, no bytes may be there
+-- If no entry is at the front, there may be no bytes.
 pub entries_of_last : (bytes : List ℕ) → has_entry bytes ≡ false → entries_of bytes ≡ none_of bytes
 entries_of_last bytes is = entries_in_last (length bytes) bytes is
 
--- where there are entries, what they are
+-- The entries, if bytes can be cut into entries.
 pub record Cuts (bytes : List ℕ) (entries : List (List ℕ)) : Type 0 where
   pub cut : cut (length entries) bytes ≡ entries
   pub inside : AreInside (length entries) bytes
   pub laid : concat entries ≡ bytes
   pub each : AllByRecursion IsEntry entries
 
--- the header is read in the entry as in the bytes
+-- The header is read from the entry as from the bytes.
 first_length : (bytes : List ℕ) → Fits bytes → entry_length (first_of bytes) ≡ entry_length bytes
 first_length bytes f =
     rw (
@@ -126,7 +126,7 @@ cuts_more bytes behind is cuts = record {
   each = (first_is bytes is, cuts.each);
 }
 
--- the entries behind the first, where there are entries
+-- The entries after the first, if bytes can be cut into entries.
 behind_of : (bytes : List ℕ) (read : Option (List (List ℕ))) (entries : List (List ℕ))
     → with_first bytes read ≡ Some entries
     → (behind : List (List ℕ)) × (read ≡ Some behind) × (entries ≡ first_of bytes ∷ behind)
@@ -155,7 +155,7 @@ cuts_in (suc most) bytes entries short is = by (has_entry bytes) refl (cuts_in m
 pub cuts : (bytes : List ℕ) (entries : List (List ℕ)) → entries_of bytes ≡ Some entries → Cuts bytes entries
 cuts bytes entries is = cuts_in (length bytes) bytes entries (omega arith) is
 
--- the first bytes of a list that begins with an entry are that entry
+-- The first bytes of joined entries are the first entry.
 module _ (entry rest : List ℕ) (whole : IsEntry entry) where
   same_length : entry_length (entry ++ rest) ≡ length entry
   same_length =
@@ -176,7 +176,7 @@ module _ (entry rest : List ℕ) (whole : IsEntry entry) where
       ∙ (λ i. option_map (λ behind. take_at entry rest (length entry) refl i ∷ behind)
       (entries_of (drop_at entry rest (length entry) refl i)))
 
--- entries laid end to end are those of the bytes
+-- Entries laid end to end are the entries of these bytes.
 pub entries_of-concat : (entries : List (List ℕ)) → AllByRecursion IsEntry entries
     → entries_of (concat entries) ≡ Some entries
 entries_of-concat [] each = unfold block_entries_in in refl
@@ -184,7 +184,7 @@ entries_of-concat (entry ∷ entries) each =
     split entry (concat entries) each.0
     ∙ ap (λ read. option_map (λ behind. entry ∷ behind) read) (entries_of-concat entries each.1)
 
--- Counting: `counted` stands for the entries that were passed
+-- Counting: `counted` is the number of entries that were skipped.
 abbrev pub IsCounted : List ℕ → List ℕ → ℕ → Type 0
 IsCounted bytes rest counted =
     option_map (λ entries. counted + length entries) (entries_of rest)
@@ -207,7 +207,7 @@ counts_more : (counted : ℕ) (first : List ℕ) (read : Option (List (List ℕ)
 counts_more counted first None = refl
 counts_more counted first (Some behind) = ap (λ n. Some n) (omega (arith, add-one))
 
--- one more
+-- One more entry.
 pub record Counts (bytes rest : List ℕ) (count : ℕ) : Type 0 where
   pub short : count + length rest ≤ length bytes
   pub counted : IsCounted bytes rest count
@@ -225,7 +225,7 @@ one_counted bytes rest behind counted fit is counts =
           ∙ counts.counted;
     }
 
--- at the end all are counted
+-- At the end all entries are counted.
 pub record AllCounted (bytes : List ℕ) (counted : ℕ) : Type 0 where
   pub cut : Some (cut counted bytes) ≡ entries_of bytes
   pub inside : AreInside counted bytes

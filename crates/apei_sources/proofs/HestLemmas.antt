@@ -8,7 +8,7 @@ use Rattle.apei_sources.specs.Steps.Answering.{Fails}
 use Rattle.apei_sources.specs.Sources.{source_of, size_at}
 use Rattle.apei_sources.specs.Hest.{Sources, type_with_id, followed, sources_in, source_count, hest_table, hest_of}
 
--- an answer that is the refusal itself
+-- The result is the refusal.
 pub fails : {Y : Type 0} (why : TableRefused) (answer : Result Y TableRefused) → answer ≡ Err why → Fails why answer
 fails Short answer is = is
 fails Signature answer is = is
@@ -19,7 +19,7 @@ fails SourceOut answer is = is
 fails RepeatedId answer is = is
 fails NoMemory answer is = tt
 
--- and one that comes to it
+-- The result leads to the refusal.
 pub fails_so : {Y Z : Type 0} (why : TableRefused) (answer : Result Y TableRefused) (later : Result Z TableRefused)
     → (answer ≡ Err why → later ≡ Err why) → Fails why answer → Fails why later
 fails_so Short answer later so is = so is
@@ -42,14 +42,14 @@ sources_in_suc : (more left : ℕ) (before : Sources) (bytes : List ℕ) → mor
 unfolding sources_in
 sources_in_suc more left before bytes is = rw is refl
 
--- one source more
+-- One more source.
 pub sources_in_more : (count : ℕ) (before sources : Sources) (bytes : List ℕ) (size : ℕ) → size_at bytes ≡ Ok size
     → followed before (source_of bytes) ≡ Ok sources
     → sources_in (suc count) before bytes ≡ sources_in count sources (drop size bytes)
 sources_in_more count before sources bytes size sized added = sources_in_suc (suc count) count before bytes refl
     ∙ rw (sized, added) refl
 
--- the walk ends at a source that is refused
+-- The walk ends at a source that is refused.
 pub sources_in_refused : (count : ℕ) (before : Sources) (bytes : List ℕ) (why : TableRefused)
     → size_at bytes ≡ Err why → sources_in (suc count) before bytes ≡ Err why
 sources_in_refused count before bytes why refused = sources_in_suc (suc count) count before bytes refl ∙ rw refused refl
@@ -64,7 +64,7 @@ pub sources_in_none : (before : Sources) (bytes : List ℕ) → sources_in zero 
 unfolding sources_in
 sources_in_none before bytes = refl
 
--- what is left of the first `count` sources behind `done` of them
+-- What is left of the first `count` sources after `done` of them.
 module _ (count done : ℕ) (before : Sources) (bytes rest : List ℕ)
     (left : sources_in (count - done) before rest ≡ sources_in count [] bytes) where
   counted : done < count → count - done ≡ suc (count - (done + 1))
@@ -93,7 +93,7 @@ module _ (count done : ℕ) (before : Sources) (bytes rest : List ℕ)
       let none : count - done ≡ 0 = omega arith in
       sym left ∙ ap (λ n. sources_in n before rest) none ∙ sources_in_none before rest
 
--- what the whole reading comes to, by the table and its sources
+-- The result of the whole reading, by the table and its sources.
 pub hest_refused : (bytes : List ℕ) (why : TableRefused) → hest_table bytes ≡ Err why → hest_of bytes ≡ Err why
 unfolding hest_of
 hest_refused bytes why is = rw is refl

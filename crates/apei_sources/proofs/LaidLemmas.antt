@@ -1,4 +1,4 @@
--- What the walk along sources comes to: spans laid end to end.
+-- What the walk along sources leads to: spans laid end to end.
 use Rattle.std.proofs.Common.{◌≡◌, ℕ, zero, suc, ◌+◌, ◌<◌, ◌∙◌, Bool, true, false, nat_eq, List, [], ◌∷◌, ◌++◌, length, map, take, drop, Result, Ok, Err, is_some, Contains, refl, sym, ap, subst, arith, append_assoc, append-nil}
 use Rattle.std.specs.Cmp.{nat_eq_equiv}
 use Rattle.std.specs.List.{list_any, concat, AllByRecursion, IsDistinct}
@@ -21,7 +21,7 @@ pub keys-told : (spans : List (List ℕ)) → keys_of (map source_of spans) ≡ 
 keys-told [] = refl
 keys-told (span ∷ spans) = ap (λ ids. source_id span ∷ ids) (keys-told spans)
 
--- What the walk along so many sources behind others answers, in words.
+-- The result of the walk along this number of sources after others, stated without the walk.
 pub record Read (count : ℕ) (before : Sources) (bytes : List ℕ) (all : Sources) : Type 0 where
   pub spans : List (List ℕ)
   pub rest : List ℕ
@@ -67,7 +67,7 @@ refused_so ids bytes Sum is = absurd is
 refused_so ids bytes RepeatedId is = absurd is
 refused_so ids bytes NoMemory is = absurd is
 
--- the walk goes on behind a source
+-- The walk continues after a source.
 module _ (count : ℕ) (before : Sources) (bytes : List ℕ) (size : ℕ) (begins : Begins bytes size) where
   split : take size bytes ++ drop size bytes ≡ bytes
   split = take-append-drop size bytes
@@ -128,7 +128,7 @@ once-push before id kind new once =
     subst (IsDistinct nat_eq) (sym (map-append (λ source. source.0) before ((id, kind) ∷ [])))
     (IsDistinct-push nat_eq_equiv (keys_of before) id once (sym (is_some-lookup (nat_eq id) before) ∙ new))
 
--- so the walk is as those words say
+-- The walk has the result stated without it.
 pub walked : (count : ℕ) (before : Sources) (bytes : List ℕ) → IsDistinct nat_eq (keys_of before)
     → Walked count before bytes (sources_in count before bytes)
 walked zero before bytes once =
@@ -169,7 +169,7 @@ walked (suc count) before bytes once =
         (ends count before bytes why once (refused_so (keys_of before) bytes why out))
     by (Ok size) is begins rest = added size is begins rest (is_some (type_with_id (source_id bytes) before)) refl
 
--- and where the words hold, the walk answers so
+-- If that statement holds, it is the walk's result.
 all_at : (P : ℕ → Type 0) (xs : List ℕ) (y : ℕ) (ys : List ℕ) → AllByRecursion P (xs ++ y ∷ ys) → P y
 all_at P [] y ys all = all.0
 all_at P (x ∷ xs) y ys all = all_at P xs y ys all.1
@@ -215,7 +215,7 @@ walks (span ∷ spans) more before rest each once =
     (subst (λ (sources : Sources). IsDistinct nat_eq (keys_of sources)) (sym told) once)
     ∙ ap (λ sources. sources_in more sources rest) told
 
--- at what is no source it ends
+-- The walk ends at bytes that aren't a source.
 pub stops : (left : ℕ) (before : Sources) (bytes : List ℕ) (why : TableRefused)
     → IsNoSource (keys_of before) bytes why → sources_in (suc left) before bytes ≡ Err why
 stops left before bytes SourceType is = sources_in_refused left before bytes SourceType (out_type bytes is)

@@ -1,4 +1,4 @@
--- The one source of an identifier.
+-- The only source with an identifier.
 use Rattle.std.proofs.Common.{◌≡◌, ◌∙◌, ◌↔◌, ℕ, Option, Some, None, IsNone, IsSome, Contains, nat_eq, true, sym, subst, refl, arith}
 use Rattle.std.specs.Cmp.{nat_eq_equiv}
 use Rattle.std.specs.List.{IsDistinct}
@@ -10,7 +10,7 @@ use Rattle.apei_sources.specs.Hest.{Sources, type_with_id}
 pub nat_exact : (x y : ℕ) → nat_eq x y ≡ true → x ≡ y
 nat_exact x y is = grind (arith, nat_tests)
 
--- its type is found exactly where the source is there
+-- The source's type is found if and only if the source is there.
 pub one_of : (sources : Sources) (id kind : ℕ) (found : Option ℕ) → IsDistinct nat_eq (keys_of sources)
     → found ≡ type_with_id id sources
     → (found ≡ Some kind) ↔ Contains sources (id, kind)
@@ -20,7 +20,7 @@ one_of sources id kind found once is = (
       ∙ lookup-from_Contains nat_eq_equiv id kind sources once there,
 )
 
--- and none exactly where no source has the identifier
+-- Nothing is found if and only if no source has the identifier.
 pub none_of : (sources : Sources) (id : ℕ) (found : Option ℕ) → found ≡ type_with_id id sources
     → IsNone found ↔ (Contains (keys_of sources) id → ⊥)
 none_of sources id None is = (

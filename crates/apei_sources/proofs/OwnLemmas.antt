@@ -1,4 +1,4 @@
--- Bytes that agree in a table's or a block's own bytes are read alike.
+-- Bytes that agree in a table's or a block's own bytes are read in the same way.
 use Rattle.std.proofs.Common.{◌≡◌, ℕ, ◌+◌, ◌≤◌, ◌∙◌, true, false, nat_eq, nat_lt, List, length, take, drop, codes, Result, refl, sym, ap, arith}
 use Rattle.std.specs.List.{starts_with}
 use Rattle.std.specs.Cmp.Lexicographic.{pointwise}

@@ -10,7 +10,7 @@ use Rattle.apei_sources.specs.Sources.{layouts, source_type, source_id, source_o
 use Rattle.apei_sources.specs.Laid.{IsSource}
 use Rattle.ras_base.specs.Steps.LittleEndianLemmas.{number_at-append}
 
--- the count of banks stands in the fixed bytes, behind the identifier
+-- The count of banks is in the fixed bytes, after the identifier.
 abbrev pub IsLayout : Option Layout → Type 0
 IsLayout None = Unit {0}
 IsLayout (Some layout) = (4 ≤ layout.fixed) × IfSome layout.banks_at (λ place. place < layout.fixed)
@@ -32,14 +32,14 @@ layout_is : (kind : ℕ) (layout : Layout) → layout_of kind ≡ Some layout
     → (4 ≤ layout.fixed) × IfSome layout.banks_at (λ place. place < layout.fixed)
 layout_is kind layout is = subst IsLayout is (found kind layouts are_layouts)
 
--- how many banks there are is read in the fixed bytes
+-- The count of banks is read from the fixed bytes.
 banks_of-append : (banks : Option ℕ) (fixed : ℕ) (span rest : List ℕ) → IfSome banks (λ place. place < fixed)
     → fixed ≤ length span
     → banks_of banks (span ++ rest) ≡ banks_of banks span
 banks_of-append None fixed span rest place long = refl
 banks_of-append (Some place) fixed span rest within long = get_or_append_left span rest 0 place (omega arith)
 
--- a source, and what follows it
+-- A source, and the bytes after it.
 module _ (span rest : List ℕ) (source : IsSource span) where
   part : (4 ≤ source.0.fixed) × IfSome source.0.banks_at (λ place. place < source.0.fixed)
   part = layout_is (source_type span) source.0 source.1
@@ -73,12 +73,12 @@ module _ (span rest : List ℕ) (source : IsSource span) where
       grind (arith, length-append span rest, same_size) in
       rw (more, known, fits, same_size) refl
 
--- where a source is read at the front, it is there
+-- A source that is read at the front is there.
 pub record Begins (bytes : List ℕ) (size : ℕ) : Type 0 where
   pub inside : size ≤ length bytes
   pub source : IsSource (take size bytes)
 
--- why none is
+-- Why no source is at the front.
 abbrev pub IsOut : List ℕ → TableRefused → Type 0
 IsOut bytes SourceType = (4 ≤ length bytes) × (layout_of (source_type bytes) ≡ None)
 IsOut bytes SourceOut =
@@ -130,7 +130,7 @@ sized bytes = by (nat_lt (length bytes) 4) refl
     by true few = inl (grind arith)
     by false head = sized_by bytes (layout_of (source_type bytes)) (grind arith) refl
 
--- and where none is there, none is read
+-- If no source is at the front, none is read.
 pub out_type : (bytes : List ℕ) → IsOut bytes SourceType → size_at bytes ≡ Err SourceType
 unfolding size_at
 out_type bytes is =

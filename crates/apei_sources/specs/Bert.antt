@@ -8,10 +8,10 @@ use Rattle.apei_sources.specs.declared.bert_table.Bert.{Bert}
 use Rattle.ras_base.specs.Chaining.{◌>>=◌}
 use Rattle.apei_sources.specs.Tables.{table_of}
 
--- where the table says that the region is
+-- the region that the table names
 abbrev pub region_of : List ℕ → Bert
 region_of table = record { length = number_at 36 4 table; address = number_at 40 8 table }
 
--- the region that the table at the front of bytes names, or why none is there
+-- The region that the table at the front of bytes names, or why no table is there.
 unfoldable pub bert_of : List ℕ → Result Bert TableRefused
 bert_of bytes = table_of (codes "BERT") BERT_FIXED_LENGTH bytes >>= λ table. Ok (region_of table)

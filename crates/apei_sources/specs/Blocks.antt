@@ -9,7 +9,7 @@ use Rattle.apei_sources.specs.declared.refusals.BlockRefused.{BlockRefused}
 use Rattle.apei_sources.specs.declared.refusals.BlockRefused.TheVariants.{Short, EntryOut, Section}
 use Rattle.apei_sources.specs.Entries.{is_refused, entries_of}
 
--- a block without where it lies in memory: its status, and the bytes of each entry, header and data
+-- a block without its address in memory: its status, and the bytes of each entry, header and data
 pub record BlockParts : Type 0 where
   pub status : ℕ
   pub entries : List (List ℕ)
@@ -30,13 +30,13 @@ data_length bytes = number_at 12 4 bytes
 abbrev pub data_of : List ℕ → List ℕ
 data_of bytes = take (data_length bytes) (drop BLOCK_HEADER_LENGTH bytes)
 
--- the block of a status, once its data is cut into entries
+-- a block with this status, once its data is cut into entries
 abbrev pub block_with : ℕ → Option (List (List ℕ)) → Result BlockParts BlockRefused
 block_with status None = Err EntryOut
 block_with status (Some entries) =
     if list_any is_refused entries then Err Section else Ok (record { status = status; entries = entries })
 
--- the block at the front of bytes, or the first reason that there is none; a block of status 0 is only its status
+-- The block at the front of bytes, or the first reason why no block is there. A block of status 0 is only its status.
 unfoldable pub block_of : List ℕ → Result BlockParts BlockRefused
 block_of bytes =
     if nat_lt (length bytes) BLOCK_HEADER_LENGTH then Err Short

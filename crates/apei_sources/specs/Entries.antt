@@ -32,11 +32,11 @@ entry_severity entry = number_at 16 4 entry
 abbrev pub entry_data : List ℕ → List ℕ
 entry_data entry = drop (entry_header_length entry) entry
 
--- whether an entry's section can't be read
+-- Whether an entry's section can't be read.
 unfoldable pub is_refused : List ℕ → Bool
 is_refused entry = is_err (section_of (entry_guid entry) (entry_data entry))
 
--- whether the entry at the front of data lies inside it, its header first
+-- Whether the entry at the front of data lies inside it, with its header.
 abbrev pub has_entry : List ℕ → Bool
 has_entry bytes = nat_le ENTRY_HEADER_LENGTH (length bytes) && nat_le (entry_length bytes) (length bytes)
 
@@ -48,8 +48,7 @@ first_of bytes = take (entry_length bytes) bytes
 abbrev pub rest_of : List ℕ → List ℕ
 rest_of bytes = drop (entry_length bytes) bytes
 
--- the entries that bytes are, at most this number, each after the one before it; None if one passes
--- the end
+-- The entries that the bytes consist of, at most this many; None if an entry passes the end.
 unfoldable pub block_entries_in : ℕ → List ℕ → Option (List (List ℕ))
 block_entries_in zero bytes = if nat_eq (length bytes) 0 then Some [] else None
 block_entries_in (suc most) bytes =
@@ -57,7 +56,7 @@ block_entries_in (suc most) bytes =
     else (if has_entry bytes then option_map (λ behind. first_of bytes ∷ behind) (block_entries_in most (rest_of bytes))
     else None)
 
--- the entries of a block's data, which can't be more than its bytes; None if one passes its end. specs/Laid.antt says
--- the same without this walk
+-- The entries of a block's data, at most as many as it has bytes; None if an entry passes its end. specs/Laid.antt
+-- says the same without this walk.
 abbrev pub entries_of : List ℕ → Option (List (List ℕ))
 entries_of bytes = block_entries_in (length bytes) bytes

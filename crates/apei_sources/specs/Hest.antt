@@ -14,7 +14,7 @@ use Rattle.apei_sources.specs.Sources.{source_of, size_at}
 abbrev pub Sources : Type 0
 Sources = List (ℕ × ℕ)
 
--- the type of the source of an identifier
+-- the type of the source with an identifier
 abbrev pub type_with_id : ℕ → Sources → Option ℕ
 type_with_id id sources = lookup (nat_eq id) sources
 
@@ -22,11 +22,11 @@ type_with_id id sources = lookup (nat_eq id) sources
 abbrev pub source_count : List ℕ → ℕ
 source_count table = number_at 36 4 table
 
--- the sources before and one after them, if none of them has its identifier
+-- The sources before and one more, unless one of them has its identifier.
 abbrev pub followed : Sources → ℕ × ℕ → Result Sources TableRefused
 followed before source = if is_some (type_with_id source.0 before) then Err RepeatedId else Ok (before ++ source ∷ [])
 
--- these sources, and after them as many as the number says from the front of the bytes, each after the one before it
+-- These sources, and after them this many from the front of the bytes.
 unfoldable pub sources_in : ℕ → Sources → List ℕ → Result Sources TableRefused
 sources_in zero before bytes = Ok before
 sources_in (suc count) before bytes = do
@@ -34,7 +34,7 @@ sources_in (suc count) before bytes = do
   sources ← followed before (source_of bytes)
   sources_in count sources (drop size bytes)
 
--- the table at the front of bytes, or why none is there
+-- The table at the front of bytes, or why no table is there.
 abbrev pub hest_table : List ℕ → Result (List ℕ) TableRefused
 hest_table bytes = table_of (codes "HEST") HEST_FIXED_LENGTH bytes
 
@@ -42,6 +42,6 @@ hest_table bytes = table_of (codes "HEST") HEST_FIXED_LENGTH bytes
 abbrev pub sources_of : List ℕ → Result Sources TableRefused
 sources_of table = sources_in (source_count table) [] (drop HEST_FIXED_LENGTH table)
 
--- the sources of the table at the front of bytes, or the first reason that they can't be read
+-- The sources of the table at the front of bytes, or the first reason why they can't be read.
 unfoldable pub hest_of : List ℕ → Result Sources TableRefused
 hest_of bytes = hest_table bytes >>= sources_of

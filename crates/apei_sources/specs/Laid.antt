@@ -11,18 +11,17 @@ use Rattle.apei_sources.specs.Sources.{source_type, source_id, source_of, layout
 use Rattle.apei_sources.specs.Hest.{Sources, source_count}
 use Rattle.apei_sources.specs.Entries.{entry_length}
 
--- a span of bytes is a source: its type is listed, and it has as many bytes as that type and its
--- banks say
+-- A span of bytes is a source: its type is listed, and it has as many bytes as its type and its banks require.
 abbrev pub IsSource : List ℕ → Type 0
 IsSource span = (layout : Layout) × (layout_of (source_type span) ≡ Some layout) × (length span ≡ size_of layout span)
 
--- bytes are sources laid end to end, no two of one identifier, and a rest after them
+-- Bytes are sources laid end to end, with different identifiers, and a rest after them.
 pub record AreSources (bytes : List ℕ) (spans : List (List ℕ)) (rest : List ℕ) : Type 0 where
   pub laid : bytes ≡ concat spans ++ rest
   pub each : All IsSource spans
   pub once : IsDistinct nat_eq (map source_id spans)
 
--- a table holds sources: as many as it counts, laid end to end after its fixed part
+-- A table has these sources: as many as it counts, laid end to end after its fixed part.
 pub record HoldsSources (table : List ℕ) (sources : Sources) : Type 0 where
   pub spans : List (List ℕ)
   pub rest : List ℕ
@@ -30,7 +29,7 @@ pub record HoldsSources (table : List ℕ) (sources : Sources) : Type 0 where
   pub counted : length spans ≡ source_count table
   pub listed : sources ≡ map source_of spans
 
--- after sources with these identifiers the bytes begin with no source, for this reason
+-- After sources with these identifiers the bytes don't begin with a source, for this reason.
 abbrev pub IsNoSource : List ℕ → List ℕ → TableRefused → Type 0
 IsNoSource ids bytes SourceType = (SOURCE_HEAD_LENGTH ≤ length bytes) × (layout_of (source_type bytes) ≡ None)
 IsNoSource ids bytes SourceOut = (length bytes < SOURCE_HEAD_LENGTH)
@@ -39,7 +38,7 @@ IsNoSource ids bytes RepeatedId =
     (span : List ℕ) × (rest : List ℕ) × (bytes ≡ span ++ rest) × IsSource span × Contains ids (source_id span)
 IsNoSource ids bytes _ = ⊥
 
--- a table breaks off: fewer sources than it counts are followed by bytes that begin with no source, for this reason
+-- A table breaks off: after fewer sources than it counts, the bytes don't begin with a source, for this reason.
 pub record BreaksOff (table : List ℕ) (why : TableRefused) : Type 0 where
   pub spans : List (List ℕ)
   pub rest : List ℕ
@@ -47,12 +46,12 @@ pub record BreaksOff (table : List ℕ) (why : TableRefused) : Type 0 where
   pub fewer : length spans < source_count table
   pub refused : IsNoSource (map source_id spans) rest why
 
--- a span of bytes is an entry: it has as many bytes as its header and its data
+-- A span of bytes is an entry: it has as many bytes as its header and its data.
 pub record IsEntry (span : List ℕ) : Type 0 where
   pub header : ENTRY_HEADER_LENGTH ≤ length span
   pub whole : length span ≡ entry_length span
 
--- bytes are entries laid end to end, and nothing else
+-- Bytes are entries laid end to end, and nothing else.
 pub record AreEntries (bytes : List ℕ) (entries : List (List ℕ)) : Type 0 where
   pub laid : concat entries ≡ bytes
   pub each : All IsEntry entries

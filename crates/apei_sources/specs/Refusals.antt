@@ -5,7 +5,7 @@ use Rattle.apei_sources.specs.declared.refusals.TableRefused as Tables
 use Rattle.apei_sources.specs.declared.refusals.BlockRefused.{BlockRefused}
 use Rattle.apei_sources.specs.declared.refusals.BlockRefused as Blocks
 
--- the number of a table's refusal; running out of memory has none
+-- The number of a table's refusal. Running out of memory has no number.
 abbrev pub table_number : TableRefused → Option ℕ
 table_number Tables.TheVariants.Short = Some 1
 table_number Tables.TheVariants.Signature = Some 2
@@ -22,7 +22,7 @@ block_number Blocks.TheVariants.Short = 1
 block_number Blocks.TheVariants.EntryOut = 2
 block_number Blocks.TheVariants.Section = 3
 
--- the result is the expected one, or memory ran out
+-- The result is the expected one, unless memory ran out.
 abbrev pub AnswersTable : {X : Type 0} → Result X TableRefused → Result X TableRefused → Type 0
 AnswersTable (Ok value) answer = answer ≡ Ok value
 AnswersTable (Err Tables.TheVariants.NoMemory) answer = Unit {0}

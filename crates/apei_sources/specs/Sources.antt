@@ -1,5 +1,4 @@
--- One error source of a HEST: ACPI 6.5, section 18.3.2, "ACPI Error Source". The
--- sizes are those that Linux and ACPICA take too.
+-- One error source of a HEST: ACPI 6.5, section 18.3.2, "ACPI Error Source". Linux and ACPICA use the same sizes.
 use Rattle.std.specs.Prelude.{ℕ, ◌+◌, ◌*◌, nat_eq, nat_lt, List, [], ◌∷◌, length, slice_index, Option, Some, None, Result, Ok, Err, if◌then◌else◌}
 use Rattle.std.specs.Map.{lookup}
 use Rattle.ras_base.specs.LittleEndian.{number_at}
@@ -8,15 +7,15 @@ use Rattle.apei_sources.specs.declared.sources.Layout.{Layout}
 use Rattle.apei_sources.specs.declared.refusals.TableRefused.{TableRefused}
 use Rattle.apei_sources.specs.declared.refusals.TableRefused.TheVariants.{SourceType, SourceOut}
 
--- a source of this many bytes
+-- a source with this number of bytes
 abbrev pub plain : ℕ → Layout
 plain fixed = record { fixed = fixed; banks_at = None }
 
--- a source of this many bytes and its banks, whose count is the byte at this place
+-- A source with this number of bytes and its banks, whose count is the byte at this offset.
 abbrev pub with_banks : ℕ → ℕ → Layout
 with_banks fixed place = record { fixed = fixed; banks_at = Some place }
 
--- the layout of each type of source; the other types are not read
+-- The layout of each type of source. Other types aren't read.
 unfoldable pub layouts : List (ℕ × Layout)
 layouts =
     -- machine-check exception
@@ -47,7 +46,7 @@ source_type source = number_at 0 2 source
 abbrev pub source_id : List ℕ → ℕ
 source_id source = number_at 2 2 source
 
--- what is kept of a source: its identifier and its type
+-- what is stored of a source: its identifier and its type
 abbrev pub source_of : List ℕ → ℕ × ℕ
 source_of source = (source_id source, source_type source)
 
@@ -60,12 +59,12 @@ banks_of (Some place) source = slice_index source place
 abbrev pub size_of : Layout → List ℕ → ℕ
 size_of layout source = layout.fixed + BANK_LENGTH * banks_of layout.banks_at source
 
--- how many bytes the source of a layout takes at the front of bytes, if it lies inside them
+-- How many bytes the source of a layout has at the front of bytes, if it lies inside them.
 abbrev pub size_by : Option Layout → List ℕ → Result ℕ TableRefused
 size_by None bytes = Err SourceType
 size_by (Some layout) bytes =
     if nat_lt (length bytes) (size_of layout bytes) then Err SourceOut else Ok (size_of layout bytes)
 
--- how many bytes the source at the front takes; its type and its identifier come first
+-- How many bytes the source at the front has. Its type and its identifier come first.
 unfoldable pub size_at : List ℕ → Result ℕ TableRefused
 size_at bytes = if nat_lt (length bytes) SOURCE_HEAD_LENGTH then Err SourceOut else size_by (layout_of (source_type bytes)) bytes

@@ -5,8 +5,8 @@ use Rattle.ras_base.specs.AcpiTable.{own_bytes, has_length, has_sum}
 use Rattle.apei_sources.specs.declared.refusals.TableRefused.{TableRefused}
 use Rattle.apei_sources.specs.declared.refusals.TableRefused.TheVariants.{Short, Signature, Length, Sum}
 
--- the table with this signature at the front of bytes, whose fixed part has this length, or the first reason that there
--- is none
+-- The table with this signature at the front of bytes, whose fixed part has this length, or the first reason why no
+-- table is there.
 unfoldable pub table_of : List ℕ → ℕ → List ℕ → Result (List ℕ) TableRefused
 table_of signature fixed bytes =
     if nat_lt (length bytes) fixed then Err Short

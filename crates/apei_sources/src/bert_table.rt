@@ -10,7 +10,7 @@ use ras_base::little_endian::{u32_at, u64_at};
 /// The bytes of a BERT.
 pub const BERT_FIXED_LENGTH: usize = 48;
 
-/// Where in memory the errors of the boot before are.
+/// Where in memory the errors of the previous boot are.
 #[derive(Clone, Copy, Debug, PartialEq, Eq)]
 pub struct Bert {
     /// The length of the region, in bytes.

@@ -64,7 +64,7 @@ pub fn read_block(bytes: &[u8]) -> Result<Block<'_>, BlockRefused>
     block_with(status, &bytes[BLOCK_HEADER_LENGTH..end])
 }
 
-// The block of a status and its data.
+// Returns the block with this status and its data.
 fn block_with(status: u32, bytes: &[u8]) -> Result<Block<'_>, BlockRefused>
     ensures { result ≡ block_with status (entries_of bytes.now) }
 {

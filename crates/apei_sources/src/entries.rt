@@ -19,7 +19,7 @@ pub const LONG_ENTRY_HEADER_LENGTH: usize = 72;
 /// The first major revision whose header has a timestamp.
 pub const TIMESTAMP_REVISION: u16 = 3;
 
-// The bytes of the header of the entry at the front.
+// Returns the length of the header of the entry at the front.
 fn entry_header_length(bytes: &[u8]) -> usize
     requires { ENTRY_HEADER_LENGTH ≤ length bytes.now }
     ensures value { result ≡ entry_header_length bytes.now }
@@ -33,7 +33,7 @@ fn entry_header_length(bytes: &[u8]) -> usize
     }
 }
 
-// The bytes of the entry at the front, its header and its data.
+// Returns the length of the entry at the front, its header and its data.
 fn entry_length(bytes: &[u8]) -> usize
     requires { ENTRY_HEADER_LENGTH ≤ length bytes.now }
     ensures { result ≡ entry_length bytes.now }
@@ -41,14 +41,14 @@ fn entry_length(bytes: &[u8]) -> usize
     entry_header_length(bytes) + u32_at(bytes, 24) as usize
 }
 
-// Whether the entry at the front lies inside the bytes.
+// Returns whether the entry at the front lies inside the bytes.
 fn has_entry(bytes: &[u8]) -> bool
     ensures { result ≡ has_entry bytes.now }
 {
     ENTRY_HEADER_LENGTH <= bytes.len() && entry_length(bytes) <= bytes.len()
 }
 
-// The entry at the front, header and data.
+// Returns the entry at the front, header and data.
 fn first_entry(bytes: &[u8]) -> &[u8]
     requires { IsTrue (has_entry bytes.now) }
     ensures entry { result.now ≡ first_of bytes.now }
@@ -57,7 +57,7 @@ fn first_entry(bytes: &[u8]) -> &[u8]
     &bytes[..entry_length(bytes)]
 }
 
-// The bytes after the entry at the front.
+// Returns the bytes after the entry at the front.
 fn behind_first(bytes: &[u8]) -> &[u8]
     requires { IsTrue (has_entry bytes.now) }
     ensures { result.now ≡ rest_of bytes.now }
@@ -65,7 +65,7 @@ fn behind_first(bytes: &[u8]) -> &[u8]
     &bytes[entry_length(bytes)..]
 }
 
-// How many entries the bytes are, or None if one passes their end.
+// Returns how many entries the bytes consist of, or `None` if an entry passes their end.
 pub(crate) fn count_entries(bytes: &[u8]) -> Option<usize>
     ensures entries { option_map (λ count. cut count bytes.now) result ≡ entries_of bytes.now }
     ensures inside { IfSome result (λ count. AreInside count bytes.now) }
@@ -82,7 +82,7 @@ pub(crate) fn count_entries(bytes: &[u8]) -> Option<usize>
     Some(count)
 }
 
-// Whether some of the first entries can't be read.
+// Returns whether one of the first entries can't be read.
 pub(crate) fn is_some_refused(bytes: &[u8], count: usize) -> bool
     requires { AreInside count bytes.now }
     ensures { result ≡ list_any is_refused (cut count bytes.now) }
@@ -97,7 +97,7 @@ pub(crate) fn is_some_refused(bytes: &[u8], count: usize) -> bool
     false
 }
 
-// The bytes of an entry by its number among the first.
+// Returns the bytes of an entry by its number among the first entries.
 pub(crate) fn nth_entry(bytes: &[u8], count: usize, i: usize) -> &[u8]
     requires inside { AreInside count bytes.now }
     requires within { i < count }
@@ -111,7 +111,7 @@ pub(crate) fn nth_entry(bytes: &[u8], count: usize, i: usize) -> &[u8]
     first_entry(left)
 }
 
-// Whether an entry's section can't be read.
+// Returns whether an entry's section can't be read.
 #[tactic(auto, using(crate::proofs::CutLemmas::not_is_ok), unfolding(crate::specs::Entries::is_refused))]
 fn is_refused(entry: &[u8]) -> bool
     requires { IsEntry entry.now }
@@ -120,7 +120,7 @@ fn is_refused(entry: &[u8]) -> bool
     !entry_section(entry).is_readable()
 }
 
-// An entry's section, with what its header says of it.
+// Returns an entry's section, with the fields of its header.
 pub(crate) fn entry_section(entry: &[u8]) -> RawSection<'_>
     requires { IsEntry entry.now }
     ensures severity { result.severity ≡ entry_severity entry.now }

@@ -58,7 +58,7 @@ pub fn read_hest(alloc: Global, bytes: &[u8]) -> Result<Hest, TableRefused>
     Ok(Hest { sources })
 }
 
-// The `count` sources at the front of bytes.
+// Returns the `count` sources at the front of bytes.
 fn sources_at(alloc: Global, count: u32, bytes: &[u8]) -> Result<IndexMap<u16, u16>, TableRefused>
     ensures answer { Gives (λ sources. sources.entries) result (sources_in count [] bytes.now) }
     ensures once { IfOk result (λ sources. IsDistinct nat_eq (keys_of sources.entries)) }
@@ -73,7 +73,7 @@ fn sources_at(alloc: Global, count: u32, bytes: &[u8]) -> Result<IndexMap<u16, u
     Ok(sources)
 }
 
-// Adds the source at the front of bytes after the others, if none of them has its identifier.
+// Appends the source at the front of bytes, unless one of the others has its identifier.
 fn add_source(sources: &mut IndexMap<u16, u16>, bytes: &[u8]) -> Result<(), TableRefused>
     requires head { SOURCE_HEAD_LENGTH ≤ length bytes.now }
     requires once { IsDistinct nat_eq (keys_of sources.old.entries) }

@@ -1,4 +1,4 @@
-//! What holds of tables and blocks for every list of bytes.
+//! The laws of tables and blocks, for every list of bytes.
 
 ghost use Rattle.std.specs.Prelude.{◌≡◌, ◌≤◌, ◌↔◌, ◌+◌, ℕ, List, length, take, Some, None, Ok, Err};
 ghost use Rattle.apei_sources.specs.declared.entries.TheConstants.{ENTRY_HEADER_LENGTH, LONG_ENTRY_HEADER_LENGTH, TIMESTAMP_REVISION};
@@ -56,7 +56,8 @@ pub fn only_own_bytes()
         → block_status bytes ≡ 0 → block_status others ≡ 0 → block_of others ≡ block_of bytes }
 {}
 
-/// The numbers that the definitions cite by name are those of ACPI 6.5, sections 18.3.1 and 18.3.2.
+/// The numbers behind the names that the definitions use are those of ACPI 6.5, sections 18.3.1 and
+/// 18.3.2.
 pub fn numbers_in_digits()
     ensures block { BLOCK_HEADER_LENGTH ≡ 20 }
     ensures entry { ENTRY_HEADER_LENGTH ≡ 64 }

@@ -5,11 +5,11 @@ ghost use Rattle.apei_sources.specs.Refusals.{table_number, block_number};
 
 use thiserror::Error;
 
-/// Why a table can't be read, the first that applies in this order. A HEST's sources are walked one
-/// by one, and each is tried for 5, then 6, then 7.
+/// Why a table can't be read: the first reason that applies, in this order. A HEST's sources are
+/// walked one by one, and each is tried for 5, then 6, then 7.
 #[derive(Clone, Copy, Debug, PartialEq, Eq, Error)]
 pub enum TableRefused {
-    /// 1: there are fewer bytes than the table's fixed part has, 40 of a HEST and 48 of a BERT.
+    /// 1: there are fewer bytes than the table's fixed part has, 40 for a HEST and 48 for a BERT.
     #[error("the table has fewer bytes than its fixed part")]
     Short,
     /// 2: the table doesn't begin with its signature, `HEST` or `BERT`.
@@ -27,16 +27,16 @@ pub enum TableRefused {
     /// 6: a source passes the table's length, or fewer than 4 bytes of it are there.
     #[error("an error source passes the table's end")]
     SourceOut,
-    /// 7: a source has the identifier of one before it.
+    /// 7: a source has the identifier of an earlier source.
     #[error("two error sources have one identifier")]
     RepeatedId,
-    /// Memory ran out. It has no number, since it is no fault of the table.
+    /// Memory ran out. This has no number, because it isn't a fault of the table.
     #[error("memory ran out")]
     NoMemory,
 }
 
-/// Why a status block can't be read, the first that applies in this order. All entries are tried
-/// for 2 before any for 3.
+/// Why a status block can't be read: the first reason that applies, in this order. All entries are
+/// tested for 2 before any is tested for 3.
 #[derive(Clone, Copy, Debug, PartialEq, Eq, Error)]
 pub enum BlockRefused {
     /// 1: there are fewer bytes than the block's header of 20, or than header and data if the

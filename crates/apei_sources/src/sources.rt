@@ -40,7 +40,7 @@ impl Layout {
     }
 }
 
-// The layout of a type of source, or None if the type isn't known.
+// Returns the layout of a type of source, or `None` if the type isn't known.
 #[tactic(auto, unfolding(crate::specs::Sources::layouts))]
 fn layout_of(kind: u16) -> Option<Layout>
     ensures layout { result ≡ layout_of kind }
@@ -59,7 +59,7 @@ fn layout_of(kind: u16) -> Option<Layout>
     }
 }
 
-// How many bytes the source at the front takes.
+// Returns how many bytes the source at the front has.
 #[tactic(auto, unfolding(crate::specs::Sources::size_at))]
 pub(crate) fn size_at(bytes: &[u8]) -> Result<usize, TableRefused>
     ensures answer { result ≡ size_at bytes.now }
@@ -82,7 +82,7 @@ pub(crate) fn size_at(bytes: &[u8]) -> Result<usize, TableRefused>
     Ok(size)
 }
 
-// How many banks a source has.
+// Returns how many banks a source has.
 fn bank_count(layout: Layout, source: &[u8]) -> usize
     requires { IfSome layout.banks_at (λ place. place < length source.now) }
     ensures value { result ≡ banks_of layout.banks_at source.now }

@@ -8,7 +8,7 @@ use crate::TableRefused;
 use ras_base::has_sum;
 use ras_base::little_endian::u32_at;
 
-// The table of a signature at the front of bytes, whose fixed part has `fixed` bytes.
+// Returns the table with this signature at the front of bytes, whose fixed part has `fixed` bytes.
 #[tactic(auto, unfolding(crate::specs::Tables::table_of))]
 pub(crate) fn table_at<'a>(
     bytes: &'a [u8],

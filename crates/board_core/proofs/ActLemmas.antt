@@ -1,4 +1,4 @@
--- What acts list, and what they leave alone.
+-- What acts list, and what they leave unchanged.
 use Rattle.std.proofs.Common.{◌≡◌, ◌∙◌, ◌⊎◌, ℕ, List, [], ◌∷◌, ◌++◌, length, Some, refl, sym, ap, inl, inr, append_assoc, append-nil}
 use Rattle.ras_base.specs.Prefix.{IsPrefixOf}
 use Rattle.board_core.specs.declared.board.Access.{Access}
@@ -31,7 +31,7 @@ calls_by_acts (act ∷ acts) t =
     calls_by_acts acts (after_act act t)
     ∙ (ap (λ (l : List DiskCall). l ++ calls_of acts) (calls_by_act act t) ∙ append_assoc t.disk_calls (disk_calls_by act) (calls_of acts))
 
--- if an act failed: a beginning of them
+-- If an act failed, a beginning of the disk calls is listed.
 pub record ListsBeginning (whole : List DiskCall) (old new : Told) : Type 0 where
   pub made : List DiskCall
   pub listed : new.disk_calls ≡ old.disk_calls ++ made
@@ -155,7 +155,7 @@ torn_device (prints bytes) off t left torn = ap (λ (l : Left). l.store) torn.re
 torn_device (calls call) off t left is = ap (λ (l : Left). l.store) is
 torn_device (device call) off t left torn = absurd off
 
--- a stop meanwhile leaves the store that is told
+-- A crash meanwhile leaves the model's store.
 pub moment_store : (acts : List Act) → AreOffDevice acts → (t : Told) (left : Left) → Moment acts t left → left.store ≡ t.here.store
 moment_store [] off t left never = absurd never
 moment_store (act ∷ acts) off t left (inl torn) = torn_device act off.0 t left torn
@@ -196,7 +196,7 @@ pub acts_out : (acts : List Act) → AreOnDisk acts → (t : Told) → (after_ac
 acts_out [] on t = refl
 acts_out (act ∷ acts) on t = acts_out acts on.1 (after_act act t) ∙ act_out act on.0 t
 
--- a stop meanwhile leaves the text that is told
+-- A crash meanwhile leaves the model's text.
 pub moment_out : (acts : List Act) → AreOnDisk acts → (t : Told) (left : Left) → Moment acts t left → left.out ≡ t.here.out
 moment_out [] on t left never = absurd never
 moment_out (act ∷ acts) on t left (inl torn) = torn_out act on.0 t left torn

@@ -16,7 +16,7 @@ use Rattle.board_core.specs.Told.{Torn}
 
 -- together
 
--- what a call leads to, for a disk that keeps what a stop before it may have left
+-- What a call leads to, for a disk that allows whatever a crash before the call may have left.
 after_call : (call : Call) (disk : Disk) (old new : Clock) → KeepsDisk disk old → IsMade call old new → KeepsDisk (after call disk) new
 after_call (writes Zero place count) disk old new keeps made left now =
     let from : After old (InFile Zero (Torn place count)) left = made.ends left now in
@@ -50,7 +50,7 @@ after_call rests disk old new keeps made left now =
     let from : After old Same left = made.ends left now in
     rw from.by (keeps from.from from.was)
 
--- what a stop during a call leaves
+-- What a crash during a call leaves.
 during_call : (call : Call) (disk : Disk) (old new : Clock) (t : ℕ) (left : Left) → KeepsDisk disk old → IsMade call old new → t ≤ old.now → new.may_leave_since t left
     → old.may_leave_since t left ⊎ (MayLeave disk call left ⊎ MayLeave (after call disk) rests left)
 during_call (writes Zero place count) disk old new t left keeps made within since =
@@ -95,7 +95,7 @@ call_later (stores made store) old new is = is.0.later
 call_later (prints piece part) old new made = made.0.later
 call_later rests old new made = made.later
 
--- what may be left at first may be left since then
+-- What a crash at first may leave, a crash since then may leave.
 first_counts : (disk : Disk) (calls : List Call) (left : Left) → MayLeave disk rests left → MayLeaveSince disk calls 0 left
 first_counts disk [] left may = may
 first_counts disk (call ∷ calls) left may = inl (call_more disk call left may)
@@ -159,7 +159,7 @@ passes_made (stores made store) old new is = is.0
 passes_made (prints piece part) old new made = made.0
 passes_made rests old new made = made
 
--- what a step leads to, of one file
+-- What a step leads to, for one file.
 file_step : (file : FileNo) (call : Call) (synced : List ℕ) (ranges : List Range) (old new : Left) → step_of call old new → MayLeaveFile (file_with synced ranges) (file_in file old) → MayLeaveFile (file_with synced (ranges ++ range_in file call)) (file_in file new)
 file_step Zero (writes Zero place count) synced ranges old new step may = rw step.rest (torn_more (file_with synced ranges) place count old.file0 step.bytes may step.step)
 file_step Zero (writes One place count) synced ranges old new step may = rw step.rest (rw append-nil may)

@@ -1,4 +1,4 @@
--- Acts one after another, and what calls that do them come to.
+-- Acts one after another, and what functions that do them lead to.
 use Rattle.std.proofs.Common.{ℕ, ◌≤◌, ◌≡◌, ◌∙◌, List, [], ◌∷◌, ◌++◌, Option, None, Some, Result, Ok, Err, refl, sym, ap, subst, inl, inr, ◌⊎◌}
 use Rattle.std.specs.Option.{option_map}
 use Rattle.erst_store.specs.Device.{Device}
@@ -88,7 +88,7 @@ does_nothing see x = record {
     still None = refl
     still (Some t) = refl
 
--- acts that went well, and then others
+-- Acts that succeeded, and then others.
 pub does_then : {X : Type 0} (see : X → Seen) (xs ys : List Act) (ended : Ended) (a b c : X) → Does see xs went_well a b → IsMade ended → Does see ys ended b c → Does see (xs ++ ys) ended a c
 does_then see xs ys went_well a b c first made second = record {
   told = acts_then xs ys (see a).told (see b).told (see c).told first.told second.told;
@@ -103,7 +103,7 @@ does_then see xs ys (broke kind) a b c first made second = record {
 }
 does_then see xs ys gave_up a b c first made second = absurd made
 
--- acts whose first ones didn't go well
+-- Acts whose first part didn't succeed.
 pub does_first : {X : Type 0} (see : X → Seen) (xs ys : List Act) (ended : Ended) (a b : X) → IsBad ended → Does see xs ended a b → Does see (xs ++ ys) ended a b
 does_first see xs ys went_well a b bad first = absurd bad
 does_first see xs ys (broke kind) a b bad first = record {
@@ -126,7 +126,8 @@ does_stops see acts gave_up a b does t rests = subst (λ x. Adds (Moment acts t)
 
 -- ---- one act
 
--- One call, after which a crash leaves what the model says if a crash before did: any but a write without its sync.
+-- Whether a crash after this act leaves exactly what the model says, if a crash before it did: every act except a
+-- write without its sync.
 abbrev pub IsSafe : Act → Type 0
 IsSafe (through file place bytes) = ⊥
 IsSafe (writes file place bytes) = ⊥
@@ -153,13 +154,13 @@ stops_one : {X : Type 0} (see : X → Seen) (act : Act) (a b : X) → Passes (Te
 stops_one see act a b passes t rests = adds_at_rest (Tears act (see a).told) (Moment (act ∷ []) t) t (see a).told (see a).clock (see b).clock rests passes
     (λ left torn. inl (subst (λ (o : Option Told). Tears act o t.here left) rests.is torn))
 
--- a call of the device that left the store as it was
+-- A device call that left the store unchanged.
 rests_still : (call : DeviceCall) (t : Told) (a b : Seen) → (after_device call t).here ≡ t.here → Steps (after_device call) a.told b.told → Passes Same a.clock b.clock
     → Rests t a.told a.clock → Rests (after_device call t) b.told b.clock
 rests_still call t a b still steps passes rests =
     rests_on (after_device call) Same t a.told b.told a.clock b.clock rests steps passes.ends (λ left is. is ∙ sym still)
 
--- one that may have changed it, if a crash then leaves what the model has
+-- A device call that may have changed the store, if a crash then leaves the model's store.
 rests_changed : (call : DeviceCall) (step : Device → Device) (t : Told) (a b : Seen) → (after_device call t).here ≡ record t.here { store = (step (device_of t)).store }
     → Steps (after_device call) a.told b.told → Passes (InStore (StoreBy step a.told)) a.clock b.clock → (StoreIsLeft a.told a.clock → StoreIsLeft b.told b.clock)
     → Rests t a.told a.clock → Rests (after_device call t) b.told b.clock
@@ -172,7 +173,7 @@ rests_changed call step t a b frame steps passes stored rests =
     there : b.told ≡ Some (after_device call t)
     there = steps ∙ ap (option_map (after_device call)) rests.is
 
--- If a crash before would have left what the model says, so does one after an act that is done.
+-- If a crash before an act would have left exactly what the model says, so does a crash after the act.
 rests_one : (act : Act) → IsSafe act → (t : Told) (a b : Seen) → Steps (after_act act) a.told b.told → Passes (Tears act a.told) a.clock b.clock → ActSettles act a b
     → Rests t a.told a.clock → Rests (after_act act t) b.told b.clock
 rests_one (through file place bytes) safe t a b steps passes settles rests = absurd safe
@@ -199,7 +200,7 @@ does_made see act (Err e) a b safe made = record {
   faults = broke_faults (kind_of act) (see a).faults (see b).faults made.cause;
 }
 
--- a put, which is refused, or fails, or puts the record
+-- A put, which the store refuses, or which fails, or which puts the record.
 pub does_put : {X : Type 0} (see : X → Seen) (id : ℕ) (bytes : List ℕ) (result : Result (Unit {0}) BoardPut) (a b : X) → PutMade id bytes result (see a) (see b)
     → ((s t : ℕ) (left : Left) → s ≤ t → (see a).clock.may_leave_since t left → (see a).clock.may_leave_since s left)
     → Does see (put_acts id bytes result) (one_end device_call (put_failure result)) a b

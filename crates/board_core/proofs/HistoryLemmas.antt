@@ -1,5 +1,4 @@
--- The files, the device and the output of a board in memory are what its acts made of them, and so
--- after one act more.
+-- The files, the device and the output of a board in memory are what its acts made of them, also after one more act.
 use Rattle.std.proofs.Common.{◌≡◌, ℕ, List, [], ◌∷◌, ◌++◌, Result, Ok, Err, OnOk, OnErr, ap, sym, ◌∙◌, subst}
 use Rattle.std.proofs.lemmas.List.{map_push}
 use Rattle.erst_store.specs.Device.{Device, device_with, volatile_of}
@@ -14,7 +13,7 @@ use Rattle.board_core.specs.Stop.{Left}
 use Rattle.board_core.specs.Told.{Told, device_of, on_device, overlay}
 use Rattle.board_core.proofs.DoingLemmas.{after-append}
 
--- what was begun with, by what the fields have and the events so far
+-- The first contents, by the board's fields and the events so far.
 module _ (file0 file1 : List ℕ) (device : Device) (out : List ℕ) (events more : List MemChange) (first : Told) (so_far : Has (after_acts (acts_of events) first) file0 file1 device out) where
   abbrev now : Told
   now = after_acts (acts_of events) first
@@ -67,7 +66,7 @@ module _ (file0 file1 : List ℕ) (device : Device) (out : List ℕ) (events mor
   device_is : device_of now ≡ device
   device_is = ap (λ (l : Left). device_with l.store now.volatile) so_far.0 ∙ ap (device_with device.store) so_far.1
 
-  -- an act that does this to the device
+  -- An act that changes the device in this way.
   pub device_acted : (event : MemChange) (act : Act) (step : Device → Device) (new : Device) → (Has (on_device step now) file0 file1 new out → Has (after_act act now) file0 file1 new out)
       → act_of event ≡ act → more ≡ events ++ event ∷ [] → new ≡ step device → Has (after_acts (acts_of more) first) file0 file1 new out
   device_acted event act step new by of is made =

@@ -1,4 +1,4 @@
--- One event more, for one file of a board in memory.
+-- One more event, for one file of a board in memory.
 use Rattle.std.proofs.Common.{◌≡◌, ℕ, ◌+◌, ◌<◌, ◌≤◌, ◌⊎◌, List, [], ◌∷◌, ◌++◌, length, take, drop, get_or, refl, ap, sym, ◌∙◌, inl, inr, arith, append-nil}
 use Rattle.std.proofs.lemmas.Bool.{cases_lt}
 use Rattle.std.proofs.lemmas.List.{length-take, flat_map_more, take_more, drop-append-le, drop_all}
@@ -37,14 +37,14 @@ ranges_of-more number changes change = sym (flat_map_more (range_of number) [] c
 events_more : (events : List MemChange) (i : ℕ) (event : MemChange) → i < length events → event ≡ get_or events i event → take (i + 1) events ≡ take i events ++ event ∷ []
 events_more events i event within is = take_more events i event within ∙ ap (λ e. take i events ++ e ∷ []) (sym is)
 
--- The bytes go on by one event.
+-- The bytes after one more event.
 pub repeated : (number : FileNo) (events : List MemChange) (i : ℕ) (event : MemChange) (first so_far next : List ℕ) → i < length events → event ≡ get_or events i event
     → so_far ≡ bytes_after_all number (take i events) first → next ≡ bytes_after number event so_far → next ≡ bytes_after_all number (take (i + 1) events) first
 repeated number events i event first so_far next within is invariant step =
     step ∙ (ap (bytes_after number event) invariant
     ∙ (sym (bytes_after_all-more number (take i events) event first) ∙ ap (λ cs. bytes_after_all number cs first) (sym (events_more events i event within is))))
 
--- Bytes that were set go on to be set.
+-- Bytes that were set stay set.
 
 inside_or_outside : (ranges : List Range) (k : ℕ) → IsInside ranges k ⊎ IsOutside ranges k
 inside_or_outside [] k = inr tt
@@ -147,7 +147,7 @@ module _ (number : FileNo) (events : List MemChange) (i : ℕ) (event : MemChang
       ∙ (other_disk_after number event (bytes_after_all number cs bytes) (bytes_after_all number (take count events) bytes) (ranges_of number (drop count (take i events))) other
       ∙ ap (λ (ranges : List Range). record { synced = bytes_after_all number (take count events) bytes; written = ranges }) (sym behind))))
 
--- What became of one file is the part of it in what became of all.
+-- The history of one file is its part of the whole history.
 
 abbrev then : MemChange → Told → Told
 then event t = after_act (act_of event) t
@@ -177,7 +177,7 @@ one_of (WroteRange place new ∷ xs) t disk = one_of xs (then (WroteRange place 
 one_of (Put id new ∷ xs) t disk = one_of xs (then (Put id new) t) (disk_then (Put id new) t disk)
 one_of (Printed piece ∷ xs) t disk = one_of xs (then (Printed piece) t) (disk_then (Printed piece) t disk)
 
--- the past that these fields of a board stand for
+-- the past that these fields of a board mean
 abbrev pub past_with : MemFile → MemFile → List Stored → ℕ → List MemChange → Past
 past_with zero one store slow events = record { first = new_told (first_bytes zero) (first_bytes one) store slow; acts = acts_of events }
 
@@ -193,7 +193,7 @@ module _ (pick : Pick) (zero one : MemFile) (store : List Stored) (slow : ℕ) (
       → IsPicked pick (disk_of past).one (now_of past).here.file1 taken
   picked_one is may = rw (one_of events past.first (settled_disk past.first.here), is) may
 
--- What is picked may be left.
+-- The picked state may be left.
 
 picked_may : (pick : Pick) (file : DiskFile) (now taken : List ℕ) → MayLeaveFile file now → IsPicked pick file now taken → MayLeaveFile file taken
 picked_may Old file now taken may picked = rw picked (record { stays = λ k below outside. refl; no_shorter = omega arith; no_longer = greatest_length-least (length file.synced) file.written })

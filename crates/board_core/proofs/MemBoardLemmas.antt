@@ -1,4 +1,4 @@
--- What a board in memory tells and may leave after one call.
+-- The model of a board in memory, and what a crash may leave, after one call.
 use Rattle.std.proofs.Common.{◌≡◌, ℕ, List, [], ◌∷◌, append-nil, Some, Result, Ok, Err, refl, ap, sym, ◌∙◌, subst, inl, inr, arith}
 use Rattle.std.specs.Prelude.{IfOk}
 use Rattle.erst_store.specs.Store.{Stored}
@@ -19,11 +19,11 @@ use Rattle.board_core.specs.Steps.MomentLemmas.{torn_same}
 use Rattle.board_core.specs.Told.{Told, MayList, FailsPrint, FailsWrite, after_put, device_of, file_of, with_file}
 use Rattle.board_core.proofs.DoingLemmas.{after-append, same_count}
 
--- what contracts see of a board in memory
+-- a board in memory as contracts see it
 abbrev pub seen_of : State → Seen
 seen_of s = record { told = Some (told_of s); clock = clock_of s.past; faults = s.faults }
 
--- where nothing changed, a stop leaves what each step leaves that may do nothing
+-- If nothing changed, a crash leaves what any step leaves that may do nothing.
 pub stood : (Step : Left → Left → Type 0) (old new : Past) → ((left : Left) → Step left left) → new ≡ old → Passes Step (clock_of old) (clock_of new)
 stood Step old new same is = subst (λ (p : Past). Passes Step (clock_of old) (clock_of p)) (sym is) (record {
   later = omega arith;
@@ -59,7 +59,7 @@ faulted kind e before new fault =
 
 -- ---- a call
 
--- What the board that has listed a call has to be for the call to do this act, which its past keeps if it succeeds.
+-- A call does this act if the board that has listed the call is like this; the past has the act if it succeeds.
 pub record Acts (act : Act) (listed old : State) : Type 0 where
   pub lists : listed ≡ record old { disk_calls = listed.disk_calls; accesses = listed.accesses }
   pub told : record (after_act act (now_of old.past)) { disk_calls = listed.disk_calls; accesses = listed.accesses } ≡ after_act act (told_of old)
@@ -106,7 +106,7 @@ file_same : (file : FileNo) (t : Told) → with_file file (file_of file t) t ≡
 file_same Zero t = refl
 file_same One t = refl
 
--- a write that failed before a byte was written, and a print
+-- A write that failed before a byte was written, and a print.
 pub fails_write : (file : FileNo) (place count : ℕ) (t new : Told) → MayList (WriteAt file place count) t new → FailsWrite file place count t new
 fails_write file place count t new may =
     (file_of file t, torn_same place count (file_of file t), subst (λ (u : Told). MayList (WriteAt file place count) u new) (sym (file_same file t)) may)

@@ -4,7 +4,7 @@ use Rattle.erst_store.specs.Store.{Stored}
 use Rattle.board_core.specs.Clock.{Clock, Adds, IsStored}
 use Rattle.board_core.specs.Told.{Told}
 
--- the device with its record store, and the list of accesses to it, are as they were
+-- The device with its record store, and the list of accesses to it, are unchanged.
 pub record KeepsDevice (before now : Told) : Type 0 where
   pub store : now.here.store ≡ before.here.store
   pub volatile : now.volatile ≡ before.volatile

@@ -11,7 +11,7 @@ pub record Range : Type 0 where
   pub place : ℕ
   pub count : ℕ
 
--- an offset in none of these ranges
+-- An offset is in none of these ranges.
 abbrev pub IsOutside : List Range → ℕ → Type 0
 IsOutside [] place = Unit {0}
 IsOutside (range ∷ ranges) place = ((place < range.place) ⊎ (range.place + range.count ≤ place)) × IsOutside ranges place
@@ -44,10 +44,10 @@ pub record Disk : Type 0 where
   pub store : List Stored
   pub out : List ℕ
 
--- A call as the disk sees it. A write, with its file, offset and length, whether it succeeded or not. A sync that
--- succeeded, with the file's bytes as a read then returns them. A call of the device, with the store that it would make
--- and the store after it, which is that store if the call succeeded. A print, with its piece and the part of it that
--- was appended, which is all of it if the print succeeded. Any other call.
+-- A call as the disk sees it. A write has its file, offset and length, whether it succeeded or not. A sync that
+-- succeeded has the file's bytes as a read then returns them. A call of the device has the store that it would make
+-- and the store after it, which are equal if the call succeeded. A print has its piece and the part of it that was
+-- appended, which is all of it if the print succeeded. Any other call has nothing.
 pub data Call : Type 0 where
   writes : FileNo → ℕ → ℕ → Call
   syncs : FileNo → List ℕ → Call
@@ -60,13 +60,13 @@ abbrev pub piece_of : Call → List ℕ
 piece_of (prints piece part) = piece
 piece_of call = []
 
--- the store that a call would make; only a call of the device makes another one
+-- The store that a call would make. Only a call of the device changes the store.
 abbrev pub store_made : Call → List Stored → List Stored
 store_made (stores made store) old = made
 store_made call old = old
 
--- What a crash may leave during this call, or between calls if it is `rests`: of each file what the disk may leave of
--- it; the store as before the call or as after it, never between; of the text what earlier prints appended and a
+-- What a crash may leave during this call, or between calls if it is `rests`: each file as the disk may leave it; the
+-- store as before the call or as after it, never between; and the text that earlier prints appended, followed by a
 -- beginning of the piece.
 pub record MayLeave (disk : Disk) (call : Call) (left : Left) : Type 0 where
   pub zero : MayLeaveFile disk.zero left.file0

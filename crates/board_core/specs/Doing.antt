@@ -16,7 +16,7 @@ use Rattle.board_core.specs.Told.{Told, Torn, Steps, Relates, file_of, device_of
 use Rattle.board_core.specs.Told.{after_write, after_write_through, after_print, after_reg_write, after_range_write, after_put}
 use Rattle.board_core.specs.Told.{MayList, MayListAccess, MayAct, FailsAccess, FailsWrite, FailsThrough, FailsPrint, StoreBy}
 
--- what contracts see of a board: its model, what a crash leaves of it, and its counts of faults
+-- A board as contracts see it: its model, what a crash leaves of it, and its counts of faults.
 pub record Seen : Type 1 where
   pub told : Option Told
   pub clock : Clock
@@ -24,8 +24,8 @@ pub record Seen : Type 1 where
 
 -- ---- acts
 
--- a call of the device: a register read or written, bytes of its range read (from a place, and their
--- number) or written, a record put
+-- a call of the device: a register read or written, bytes of its range read (from an offset, and their number) or
+-- written, a record put
 pub data DeviceCall : Type 0 where
   reg_read : Reg → DeviceCall
   reg_write : Reg → ℕ → DeviceCall
@@ -33,8 +33,8 @@ pub data DeviceCall : Type 0 where
   range_write : ℕ → List ℕ → DeviceCall
   put : ℕ → List ℕ → DeviceCall
 
--- a write of bytes at a place of a file with its sync, and one without; a print; a disk call that
--- writes nothing; a call of the device. All but the first are one call of a board.
+-- A write of bytes at an offset of a file with its sync; a write without a sync; a print; a disk call that writes
+-- nothing; or a call of the device. Each is one call of a board, except the first, which is two.
 pub data Act : Type 0 where
   through : FileNo → ℕ → List ℕ → Act
   writes : FileNo → ℕ → List ℕ → Act
@@ -70,7 +70,7 @@ FailsDevice (range_write place bytes) old new =
     FailsAccess (RangeWrite place (length bytes)) (after_range_write place bytes) old new
 FailsDevice (put id bytes) old new = MayAct (after_put id bytes) old new
 
--- the accesses that are listed of a device call
+-- the accesses that a device call lists
 abbrev pub accesses_by : DeviceCall → Device → List Access
 accesses_by (reg_read reg) d = Read reg (register_in reg d) ∷ []
 accesses_by (reg_write reg value) d = Write reg value ∷ []
@@ -80,7 +80,7 @@ accesses_by (put id bytes) d = []
 
 -- ---- one act: done, failed, torn by a crash
 
--- the model after an act that is done
+-- the model after an act
 abbrev pub after_act : Act → Told → Told
 after_act (through file place bytes) t = after_write_through file place bytes t
 after_act (writes file place bytes) t = after_write file place bytes t
@@ -96,7 +96,7 @@ FailsAct (prints bytes) old new = FailsPrint bytes old new
 FailsAct (calls call) old new = MayList call old new
 FailsAct (device call) old new = FailsDevice call old new
 
--- how what a crash leaves may differ if it comes during this act
+-- How what a crash leaves may change during this act.
 abbrev pub Tears : Act → Option Told → Left → Left → Type 0
 Tears (through file place bytes) told = InFile file (Torn place (length bytes))
 Tears (writes file place bytes) told = InFile file (Torn place (length bytes))
@@ -105,7 +105,7 @@ Tears (device (reg_write reg value)) told = InStore (StoreBy (after_reg_write re
 Tears (device (put id bytes)) told = InStore (StoreBy (after_put id bytes) told)
 Tears act told = Same
 
--- the disk calls that are listed of an act
+-- the disk calls that an act lists
 abbrev pub disk_calls_by : Act → List DiskCall
 disk_calls_by (through file place bytes) = WriteAt file place (length bytes) ∷ Sync file ∷ []
 disk_calls_by (writes file place bytes) = WriteAt file place (length bytes) ∷ []
@@ -126,7 +126,7 @@ ActSettles (device (put id bytes)) old new = StoreIsLeft old.told old.clock → 
 ActSettles act old new = Unit {0}
 
 -- An act was made by one call, with this result. The model changes as the act does, or as a failed call of it may; a
--- crash tears the act at most; the call counts one fault of its kind if and only if it failed.
+-- crash at most tears the act; the call counts one fault of its kind if and only if it failed.
 pub record ActMade {T E : Type 0} (act : Act) (result : Result T E) (old new : Seen) : Type 0 where
   pub told : OnOk result (Steps (after_act act) old.told new.told)
   pub failed : OnErr result (Relates (FailsAct act) old.told new.told)
@@ -140,7 +140,7 @@ pub record BoardStays (old new : Seen) : Type 0 where
   pub stops : Passes Same old.clock new.clock
   pub faults : new.faults ≡ old.faults
 
--- A put was made. One that is refused changes nothing.
+-- A put was made. A put that the store refuses changes nothing.
 abbrev pub PutMade : ℕ → List ℕ → Result (Unit {0}) BoardPut → Seen → Seen → Type 0
 PutMade id bytes (Err (Refused cause)) old new = BoardStays old new
 PutMade id bytes result old new = ActMade (device (put id bytes)) (put_failure result) old new
@@ -162,12 +162,12 @@ abbrev pub Moment : List Act → Told → Left → Type 0
 Moment [] t left = ⊥
 Moment (act ∷ acts) t left = Tears act (Some t) t.here left ⊎ Moment acts (after_act act t) left
 
--- the disk calls that are listed of these acts
+-- the disk calls that these acts list
 abbrev pub calls_of : List Act → List DiskCall
 calls_of [] = []
 calls_of (act ∷ acts) = disk_calls_by act ++ calls_of acts
 
--- the accesses that are listed of these acts, if the model says this at first
+-- the accesses that these acts list, if this is the model before them
 abbrev pub accesses_of : List Act → Told → List Access
 accesses_of [] t = []
 accesses_of (device call ∷ acts) t = accesses_by call (device_of t) ++ accesses_of acts (after_device call t)
@@ -186,16 +186,16 @@ abbrev pub ended_by : {T E : Type 0} → (E → Ended) → Result T E → Ended
 ended_by why (Ok x) = went_well
 ended_by why (Err e) = why e
 
--- how a call ends whose errors are all of this kind
+-- how a function ends whose errors are all failed calls of this kind
 abbrev pub one_end : {T E : Type 0} → Kind → Result T E → Ended
 one_end kind result = ended_by (λ _. broke kind) result
 
--- a put that is refused does nothing
+-- the acts of a put; a put that the store refuses does nothing
 abbrev pub put_acts : ℕ → List ℕ → Result (Unit {0}) BoardPut → List Act
 put_acts id bytes (Err (Refused cause)) = []
 put_acts id bytes result = device (put id bytes) ∷ []
 
--- the count of this kind of fault rose by one, and the other counts are unchanged
+-- The count of this kind of fault rose by one, and the other counts are unchanged.
 pub record Raises (kind : Kind) (old new : Faults) : Type 0 where
   pub later : count_of kind old ≤ count_of kind new
   pub own : Rose (count_of kind old) (count_of kind new)
@@ -214,19 +214,20 @@ pub record Breaks (kind : Kind) (acts : List Act) (old new : Seen) : Type 0 wher
   pub stops : (t : Told) → Rests t old.told old.clock → Adds (Moment acts t) old.clock new.clock
   pub faults : Raises kind old.faults new.faults
 
--- A function did these acts; or it began them and a call of the board failed; or it gave up and the board is as it was.
+-- A function did these acts; or it began them and a call of the board failed; or it gave up and the board is
+-- unchanged.
 abbrev pub Does : {X : Type 0} → (X → Seen) → List Act → Ended → X → X → Type 0
 Does see acts went_well old new = GoesWell acts (see old) (see new)
 Does see acts (broke kind) old new = Breaks kind acts (see old) (see new)
 Does see acts gave_up old new = new ≡ old
 
--- the function didn't give up before its first call
+-- The function didn't give up before its first call.
 abbrev pub IsMade : Ended → Type 0
 IsMade went_well = Unit {0}
 IsMade (broke kind) = Unit {0}
 IsMade gave_up = ⊥
 
--- a call failed, or the function gave up
+-- A call failed, or the function gave up.
 abbrev pub IsBad : Ended → Type 0
 IsBad went_well = ⊥
 IsBad (broke kind) = Unit {0}
@@ -234,7 +235,7 @@ IsBad gave_up = Unit {0}
 
 -- ---- acts of one sort
 
--- an act of the disk: neither a print nor a call of the device
+-- An act of the disk: neither a print nor a call of the device.
 abbrev pub IsOnDisk : Act → Type 0
 IsOnDisk (through file place bytes) = Unit {0}
 IsOnDisk (writes file place bytes) = Unit {0}

@@ -1,4 +1,4 @@
--- What a board in memory is: what was done to it since it was new, and which calls fail.
+-- A board in memory: what was done to it since it was new, and which calls fail.
 use Rattle.std.specs.Prelude.{◌≡◌, ℕ, ◌-◌, ◌^◌, ◌≤◌, ◌⊎◌, Bool, true, false, ◌||◌, List, [], ◌∷◌, ◌++◌, length, ltb, Result, Ok, Err}
 use Rattle.erst_store.specs.Store.{Stored}
 use Rattle.erst_store.specs.Device.{volatile_of, new_device}
@@ -29,7 +29,7 @@ abbrev pub past_after : {T E : Type 0} → Result T E → Act → Past → Past
 past_after (Ok value) act past = with_act act past
 past_after (Err error) act past = past
 
--- the calls that the disk sees of an act that is done
+-- the calls that an act makes, as the disk sees them
 abbrev pub steps_of : Act → Told → List Call
 steps_of (through file place bytes) t =
     writes_range file place (length bytes) ∷ syncs file (file_of file (after_write file place bytes t)) ∷ []
@@ -64,8 +64,8 @@ disk_of past = after_all (steps_of_all past.acts past.first) (settled_disk past.
 abbrev pub clock_of : Past → Clock
 clock_of past = disk_clock (settled_disk past.first.here) (steps_of_all past.acts past.first)
 
--- the board's past, the calls that it lists, the numbers of the calls that fail, how many calls succeed at most, how
--- many calls were made, for how many of them memory ran out, and the faults
+-- The board's past, the calls that it lists, the numbers of the calls that fail, how many calls succeed at most, how
+-- many calls were made, in how many of them memory ran out, and the faults.
 pub record State : Type 0 where
   pub past : Past
   pub disk_calls : List DiskCall
@@ -76,7 +76,7 @@ pub record State : Type 0 where
   pub starved : ℕ
   pub faults : Faults
 
--- the model of a board in memory, which has all of it
+-- the model of a board in memory
 abbrev pub told_of : State → Told
 told_of s = record (now_of s.past) { disk_calls = s.disk_calls; accesses = s.accesses }
 
@@ -107,11 +107,11 @@ new_board file0 file1 store slow = record {
 
 -- ---- a call
 
--- whether the next call was chosen to fail, by its number or because it comes after the last that succeeds
+-- Whether the next call fails, by its number or because enough calls have succeeded.
 abbrev pub fails_next : State → Bool
 fails_next s = is_chosen (next_count s.made) s.fails || ltb s.allowed (next_count s.made)
 
--- a board that has counted a call, one that has listed a disk call, and one that has listed an access
+-- A board that has counted a call, a board that has listed a disk call, and a board that has listed an access.
 abbrev pub counted : State → State
 counted s = record s { made = next_count s.made }
 
@@ -126,13 +126,13 @@ pub record Faulted (kind : Kind) (old new : State) : Type 0 where
   pub is : new ≡ record old { faults = with_count kind (next_count (count_of kind old.faults)) old.faults }
   pub later : count_of kind old.faults ≤ count_of kind new.faults
 
--- a board with one more call for which memory ran out
+-- a board with one more call in which memory ran out
 abbrev pub with_refusal : State → State
 with_refusal s = record s { starved = next_count s.starved }
 
--- A call was made, and is counted. Either it succeeded: then it wasn't chosen to fail, is listed, and this is the past
--- after it. Or it failed: then it was chosen to and is listed, or memory ran out for its list or for what it changes,
--- and nothing else changed but the count of its kind of fault. The board that has listed it is given.
+-- A call was made, and is counted. If it succeeded, it wasn't chosen to fail, is listed, and this is the past after
+-- it. If it failed, it was chosen to fail and is listed, or memory ran out for the list or for the change; and nothing
+-- else changed except the count of its kind of fault. `listed` is the board that has listed the call.
 abbrev pub Performs : {T E : Type 0} → Kind → State → Past → State → State → Result T E → Type 0
 Performs kind listed past old new (Ok value) =
     (fails_next old ≡ false) × (new ≡ record (counted listed) { past = past })

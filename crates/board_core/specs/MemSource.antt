@@ -1,4 +1,4 @@
--- What a source in memory is: the bytes left, and which calls fail.
+-- A source in memory: the bytes left, and which reads fail.
 use Rattle.std.specs.Prelude.{◌≡◌, ℕ, ◌+◌, ◌-◌, ◌^◌, min, Bool, List, nat_eq}
 use Rattle.std.specs.List.{list_any}
 
@@ -11,19 +11,19 @@ pub record Reading : Type 0 where
   pub made : ℕ
   pub faults : ℕ
 
--- a number of calls or faults, greater by one, which stops at 2^64 - 1
+-- A number of calls or faults, greater by one; it doesn't rise above 2^64 - 1.
 abbrev pub next_count : ℕ → ℕ
 next_count n = min (n + 1) (2 ^ 64 - 1)
 
--- whether a call of this number is one of the chosen
+-- Whether a call's number was chosen.
 abbrev pub is_chosen : ℕ → List ℕ → Bool
 is_chosen call fails = list_any (λ fail. nat_eq fail call) fails
 
--- whether the next call was chosen to fail
+-- Whether the next call was chosen to fail.
 abbrev pub read_fails_next : Reading → Bool
 read_fails_next s = is_chosen (next_count s.made) s.fails
 
--- The numbering of reads goes on, and the chosen reads and the length of pieces stay.
+-- The number of reads rises by one; the chosen reads and the length of pieces are unchanged.
 pub record CountsRead (old new : Reading) : Type 0 where
   pub made : new.made ≡ next_count old.made
   pub fails : new.fails ≡ old.fails

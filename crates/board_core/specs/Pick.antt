@@ -4,18 +4,18 @@ use Rattle.board_core.specs.declared.pick.Pick.{Pick}
 use Rattle.board_core.specs.declared.pick.Pick.TheVariants.{Old, New, Fill}
 use Rattle.board_core.specs.DiskModel.{Range, IsOutside, DiskFile}
 
--- an offset in one of these ranges
+-- An offset is in one of these ranges.
 abbrev pub IsInside : List Range → ℕ → Type 0
 IsInside [] place = ⊥
 IsInside (range ∷ ranges) place = ((range.place ≤ place) × (place < range.place + range.count)) ⊎ IsInside ranges place
 
--- Bytes with this byte at each place in these ranges, and all others as they were.
+-- Bytes with this byte at each offset in these ranges, and unchanged elsewhere.
 pub record IsFilled (byte : ℕ) (ranges : List Range) (old new : List ℕ) : Type 0 where
   pub size : length new ≡ length old
   pub filled : (k : ℕ) → k < length old → IsInside ranges k → slice_index new k ≡ byte
   pub others : (k : ℕ) → IsOutside ranges k → slice_index new k ≡ slice_index old k
 
--- What is chosen of a file: its bytes as of the last sync, or as a read returns them, or these with every byte written
+-- The chosen bytes of a file: as of the last sync, or as a read returns them, or the latter with every byte written
 -- since the last sync set to one byte.
 abbrev pub IsPicked : Pick → DiskFile → List ℕ → List ℕ → Type 0
 IsPicked Old file now taken = taken ≡ file.synced

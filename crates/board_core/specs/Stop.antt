@@ -19,41 +19,41 @@ abbrev pub with_file_in : FileNo → List ℕ → Left → Left
 with_file_in Zero bytes left = record left { file0 = bytes }
 with_file_in One bytes left = record left { file1 = bytes }
 
--- A relation of one part is lifted to the whole: all other parts are as they were.
+-- A relation of one part is lifted to the whole: all other parts are unchanged.
 
--- nothing differs
+-- Nothing differs.
 abbrev pub Same : Left → Left → Type 0
 Same old new = new ≡ old
 
--- one file differs in this way
+-- Only one file differs, in this way.
 pub record InFile (file : FileNo) (Step : List ℕ → List ℕ → Type 0) (old new : Left) : Type 0 where
   pub bytes : List ℕ
   pub step : Step (file_in file old) bytes
   pub rest : new ≡ with_file_in file bytes old
 
--- the record store differs in this way
+-- Only the record store differs, in this way.
 pub record InStore (Step : List Stored → List Stored → Type 0) (old new : Left) : Type 0 where
   pub store : List Stored
   pub step : Step old.store store
   pub rest : new ≡ record old { store = store }
 
--- a store is unchanged, or has become this one
+-- A store is unchanged, or has become this one.
 abbrev pub Becomes : List Stored → List Stored → List Stored → Type 0
 Becomes store old new = (new ≡ old) ⊎ (new ≡ store)
 
--- the printed text differs in this way
+-- Only the printed text differs, in this way.
 pub record InOut (Step : List ℕ → List ℕ → Type 0) (old new : Left) : Type 0 where
   pub text : List ℕ
   pub step : Step old.out text
   pub rest : new ≡ record old { out = text }
 
--- a beginning of a piece, maybe nothing and maybe all of it, was appended to a text
+-- A beginning of a piece, maybe nothing and maybe all of it, was appended to a text.
 pub record Begins (piece old new : List ℕ) : Type 0 where
   pub part : List ℕ
   pub missing : List ℕ
   pub splits : part ++ missing ≡ piece
   pub is : new ≡ old ++ part
 
--- a piece was appended to a text
+-- A piece was appended to a text.
 abbrev pub Appends : List ℕ → List ℕ → List ℕ → Type 0
 Appends piece old new = new ≡ old ++ piece

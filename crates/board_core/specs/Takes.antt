@@ -1,4 +1,4 @@
--- What a read takes of the bytes that a source has left.
+-- How a read changes the bytes that a source has left.
 use Rattle.std.specs.Prelude.{◌≡◌, ℕ, ◌≤◌, List, [], length, take, drop, Option, None, Some}
 
 -- A read of n bytes into the front of a buffer. If the source is modelled, they are the next n bytes that are left, and

@@ -14,9 +14,9 @@ use Rattle.board_core.specs.declared.board.BoardPut.{BoardPut}
 use Rattle.board_core.specs.declared.board.BoardPut.TheVariants.{Refused, Failed}
 use Rattle.board_core.specs.Stop.{Left, file_in, with_file_in, Becomes}
 
--- the files as a read returns them, the record store and the bytes printed so far, which a crash leaves if everything
--- written is durable; the device's state apart from its store; the disk calls and the accesses to the device made so
--- far
+-- The files as a read returns them, the record store and the bytes printed so far, which a crash leaves if everything
+-- written is durable; the device's state apart from its store; and the disk calls and the accesses to the device made
+-- so far.
 pub record Told : Type 0 where
   pub here : Left
   pub volatile : Volatile
@@ -35,7 +35,7 @@ with_file file bytes t = record t { here = with_file_in file bytes t.here }
 abbrev pub with_call : DiskCall → Told → Told
 with_call call t = record t { disk_calls = t.disk_calls ++ call ∷ [] }
 
--- a file's bytes with others written over them from an offset on, and past the end
+-- a file's bytes after a write of other bytes from an offset on, which may extend the file
 abbrev pub overlay : ℕ → List ℕ → List ℕ → List ℕ
 overlay place bytes old = take place old ++ bytes ++ drop (place + length bytes) old
 
@@ -52,7 +52,7 @@ after_write_through file place bytes t = with_call (Sync file) (after_write file
 abbrev pub after_print : List ℕ → Told → Told
 after_print bytes t = record t { here = record t.here { out = t.here.out ++ bytes } }
 
--- what a read of n bytes from an offset puts into the front of a buffer
+-- A read of n bytes from an offset puts these bytes into the front of a buffer.
 pub record ReadsBytes (place n : ℕ) (buffer file : List ℕ) : Type 0 where
   pub count : n ≡ min (length buffer) (length file - place)
   pub bytes : take n buffer ≡ take n (drop place file)
@@ -88,7 +88,7 @@ after_reg_write Value value d = record d { value = value }
 abbrev pub after_range_write : ℕ → List ℕ → Device → Device
 after_range_write place bytes d = record d { range = range_with place bytes d.range }
 
--- The device after a record was put from outside. If the put is refused, the device is unchanged.
+-- The device after a put of a record. A put that the store refuses changes nothing.
 abbrev pub unless_refused : Option PutRefused → Device → Device → Device
 unless_refused None new old = new
 unless_refused (Some cause) new old = old
@@ -96,7 +96,8 @@ unless_refused (Some cause) new old = old
 abbrev pub after_put : ℕ → List ℕ → Device → Device
 after_put id bytes d = unless_refused (refusal_of id bytes d.store) (with_put id bytes d) d
 
--- A put returns its refusal. If there is none, it succeeds, or memory runs out, or it fails.
+-- A put returns the store's refusal. If the store doesn't refuse the record, the put succeeds, or memory runs out, or
+-- it fails.
 abbrev pub AnswersPut : Result (Unit {0}) BoardPut → Option PutRefused → Type 0
 AnswersPut (Ok done) refusal = refusal ≡ None
 AnswersPut (Err (Refused cause)) refusal = AnswersRefusal {X = Unit {0}} (Err cause) refusal
@@ -155,11 +156,11 @@ pub record FailsAccess (access : Access) (step : Device → Device) (old new : T
 
 -- ---- what holds if a board is modelled
 
--- if a board is modelled, its model changes by this step
+-- If a board is modelled, its model changes by this step.
 abbrev pub Steps : (Told → Told) → Option Told → Option Told → Type 0
 Steps step old new = new ≡ option_map step old
 
--- if a board is modelled, its models before and after are so related
+-- If a board is modelled, this relates its models before and after.
 abbrev pub Relates : (Told → Told → Type 0) → Option Told → Option Told → Type 0
 Relates P None new = new ≡ None
 Relates P (Some old) None = ⊥

@@ -49,10 +49,10 @@ pub enum Access {
     RangeWrite(u32, u32),
 }
 
-/// Why a record wasn't put.
+/// Why a put didn't store its record.
 #[derive(Clone, Copy, Debug, PartialEq, Eq)]
 pub enum BoardPut {
-    /// The store refused it, and nothing changed.
+    /// The store refused the record, and nothing changed.
     Refused(PutRefused),
     /// The call failed. Its count of faults rose.
     Failed,
@@ -61,11 +61,11 @@ pub enum BoardPut {
 /// Two files, a device with its record store, and an output; one crash of the machine hits all of
 /// them.
 ///
-/// Each call is an act, and `does` says what becomes of the board by it: of its model, of what a
-/// crash leaves, and of its counts of failed calls. A disk call affects only what a crash may leave
-/// of its own file, a device call only the record store, and a print only the printed text. A call
-/// returns `Failed` only if the count of its kind of fault rose, and no call raises a count of
-/// another kind.
+/// Each call is an act, and its clause `does` says how it changes the board's model, what a crash
+/// leaves, and the counts of failed calls. A disk call affects only what a crash may leave of its
+/// own file, a device call only the record store, and a print only the printed text. A call returns
+/// `Failed` only if the count of its kind of fault rose, and no call raises a count of another
+/// kind.
 pub trait Board {
     /// The board's contents, if the board is modelled; the number of the present moment, and what a
     /// crash at any moment may leave, which says nothing of a board that isn't modelled; and how

@@ -1,4 +1,4 @@
-//! What a board in memory records of each call that succeeded, and the calls on plain vectors.
+//! What a board in memory records of each successful call, and the calls on plain vectors.
 ghost use Rattle.std.specs.Prelude.{◌≡◌, ◌≤◌, ◌++◌, [], ◌∷◌, length, IsSome, OnOk, OnErr};
 ghost use Rattle.board_core.specs.Steps.History.{acts_of, first_bytes};
 ghost use Rattle.board_core.specs.Doing.{prints, writes};
@@ -66,7 +66,7 @@ pub fn print(
     Ok(())
 }
 
-/// Writes bytes over what is there, and past the end of the file.
+/// Writes bytes at an offset, over the bytes there and past the end of the file.
 pub fn overlay_bytes(file: &mut Vec<u8>, place: usize, bytes: &[u8]) -> Result<(), NoMemory>
     requires { place ≤ length file.old.items }
     ensures ok { OnOk result (file.new.items ≡ overlay place bytes.now file.old.items) }

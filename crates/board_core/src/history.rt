@@ -22,8 +22,8 @@ use std::marker::Model;
 /// Two files, a device and an output in memory, with a record of all that was done to them.
 ///
 /// A write is done in place, and its bytes are recorded as well. The first contents of a file are
-/// kept apart at its first write. The record store's first state is kept, and no other earlier one:
-/// what is done to the device is recorded as the calls that asked for it.
+/// copied at its first write. Of the record store only the first state is copied: later changes of
+/// the device are recorded as the calls that made them.
 #[derive(Drop)]
 pub struct History {
     alloc: Global,
@@ -46,13 +46,13 @@ pub struct MemFile {
 /// A change of the board, as it is recorded.
 #[derive(Drop)]
 pub enum MemChange {
-    /// Bytes were written at a place of a file.
+    /// Bytes were written at an offset of a file.
     Wrote(FileNo, u64, Vec<u8>),
     /// A file was synced.
     Synced(FileNo),
     /// A number was written to a register of the device.
     WroteRegister(Reg, u64),
-    /// Bytes were written at a place of the device's range.
+    /// Bytes were written at an offset of the device's range.
     WroteRange(u32, Vec<u8>),
     /// A record was put into the store.
     Put(u64, Vec<u8>),
@@ -217,7 +217,7 @@ impl History {
         Ok(())
     }
 
-    /// Writes bytes into the device's range from a place on.
+    /// Writes bytes into the device's range from an offset on.
     pub fn range_write(&mut self, place: u32, bytes: &[u8]) -> Result<(), NoMemory>
         requires { place + length bytes.now ≤ range_length }
         ensures ok { OnOk result (self.new

@@ -1,4 +1,4 @@
-//! What the clauses of a board say of several calls in a row.
+//! What the clauses of a board say about several calls in a row.
 ghost use Rattle.std.specs.Prelude.{◌≡◌, ℕ, ◌≤◌, ◌↔◌, List, [], ◌∷◌, ◌++◌, length};
 ghost use Rattle.erst_store.specs.Store.{Stored};
 ghost use Rattle.board_core.specs.declared.board.FileNo.{FileNo};
@@ -12,11 +12,10 @@ ghost use Rattle.board_core.specs.Told.{overlay};
 
 use crate::Board;
 
-/// Every board keeps to the disk model, over any calls in a row.
+/// Every board obeys the disk model, over any calls in a row.
 pub fn disk_model<B: Board>()
-    // Whatever calls are made after a sync of a file, a crash during them or after them leaves of
-    // that file what the disk model says, from the bytes as of that sync and the ranges written
-    // since.
+    // Whatever calls are made after a sync of a file, a crash during them or after them leaves the
+    // file as the disk model says, from the bytes as of that sync and the ranges written since.
     ensures file { (file : FileNo) (bytes : List ℕ) (calls : List Call) (first last : B)
         → IsSynced file bytes (B.seen first).clock → AreMade B.seen calls first last
         → (left : Left) → (B.seen last).clock.may_leave_since (B.seen first).clock.now left
@@ -35,7 +34,7 @@ pub fn disk_model<B: Board>()
         → KeepsDisk (after_all calls disk) (B.seen last).clock }
 {}
 
-/// What the definitions of the disk model amount to.
+/// What the definitions of the disk model mean.
 pub fn disk_model_words()
     // A file that wasn't written since its last sync is left as it was at that sync.
     ensures unwritten { (bytes left : List ℕ)
@@ -56,7 +55,8 @@ pub fn disk_model_words()
         → (clock_of (with_act (prints (part ++ missing)) past)).may_leave_since
         (clock_of past).now (record (now_of past).here { out = (now_of past).here.out ++ part }) }
 
-    // During a call of its device it leaves the store as before the call and as after it.
+    // During a call of its device, a board in memory may leave the store as before the call, and
+    // the store as after it.
     ensures acting { (past : Past) (call : DeviceCall) (store : List Stored)
         → Becomes (after_device call (now_of past)).here.store
         (now_of past).here.store store

@@ -11,8 +11,7 @@ use crate::history::{MemChange, MemFile};
 use crate::{FileNo, Pick};
 use ras_base::NoMemory;
 
-/// Returns the file of this number in the state that `pick` names, given the events that made it
-/// what it is.
+/// Returns the file of this number in the state that `pick` names, from all events so far.
 pub fn picked_bytes(
     file: MemFile,
     events: &[MemChange],
@@ -74,7 +73,7 @@ fn repeat(bytes: &mut Vec<u8>, events: &[MemChange], number: FileNo) -> Result<(
     Ok(())
 }
 
-// No write began past the file's end.
+// Writes again what one event wrote. No write began past the file's end.
 fn repeat_one(bytes: &mut Vec<u8>, event: &MemChange, number: FileNo) -> Result<(), NoMemory>
     ensures { OnOk result (bytes.new.items ≡ bytes_after number event.now bytes.old.items) }
 {
@@ -107,7 +106,7 @@ fn fill_one(bytes: &mut [u8], event: &MemChange, number: FileNo, byte: u8)
     }
 }
 
-// Sets the bytes of a range, so far as they are there.
+// Sets the bytes of a range that are in the file.
 fn fill_range(bytes: &mut [u8], place: usize, count: usize, byte: u8)
     ensures { IsFilled byte (record { place = place; count = count } ∷ []) bytes.old bytes.new }
 {

@@ -75,7 +75,7 @@ impl MemBoard {
         MemBoard::with_files(alloc, Vec::new(alloc), Vec::new(alloc), store, slow)
     }
 
-    // A new board with these files, synced.
+    // Returns a new board with these files, synced.
     fn with_files(
         alloc: Global,
         file0: Vec<u8>,
@@ -192,7 +192,7 @@ impl MemBoard {
         MemBoard::with_files(alloc, file0, file1, store, slow)
     }
 
-    // Whether the next call was chosen to fail.
+    // Returns whether the next call was chosen to fail.
     fn fails_next(&self) -> bool
         ensures { result ≡ fails_next self.now }
     {
@@ -200,7 +200,8 @@ impl MemBoard {
         self.fails.contains(&next) || self.allowed < next
     }
 
-    // Counts and lists a disk call, which fails if it was chosen to, or if the list can't grow.
+    // Counts and lists a disk call, which fails if it was chosen to fail, or if the list can't
+    // grow.
     fn begin_disk(&mut self, call: DiskCall) -> Result<(), Failed>
         ensures { Begins disk_call (listing call self.old) self.old self.new result }
     {
@@ -208,7 +209,8 @@ impl MemBoard {
         self.begin(Fault::Disk, is_listed)
     }
 
-    // The same of a device call.
+    // Counts and lists a device call, which fails if it was chosen to fail, or if the list can't
+    // grow.
     fn begin_device(&mut self, access: Access) -> Result<(), Failed>
         ensures does { Begins device_call (listing_access access self.old) self.old self.new
             result }
@@ -218,7 +220,7 @@ impl MemBoard {
         self.begin(Fault::Device, is_listed)
     }
 
-    // Counts a call, which fails if it was chosen to, or if it isn't listed.
+    // Counts a call, which fails if it was chosen to fail, or if it isn't listed.
     fn begin(&mut self, kind: Fault, is_listed: bool) -> Result<(), Failed>
         ensures does { Counts (kind_in kind) is_listed self.old self.new result }
         ensures device { IsDevice (device_of (now_of self.old.past)) }
@@ -245,7 +247,7 @@ impl MemBoard {
         }
     }
 
-    // Counts a call for which memory ran out.
+    // Counts a call in which memory ran out.
     fn starve(&mut self, kind: Fault) -> Failed
         ensures { Faulted (kind_in kind) (with_refusal self.old) self.new }
     {

@@ -13,8 +13,8 @@ use crate::{Board, BoardPut, Failed, FileNo};
 /// Writes `bytes` at offset `place`, which is at most the file's length, and syncs the file.
 ///
 /// If a crash before the call would have left exactly what the model says, so does a crash after it
-/// succeeded, and the bytes are durable. A crash in between, or after `Failed`, leaves of the file
-/// what a torn write may leave, and all else as it was.
+/// succeeded, and the bytes are durable. A crash in between, or after `Failed`, leaves the file as
+/// a torn write may, and everything else unchanged.
 ///
 /// `Failed`: only if the write or the sync failed.
 pub fn write_through<B: Board>(

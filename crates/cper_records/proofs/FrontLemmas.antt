@@ -1,4 +1,4 @@
--- What is read in the front of bytes is what is read in all of them.
+-- What is read from the front of bytes is what is read from all of them.
 use Rattle.std.proofs.Common.{◌≡◌, ℕ, ◌+◌, ◌-◌, ◌≤◌, ◌∙◌, List, ◌++◌, length, take, drop, refl, sym, ap, subst, arith, nat_lt, true, false}
 use Rattle.std.proofs.lemmas.List.{take-append-drop, drop-take, length-take, length-drop, take-append-le, length-append, take_at}
 use Rattle.ras_base.specs.Steps.LittleEndianLemmas.{number_at-take, number_at-append}
@@ -20,20 +20,20 @@ part_of_front {X} place k n xs short inside =
     ap (λ ys. take k ys) (subst P whole (drop-take place (n - place) xs))
     ∙ take_front k (n - place) (drop place xs) (omega arith) (omega (arith, length-drop place xs))
 
--- the record's length in its own bytes
+-- The length in the record's own bytes.
 pub own_length : (bytes : List ℕ) (n : ℕ) → 128 ≤ n → n ≤ length bytes → record_length (take n bytes) ≡ record_length bytes
 own_length bytes n header inside = number_at-take n 20 4 bytes (omega arith)
 
--- the signatures in the record's own bytes
+-- The signatures in the record's own bytes.
 pub own_signatures : (bytes : List ℕ) (n : ℕ) → 128 ≤ n → n ≤ length bytes → has_signatures (take n bytes) ≡ has_signatures bytes
 own_signatures bytes n header inside =
     rw (take_front 4 n bytes (omega arith) inside, part_of_front 6 4 n bytes (omega arith) inside) refl
 
--- the record's own bytes in themselves
+-- The record's own bytes are the front of themselves.
 pub own_bytes : (bytes : List ℕ) (n : ℕ) → n ≤ length bytes → take n (take n bytes) ≡ take n bytes
 own_bytes bytes n inside = take_front n n bytes (omega arith) inside
 
--- as many bytes as a header says have that header
+-- The front of bytes that is as long as their header says has this header.
 pub own_header : (bytes : List ℕ) (n : ℕ) → n ≡ record_length bytes → 128 ≤ n → n ≤ length bytes → has_signatures bytes ≡ true
     → HasHeader (take n bytes)
 own_header bytes n is header inside signed =
@@ -44,7 +44,7 @@ own_header bytes n is header inside signed =
       whole = own_length bytes n header inside ∙ sym is ∙ sym len;
     }
 
--- and bytes that begin with such are read as those
+-- Bytes that begin with a record's own bytes are read as these.
 pub read_own : (own rest : List ℕ) → HasHeader own → record_of (own ++ rest) ≡ sections_of own
 unfolding record_of
 read_own own rest front =

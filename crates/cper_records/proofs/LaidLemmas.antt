@@ -1,4 +1,4 @@
--- What reading answers is what the bytes are.
+-- What reading returns is what the bytes are.
 use Rattle.std.proofs.Common.{◌≡◌, ℕ, ◌≤◌, ◌<◌, ◌∙◌, ◌⊎◌, List, length, take, drop, Bool, true, false, not, nat_lt, Result, Ok, Err, if◌then◌else◌, refl, ap, sym, arith, inl, inr}
 use Rattle.std.proofs.lemmas.List.{take-append-drop}
 use Rattle.std.proofs.lemmas.Bool.{cases_lt}
@@ -45,12 +45,12 @@ out_of_range bytes is = elim (cases_lt (record_length bytes) 128) [
   | inr header ↦ inr (grind arith)
 ]
 
--- what an answer says of the bytes
+-- What a result says about the bytes.
 abbrev pub IsAnswer : List ℕ → Result (List ℕ) RecordRefused → Type 0
 IsAnswer bytes (Ok own) = IsPrefixOf own bytes × IsRecord own
 IsAnswer bytes (Err why) = IsNoRecord bytes why
 
--- the sections of bytes that have a header
+-- The sections of bytes that have a header.
 sections_answered : (bytes own : List ℕ) → IsPrefixOf own bytes → HasHeader own → IsAnswer bytes (sections_of own)
 unfolding sections_of
 sections_answered bytes own prefix front =
@@ -91,7 +91,7 @@ sections_answered bytes own prefix front =
       },
     )
 
--- all bytes
+-- All bytes.
 pub answered : (bytes : List ℕ) → IsAnswer bytes (record_of bytes)
 unfolding record_of
 answered bytes = by (nat_lt (length bytes) 128) (has_signatures bytes) (has_record_length bytes) refl refl refl
@@ -122,7 +122,7 @@ sections_read own holds =
 pub reads : (bytes own : List ℕ) → IsPrefixOf own bytes → IsRecord own → record_of bytes ≡ Ok own
 reads bytes own (rest, is) holds = ap (λ (xs : List ℕ). record_of xs) (sym is) ∙ read_own own rest holds.front ∙ sections_read own holds
 
--- what isn't there is refused
+-- Bytes without all their descriptors are refused.
 sections_descriptors : (own : List ℕ) → length own < descriptor_at (section_count own) → sections_of own ≡ Err DescriptorOut
 unfolding sections_of
 sections_descriptors own short =
@@ -150,7 +150,7 @@ sections_refused own i descriptors inside below refused =
     some_below_at count i (is_section_refused own) below (refused_err own i ∙ refused) in
     rw (long, none_out, some_refused) refl
 
--- so bytes that begin with a header are refused as those
+-- If the front of bytes has a header, a refusal of the front is a refusal of the bytes.
 behind_header : (bytes own : List ℕ) (answer : Result (List ℕ) RecordRefused) → IsPrefixOf own bytes → HasHeader own
     → sections_of own ≡ answer → record_of bytes ≡ answer
 behind_header bytes own answer (rest, is) front same = ap (λ (xs : List ℕ). record_of xs) (sym is) ∙ read_own own rest front ∙ same

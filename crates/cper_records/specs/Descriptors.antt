@@ -1,5 +1,5 @@
--- The section descriptors of UEFI, appendix N, "Section Descriptor", which follow the header. Here
--- the bytes are those of one record, no more.
+-- The section descriptors of UEFI, appendix N, "Section Descriptor", which follow the header. The bytes here are
+-- exactly one record.
 use Rattle.std.specs.Prelude.{ℕ, zero, suc, ◌+◌, ◌*◌, Bool, false, ◌||◌, is_err, nat_lt, List, length, take, drop, Result}
 use Rattle.ras_base.specs.LittleEndian.{number_at}
 use Rattle.cper_sections.specs.Guids.{guid_of}
@@ -37,7 +37,7 @@ section_severity bytes i = number_at (descriptor_at i + 48) 4 bytes
 abbrev pub section_bytes : List ℕ → ℕ → List ℕ
 section_bytes bytes i = take (section_length bytes i) (drop (section_offset bytes i) bytes)
 
--- what a section says, or why it can't be read
+-- the fields of a section, or why it can't be read
 abbrev pub section_at : List ℕ → ℕ → Result Section SectionRefused
 section_at bytes i = section_of (section_guid bytes i) (section_bytes bytes i)
 

@@ -20,11 +20,11 @@ record_length bytes = number_at 20 4 bytes
 abbrev pub record_id : List ℕ → ℕ
 record_id bytes = number_at 96 8 bytes
 
--- whether the two signatures are where they have to be
+-- Whether the two signatures are at their offsets.
 abbrev pub has_signatures : List ℕ → Bool
 has_signatures bytes =
     starts_with nat_eq bytes (codes "CPER") && starts_with nat_eq (drop 6 bytes) (0xff ∷ 0xff ∷ 0xff ∷ 0xff ∷ [])
 
--- whether the record's length takes in the header, and lies inside the bytes
+-- Whether the record's length includes the header, and lies inside the bytes.
 abbrev pub has_record_length : List ℕ → Bool
 has_record_length bytes = nat_le HEADER_LENGTH (record_length bytes) && nat_le (record_length bytes) (length bytes)

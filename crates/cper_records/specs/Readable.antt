@@ -6,15 +6,15 @@ use Rattle.cper_records.specs.declared.refusals.RecordRefused.{RecordRefused}
 use Rattle.cper_records.specs.declared.refusals.Unreadable.{Unreadable}
 use Rattle.cper_records.specs.declared.refusals.Unreadable.TheVariants.{NoRecord, OtherId}
 
--- the bytes of a stored record as a store gives them: with zeros after them, 16,384 in all
+-- the bytes that a store returns for a stored record: with zeros after them, 16,384 in all
 abbrev pub filled : List ℕ → List ℕ
 filled bytes = bytes ++ replicate (16384 - length bytes) 0
 
--- the record that was read, if its identifier is the given one
+-- the record that was read, if it has this identifier
 abbrev pub own_under : ℕ → Result (List ℕ) RecordRefused → Result (List ℕ) Unreadable
 own_under id (Ok own) = if record_id own == id then Ok own else Err OtherId
 own_under id (Err why) = Err (NoRecord why)
 
--- the record at the front of the bytes that a store returned under an identifier, or why there is none
+-- The record at the front of the bytes that a store returned under an identifier, or why there is no record.
 abbrev pub read_under : ℕ → List ℕ → Result (List ℕ) Unreadable
 read_under id buffer = own_under id (record_of buffer)

@@ -1,4 +1,4 @@
--- A record by its bytes, or the first reason that it can't be read. specs/Laid.antt says the same without the order of
+-- A record by its bytes, or the first reason why it can't be read. specs/Laid.antt says the same without the order of
 -- reading.
 use Rattle.std.specs.Prelude.{ℕ, not, nat_lt, List, length, take, Result, Ok, Err, if◌then◌else◌}
 use Rattle.cper_records.specs.Header.{section_count, record_length, has_signatures, has_record_length}
@@ -7,7 +7,7 @@ use Rattle.cper_records.specs.declared.records.TheConstants.{HEADER_LENGTH}
 use Rattle.cper_records.specs.declared.refusals.RecordRefused.{RecordRefused}
 use Rattle.cper_records.specs.declared.refusals.RecordRefused.TheVariants.{Short, Signature, Length, DescriptorOut, SectionOut, Section}
 
--- the bytes of a record, if its descriptors and sections lie in them and each section reads
+-- The bytes of a record, if its descriptors and sections lie inside them and each section can be read.
 unfoldable pub sections_of : List ℕ → Result (List ℕ) RecordRefused
 sections_of bytes =
     if nat_lt (length bytes) (descriptor_at (section_count bytes)) then Err DescriptorOut

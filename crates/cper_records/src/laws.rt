@@ -1,4 +1,4 @@
-//! What holds of records for every list of bytes.
+//! The laws of records, for every list of bytes.
 
 ghost use Rattle.std.specs.Prelude.{◌≡◌, ◌≤◌, ◌↔◌, ℕ, List, length, take, Ok, Err};
 ghost use Rattle.ras_base.specs.Prefix.{IsPrefixOf};
@@ -38,7 +38,7 @@ pub fn stored_records_are_read()
         → record_of (filled bytes) ≡ Ok own }
 {}
 
-/// The numbers that the definitions cite by name have these digits.
+/// The numbers behind the names that the definitions use.
 pub fn numbers_in_digits()
     ensures header { HEADER_LENGTH ≡ 128 }
     ensures descriptor { DESCRIPTOR_LENGTH ≡ 72 }

@@ -62,7 +62,7 @@ pub fn read_record(bytes: &[u8]) -> Result<Record<'_>, RecordRefused>
     sections_of(&bytes[..length])
 }
 
-// Whether the two signatures stand at their places.
+// Returns whether the two signatures are at their offsets.
 fn has_signatures(bytes: &[u8]) -> bool
     requires { 10 ≤ length bytes.now }
     ensures { result ≡ has_signatures bytes.now }
@@ -70,7 +70,7 @@ fn has_signatures(bytes: &[u8]) -> bool
     bytes.starts_with(b"CPER") && bytes[6..].starts_with(&[0xff; 4])
 }
 
-// The record of bytes that are as many as its length says.
+// Returns the record in bytes that have the length of their header.
 #[tactic(auto, using(crate::proofs::BelowLemmas::inside_each, crate::proofs::BelowLemmas::some_below_each), unfolding(crate::specs::Records::sections_of))]
 fn sections_of(bytes: &[u8]) -> Result<Record<'_>, RecordRefused>
     requires { HasHeader bytes.now }

@@ -2,7 +2,7 @@
 
 use thiserror::Error;
 
-/// Why a record can't be read, the first that applies in this order.
+/// Why a record can't be read: the first reason that applies, in this order.
 #[derive(Clone, Copy, Debug, PartialEq, Eq, Error)]
 pub enum RecordRefused {
     /// There are fewer than the 128 bytes of a header.
@@ -25,13 +25,13 @@ pub enum RecordRefused {
     Section,
 }
 
-/// Why the bytes that a record store gave under an identifier can't be read.
+/// Why the bytes that a record store returned under an identifier can't be read.
 #[derive(Clone, Copy, Debug, PartialEq, Eq, Error)]
 pub enum Unreadable {
-    /// They don't begin with a record that can be read, for this reason.
+    /// The bytes don't begin with a record that can be read, for this reason.
     #[error("{0}")]
     NoRecord(RecordRefused),
-    /// They begin with a record of another identifier.
+    /// The bytes begin with a record that has another identifier.
     #[error("the record has another identifier")]
     OtherId,
 }

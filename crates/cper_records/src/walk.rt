@@ -10,14 +10,14 @@ use ras_base::little_endian::u32_at;
 /// The bytes of a section descriptor.
 pub const DESCRIPTOR_LENGTH: usize = 72;
 
-// Where a descriptor begins.
+// Returns the offset of a descriptor.
 pub(crate) fn descriptor_at(i: u16) -> usize
     ensures { result ≡ descriptor_at i }
 {
     HEADER_LENGTH + DESCRIPTOR_LENGTH * i as usize
 }
 
-// Whether some section passes the record's end.
+// Returns whether some section passes the record's end.
 #[tactic(auto, using(crate::proofs::BelowLemmas::some_below_none, crate::proofs::BelowLemmas::some_below_next, crate::proofs::BelowLemmas::some_below_at))]
 pub(crate) fn is_some_out(bytes: &[u8], count: u16) -> bool
     requires { descriptor_at count ≤ length bytes.now }
@@ -31,7 +31,7 @@ pub(crate) fn is_some_out(bytes: &[u8], count: u16) -> bool
     false
 }
 
-// Whether a section passes the record's end.
+// Returns whether a section passes the record's end.
 #[tactic(auto, unfolding(crate::specs::Descriptors::is_out))]
 fn is_out(bytes: &[u8], i: u16) -> bool
     requires { descriptor_at i + DESCRIPTOR_LENGTH ≤ length bytes.now }
@@ -43,7 +43,7 @@ fn is_out(bytes: &[u8], i: u16) -> bool
     bytes.len() < offset + length
 }
 
-// Whether some section can't be read.
+// Returns whether some section can't be read.
 #[tactic(auto, using(crate::proofs::BelowLemmas::some_below_none, crate::proofs::BelowLemmas::some_below_next, crate::proofs::BelowLemmas::some_below_at))]
 pub(crate) fn is_some_refused(bytes: &[u8], count: u16) -> bool
     requires descriptors { descriptor_at count ≤ length bytes.now }
@@ -58,7 +58,7 @@ pub(crate) fn is_some_refused(bytes: &[u8], count: u16) -> bool
     false
 }
 
-// Whether a section can't be read.
+// Returns whether a section can't be read.
 #[tactic(auto, unfolding(crate::specs::Descriptors::is_section_refused), using(crate::proofs::BelowLemmas::not_is_ok))]
 fn is_section_refused(bytes: &[u8], i: u16) -> bool
     requires descriptor { descriptor_at i + DESCRIPTOR_LENGTH ≤ length bytes.now }
@@ -68,7 +68,7 @@ fn is_section_refused(bytes: &[u8], i: u16) -> bool
     !section_at(bytes, i).is_readable()
 }
 
-// A section's bytes, with what its descriptor says of them.
+// Returns a section's bytes, with the fields of its descriptor.
 pub(crate) fn section_at(bytes: &[u8], i: u16) -> RawSection<'_>
     requires descriptor { descriptor_at i + DESCRIPTOR_LENGTH ≤ length bytes.now }
     requires inside { section_end bytes.now i ≤ length bytes.now }

@@ -1,23 +1,23 @@
--- The contexts that fit, step by step.
+-- The contexts that fit, one after the other.
 use Rattle.std.proofs.Common.{◌≡◌, ℕ, zero, suc, ◌+◌, ◌-◌, ◌<◌, ◌≤◌, ◌∙◌, List, [], ◌∷◌, length, take, drop, Bool, true, false, Some, subst, refl, ap, sym, arith, slice_get, sum_by}
 use Rattle.std.proofs.lemmas.List.{drop_all, drop-drop, length-take, length-drop}
 use Rattle.std.proofs.lemmas.List.Sums.{sum_by-cons}
 use Rattle.cper_sections.specs.X64.{contexts_in, contexts_at, contexts_of, x64_validation, stated_contexts, has_context, context_of, context_length, ContextParts, bytes_taken, context_bytes}
 use Rattle.ras_base.specs.LittleEndian.{number_at}
 
--- one that fits is before the others
+-- A context that fits comes before the others.
 contexts_in_more : (stated more : ℕ) (bytes : List ℕ) → stated ≡ suc more → has_context bytes ≡ true
     → contexts_in stated bytes ≡ context_of bytes ∷ contexts_in more (drop (context_length bytes) bytes)
 unfolding contexts_in
 contexts_in_more stated more bytes one fits = rw one (rw fits refl)
 
--- one that doesn't fit ends them
+-- The first context that doesn't fit ends the list.
 pub contexts_in_end : (stated : ℕ) (bytes : List ℕ) → has_context bytes ≡ false → contexts_in stated bytes ≡ []
 unfolding contexts_in
 contexts_in_end zero bytes fits = refl
 contexts_in_end (suc stated) bytes fits = rw fits refl
 
--- no more fit than are stated
+-- At most as many contexts fit as are stated.
 pub most_contexts : (stated : ℕ) (bytes : List ℕ) → length (contexts_in stated bytes) ≤ stated
 most_contexts zero bytes = unfold contexts_in in omega arith
 most_contexts (suc stated) bytes =
@@ -28,7 +28,7 @@ most_contexts (suc stated) bytes =
     ] in
     cases (has_context bytes) refl
 
--- where one fits, the others are one fewer
+-- If one fits, the others are one fewer.
 pub step_length : (stated passed : ℕ) (bytes : List ℕ) → passed < stated → has_context bytes ≡ true
     → length (contexts_in (stated - passed) bytes) ≡ suc (length (contexts_in (stated - (passed + 1)) (drop (context_length bytes) bytes)))
 step_length stated passed bytes below fits =
@@ -37,7 +37,7 @@ step_length stated passed bytes below fits =
 slice_get_more : {X : Type 0} (x : X) (xs : List X) (i k : ℕ) → i ≡ suc k → slice_get (x ∷ xs) i ≡ slice_get xs k
 slice_get_more x xs i k one = rw one refl
 
--- and the later ones stay in their order
+-- The later contexts keep their order.
 pub step_get : (stated passed i : ℕ) (bytes : List ℕ) → passed < stated → passed < i → has_context bytes ≡ true
     → slice_get (contexts_in (stated - passed) bytes) (i - passed)
     ≡ slice_get (contexts_in (stated - (passed + 1)) (drop (context_length bytes) bytes)) (i - (passed + 1))
@@ -45,27 +45,27 @@ step_get stated passed i bytes below before fits =
     rw (contexts_in_more (stated - passed) (stated - (passed + 1)) bytes (omega arith) fits)
     (slice_get_more (context_of bytes) (contexts_in (stated - (passed + 1)) (drop (context_length bytes) bytes)) (i - passed) (i - (passed + 1)) (omega arith))
 
--- the first is the one at the front
+-- The first context is the one at the front.
 pub first_get : (stated : ℕ) (bytes : List ℕ) → 0 < stated → has_context bytes ≡ true
     → contexts_in stated bytes ≡ context_of bytes ∷ contexts_in (stated - 1) (drop (context_length bytes) bytes)
 first_get stated bytes some fits = contexts_in_more stated (stated - 1) bytes (omega arith) fits
 
--- a section that its structures pass has none
+-- A section that ends within its structures has no contexts.
 pub contexts_of_short : (bytes : List ℕ) → length bytes < contexts_at bytes → contexts_of bytes ≡ []
 contexts_of_short bytes short =
     rw (drop_all (contexts_at bytes) bytes (omega arith)) (contexts_in_end (stated_contexts (x64_validation bytes)) [] (grind arith))
 
--- one that fits is no longer than the bytes
+-- A context that fits is no longer than the bytes.
 fitting : (bytes : List ℕ) → has_context bytes ≡ true → context_length bytes ≤ length bytes
 fitting bytes fits = grind arith
 
--- a context takes as many bytes as its header says
+-- A context has as many bytes as its header says.
 taken : (bytes : List ℕ) → has_context bytes ≡ true → bytes_taken (context_of bytes) ≡ context_length bytes
 unfolding context_of
 taken bytes fits =
     omega (arith, length-take (number_at 2 2 bytes) (drop 16 bytes), length-drop 16 bytes, fitting bytes fits)
 
--- the bytes of one context more
+-- The bytes of one more context.
 taken_more : (stated : ℕ) (bytes : List ℕ) → has_context bytes ≡ true
     → sum_by bytes_taken (contexts_in (suc stated) bytes)
     ≡ context_length bytes + sum_by bytes_taken (contexts_in stated (drop (context_length bytes) bytes))
@@ -86,7 +86,7 @@ contexts_inside (suc stated) bytes =
     ] in
     cases (has_context bytes) refl
 
--- where fewer fit than are stated, none fits after them
+-- If fewer fit than are stated, no context fits after them.
 pub contexts_ended : (stated : ℕ) (bytes : List ℕ) → length (contexts_in stated bytes) < stated
     → has_context (drop (sum_by bytes_taken (contexts_in stated bytes)) bytes) ≡ false
 contexts_ended zero bytes fewer = grind arith
@@ -105,7 +105,7 @@ contexts_ended (suc stated) bytes fewer =
     ] in
     cases (has_context bytes) refl
 
--- each context is the one at the front of what those before it leave
+-- Each context is at the front of the bytes after the contexts before it.
 abbrev pub IsInPlace : List ContextParts → List ℕ → ℕ → Type 0
 IsInPlace contexts bytes i =
     slice_get contexts i ≡ Some (context_of (drop (sum_by bytes_taken (take i contexts)) bytes))
@@ -141,7 +141,7 @@ contexts_in_place (suc stated) bytes i below = by (has_context bytes) refl (cont
     by false fits others =
         absurd (omega (arith, below, ap (λ (contexts : List ContextParts). length contexts) (contexts_in_end (suc stated) bytes fits)))
 
--- so it is in a section
+-- Each context of a section is at the front of the bytes after the contexts before it.
 pub context_in_place : (bytes : List ℕ) (i : ℕ) → i < length (contexts_of bytes)
     → slice_get (contexts_of bytes) i ≡ Some (context_of (context_bytes bytes i))
 context_in_place bytes i below =

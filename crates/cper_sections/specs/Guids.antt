@@ -24,7 +24,7 @@ unfoldable pub x64_guid : List ℕ
 x64_guid =
     0xdc ∷ 0x3e ∷ 0xa0 ∷ 0xb0 ∷ 0xa1 ∷ 0x44 ∷ 0x47 ∷ 0x97 ∷ 0xb9 ∷ 0x5b ∷ 0x53 ∷ 0xfa ∷ 0x24 ∷ 0x2b ∷ 0x6e ∷ 0x1d ∷ []
 
--- the kind of section that a GUID stands for
+-- the kind of section that has this GUID as its type
 unfoldable pub section_type_of : List ℕ → SectionType
 section_type_of guid =
     if bytes_eq guid memory_guid then Memory

@@ -14,7 +14,7 @@ memory_validation bytes = number_at 0 8 bytes
 abbrev pub rank_of : ℕ → List ℕ → Option ℕ
 rank_of validation bytes = if nat_le RANK_LENGTH (length bytes) then if_valid 15 validation (number_at 74 2 bytes) else None
 
--- a memory section by its table: the validation bit of each field, and the field's place and width
+-- A memory section by its table: the validation bit of each field, and the field's offset and width.
 unfoldable pub memory_of : List ℕ → MemSection
 memory_of bytes = record {
   physical = if_valid 1 (memory_validation bytes) (number_at 16 8 bytes);

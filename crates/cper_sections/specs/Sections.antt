@@ -1,4 +1,4 @@
--- A section by its type and its bytes, or the first reason that it can't be read.
+-- A section by its type and its bytes, or the first reason why it can't be read.
 use Rattle.std.specs.Prelude.{ℕ, List, length, nat_lt, Result, Ok, Err, if◌then◌else◌}
 use Rattle.cper_sections.specs.Guids.{section_type_of}
 use Rattle.cper_sections.specs.Memory.{memory_of}

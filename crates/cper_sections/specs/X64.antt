@@ -17,7 +17,7 @@ x64_validation bytes = number_at 0 8 bytes
 abbrev pub structures_of : ℕ → ℕ
 structures_of validation = bits 2 6 validation
 
--- bits 13:8, the count of contexts that is stated
+-- bits 13:8, the stated count of contexts
 abbrev pub stated_contexts : ℕ → ℕ
 stated_contexts validation = bits 8 6 validation
 
@@ -25,18 +25,18 @@ stated_contexts validation = bits 8 6 validation
 abbrev pub contexts_at : List ℕ → ℕ
 contexts_at bytes = FIXED_LENGTH + STRUCTURE_LENGTH * structures_of (x64_validation bytes)
 
--- a context without where it lies in memory
+-- a context without its address in memory
 pub record ContextParts : Type 0 where
   pub kind : ℕ
   pub msr : ℕ
   pub mapped : ℕ
   pub array : List ℕ
 
--- what a context shows
+-- the fields of a context
 abbrev pub parts_of : Context → ContextParts
 parts_of context = record { kind = context.kind; msr = context.msr; mapped = context.mapped; array = context.array.now }
 
--- how many bytes such a context takes, its header and its array
+-- how many bytes such a context has, its header and its array
 abbrev pub bytes_taken : ContextParts → ℕ
 bytes_taken context = CONTEXT_HEADER_LENGTH + length context.array
 
@@ -57,8 +57,7 @@ context_of bytes = record {
   array = take (number_at 2 2 bytes) (drop CONTEXT_HEADER_LENGTH bytes);
 }
 
--- the contexts that fit, of those that are stated one after the other: the first that doesn't fit
--- ends them
+-- The contexts that fit, of the stated ones: the first that doesn't fit ends the list.
 unfoldable pub contexts_in : ℕ → List ℕ → List ContextParts
 contexts_in zero bytes = []
 contexts_in (suc stated) bytes =
@@ -70,7 +69,7 @@ contexts_in (suc stated) bytes =
 abbrev pub contexts_of : List ℕ → List ContextParts
 contexts_of bytes = contexts_in (stated_contexts (x64_validation bytes)) (drop (contexts_at bytes) bytes)
 
--- the bytes from the context at a place on: it begins where those before it end
+-- the bytes from a context on: it begins where the context before it ends
 abbrev pub context_bytes : List ℕ → ℕ → List ℕ
 context_bytes bytes i = drop (contexts_at bytes + sum_by bytes_taken (take i (contexts_of bytes))) bytes
 

@@ -25,7 +25,7 @@ pub fn guid_at(bytes: &[u8; 16]) -> Uuid
     Uuid::from_bytes_le(*bytes)
 }
 
-// The GUID at the front of bytes.
+// Returns the GUID at the front of bytes.
 pub(crate) fn guid_in_front(bytes: &[u8]) -> Uuid
     requires { 16 ≤ length bytes.now }
     ensures { result ≡ guid_of bytes.now }
@@ -64,7 +64,7 @@ pub fn section_type_of(guid: Uuid) -> SectionType
     }
 }
 
-// Whether a GUID is that of memory sections.
+// Returns whether a GUID is the type of memory sections.
 #[tactic(auto, unfolding(crate::specs::Guids::memory_guid))]
 fn is_memory(guid: Uuid) -> bool
     ensures { result ≡ bytes_eq guid memory_guid }
@@ -72,7 +72,7 @@ fn is_memory(guid: Uuid) -> bool
     *guid.as_bytes() == MEMORY
 }
 
-// Whether a GUID is that of processor generic sections.
+// Returns whether a GUID is the type of processor generic sections.
 #[tactic(auto, unfolding(crate::specs::Guids::processor_guid))]
 fn is_processor(guid: Uuid) -> bool
     ensures { result ≡ bytes_eq guid processor_guid }
@@ -80,7 +80,7 @@ fn is_processor(guid: Uuid) -> bool
     *guid.as_bytes() == PROCESSOR
 }
 
-// Whether a GUID is that of IA32/X64 sections.
+// Returns whether a GUID is the type of IA32/X64 sections.
 #[tactic(auto, unfolding(crate::specs::Guids::x64_guid))]
 fn is_x64(guid: Uuid) -> bool
     ensures { result ≡ bytes_eq guid x64_guid }

@@ -1,4 +1,4 @@
-//! What holds of sections for every list of bytes.
+//! The laws of sections, for every list of bytes.
 
 ghost use Rattle.std.specs.Prelude.{◌≡◌, ◌≤◌, ◌<◌, ◌+◌, ℕ, List, length, sum_by, slice_get, Some, false};
 ghost use Rattle.cper_sections.specs.declared.memory.TheConstants.{OLD_LENGTH, RANK_LENGTH};
@@ -7,8 +7,8 @@ ghost use Rattle.cper_sections.specs.declared.x64.TheConstants.{CONTEXT_HEADER_L
 ghost use Rattle.cper_sections.specs.X64.{x64_validation, stated_contexts, contexts_at, contexts_of, has_context, context_of, bytes_taken, context_bytes};
 
 /// The contexts of an IA32/X64 section follow its structures without gaps and lie inside the
-/// section. There are at most as many as the section states. If there are fewer, none fits after
-/// them.
+/// section. There are at most as many as the section states. If there are fewer, no context fits
+/// after them.
 #[tactic(auto, using(crate::proofs::ContextLemmas::most_contexts, crate::proofs::ContextLemmas::context_in_place))]
 pub fn contexts_are_the_first_that_fit()
     ensures inside { (bytes : List ℕ) → contexts_at bytes ≤ length bytes
@@ -22,7 +22,8 @@ pub fn contexts_are_the_first_that_fit()
         → has_context (context_bytes bytes (length (contexts_of bytes))) ≡ false }
 {}
 
-/// The numbers that the definitions cite by name are those of UEFI 2.10, appendix N.2.4 and N.2.5.
+/// The numbers behind the names that the definitions use are those of UEFI 2.10, appendix N.2.4 and
+/// N.2.5.
 pub fn numbers_in_digits()
     ensures memory { OLD_LENGTH ≡ 73 }
     ensures rank { RANK_LENGTH ≡ 80 }

@@ -6,8 +6,8 @@ ghost use Rattle.cper_sections.specs.Memory.{memory_of, rank_of};
 use ras_base::is_set;
 use ras_base::little_endian::{u16_at, u64_at};
 
-/// What a platform memory section says. Each field is there if and only if its validation bit is
-/// set.
+/// The fields of a platform memory section. Each field is there if and only if its validation bit
+/// is set.
 #[derive(Clone, Copy, Debug, PartialEq, Eq)]
 pub struct MemSection {
     /// The physical address of the error.
@@ -56,7 +56,7 @@ pub(crate) fn memory_at(bytes: &[u8]) -> MemSection
     }
 }
 
-// The rank, if it is valid and the section is long enough for it.
+// Returns the rank, if it is valid and the section is long enough for it.
 fn rank_at(bytes: &[u8], validation: u64) -> Option<u16>
     ensures { result ≡ rank_of validation bytes.now }
 {

@@ -5,7 +5,7 @@ ghost use Rattle.cper_sections.specs.Processor.{processor_of};
 
 use ras_base::little_endian::u64_at;
 
-/// What a processor generic section contains, whatever its validation bits say.
+/// The fields of a processor generic section, whatever its validation bits say.
 #[derive(Clone, Copy, Debug, PartialEq, Eq)]
 pub struct ProcSection {
     /// The type of processor.

@@ -11,7 +11,7 @@ use crate::x64::{FIXED_LENGTH, X64Section, contexts_start, x64_at};
 use thiserror::Error;
 use uuid::Uuid;
 
-/// What a section says, by its type.
+/// The fields of a section, by its type.
 #[derive(Clone, Copy, Debug, PartialEq, Eq)]
 pub enum Section {
     /// A platform memory section.
@@ -27,8 +27,8 @@ pub enum Section {
 /// Why a section can't be read.
 #[derive(Clone, Copy, Debug, PartialEq, Eq, Error)]
 pub enum SectionRefused {
-    /// The section has fewer bytes than its type's fixed fields: 73 of a memory section, 192 of a
-    /// processor section, 64 of an IA32/X64 section.
+    /// The section has fewer bytes than its type's fixed fields: 73 for a memory section, 192 for a
+    /// processor section, 64 for an IA32/X64 section.
     #[error("the section has fewer bytes than the fixed fields of its type")]
     Short,
     /// The error structures of an IA32/X64 section, 64 bytes each, don't lie inside it.
@@ -36,7 +36,7 @@ pub enum SectionRefused {
     TooManyStructures,
 }
 
-/// A section of a record, with what its descriptor says of it.
+/// A section of a record, with the fields of its descriptor.
 #[derive(Clone, Copy, Debug, PartialEq, Eq)]
 pub struct Descriptor<'a> {
     /// The section's severity: 0 recoverable, 1 fatal, 2 corrected, 3 informational.
@@ -45,7 +45,7 @@ pub struct Descriptor<'a> {
     pub guid: Uuid,
     /// The section's bytes.
     pub bytes: &'a [u8],
-    /// What the section says.
+    /// The fields of the section.
     pub section: Section,
 }
 

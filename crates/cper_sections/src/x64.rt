@@ -7,7 +7,7 @@ ghost use Rattle.cper_sections.specs.X64.{x64_of, x64_validation, structures_of,
 use ras_base::little_endian::{u16_at, u32_at, u64_at};
 use ras_base::{bits, is_set};
 
-/// What an IA32/X64 section says.
+/// The fields of an IA32/X64 section.
 #[derive(Clone, Copy, Debug, PartialEq, Eq)]
 pub struct X64Section {
     /// The local APIC's identifier, if its validation bit is set.
@@ -40,7 +40,7 @@ pub const STRUCTURE_LENGTH: usize = 64;
 /// The bytes of a context before its array.
 pub const CONTEXT_HEADER_LENGTH: usize = 16;
 
-// The bytes before the contexts.
+// Returns the number of bytes before the contexts.
 pub(crate) fn contexts_start(bytes: &[u8]) -> usize
     requires { FIXED_LENGTH ≤ length bytes.now }
     ensures place { result ≡ contexts_at bytes.now }
@@ -49,7 +49,7 @@ pub(crate) fn contexts_start(bytes: &[u8]) -> usize
     FIXED_LENGTH + STRUCTURE_LENGTH * structure_count(u64_at(bytes, 0)) as usize
 }
 
-// The count of error structures, by the validation bits.
+// Returns the count of error structures, by the validation bits.
 fn structure_count(validation: u64) -> u8
     ensures value { result ≡ structures_of validation }
     ensures small { result < 64 }
@@ -57,7 +57,7 @@ fn structure_count(validation: u64) -> u8
     bits(2, 6, validation) as u8
 }
 
-// The count of contexts that is stated, by the validation bits.
+// Returns the stated count of contexts, by the validation bits.
 fn stated_count(validation: u64) -> u8
     ensures value { result ≡ stated_contexts validation }
     ensures small { result < 64 }
@@ -80,7 +80,7 @@ pub(crate) fn x64_at(bytes: &[u8]) -> X64Section
     }
 }
 
-// How many of the stated contexts fit.
+// Returns how many of the stated contexts fit.
 #[tactic(auto, using(crate::proofs::ContextLemmas::first_get, crate::proofs::ContextLemmas::most_contexts, crate::proofs::ContextLemmas::contexts_in_end))]
 fn count_contexts(stated: u8, bytes: &[u8]) -> u8
     ensures { result ≡ length (contexts_in stated bytes.now) }
@@ -95,7 +95,7 @@ fn count_contexts(stated: u8, bytes: &[u8]) -> u8
     stated
 }
 
-// The context at the front, and what follows it.
+// Returns the context at the front, and the bytes after it.
 #[tactic(auto, unfolding(crate::specs::X64::context_of))]
 fn first_context(bytes: &[u8]) -> Option<(Context<'_>, &[u8])>
     ensures { MatchOption result (has_context bytes.now ≡ false)
@@ -138,7 +138,7 @@ pub fn context_at(bytes: &[u8], i: u8) -> Option<Context<'_>>
     nth_context(stated, &bytes[start..], i)
 }
 
-// The context at a place, among at most `stated`.
+// Returns a context by its number, among at most `stated` contexts.
 #[tactic(auto, using(crate::proofs::ContextLemmas::first_get, crate::proofs::ContextLemmas::most_contexts, crate::proofs::ContextLemmas::contexts_in_end))]
 fn nth_context(stated: u8, bytes: &[u8], i: u8) -> Option<Context<'_>>
     ensures context { option_map parts_of result ≡ slice_get (contexts_in stated bytes.now) i }

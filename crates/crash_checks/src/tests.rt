@@ -1,4 +1,4 @@
-//! The calls that all tests make, and the lines that many of them give.
+//! The calls that all tests make, and the lines that many of them use.
 //!
 //! Nothing here has a contract, so the clauses of `rasd` come only into the proof of one short
 //! function, `exit_over`. A test sees plain bytes and an exit.
@@ -28,11 +28,11 @@ const EVERYDAY: &[u8] = b"bank 1 100 0 7 1000 1000c14 0 8c00004000010090 1234504
 
 const ANOTHER: &[u8] = b"bank 1 100 0 7 1001 1000c14 0 8c00004000010090 12345040 86\n";
 
-// What is printed of the everyday line as long as no module is known.
+// The text printed for the everyday line as long as no module is known.
 const LOGGED: &[u8] = b"log bank=1/0/7/1000 t=100 class=CE weight=1 label=- \
 page=0000000012345000 code=memory:RD:0 threshold=none over=0 mark=- ripv=0 eipv=0 mcip=0\n";
 
-// Calls `rasd`, as the only function that does.
+// Calls `rasd`. No other function here does.
 fn exit_over(
     alloc: Global,
     words: &[RasWord],

@@ -1,4 +1,4 @@
--- Locations that are equal are the same, and the rows that are at one.
+-- Equal locations are the same, and which rows are at a location.
 use Rattle.std.proofs.Common.{◌≡◌, ℕ, true, refl, arith}
 use Rattle.std.proofs.lemmas.Grind.{common_steps}
 use Rattle.std.proofs.lemmas.Bool.Decides.{nat_tests}
@@ -23,12 +23,12 @@ location-exact (Numbers node card module') (Numbers node' card' module'') same =
 location-exact (Channel socket bank channel) (Numbers node card module') same = absurd cc
 location-exact (Numbers node card module') (Channel socket bank channel) same = absurd cc
 
--- a module row is at its own channel
+-- A module row is at its own channel.
 pub at_channel : (label : Bytes) (socket bank channel : ℕ) (at : Location) → is_at at (Module label socket bank channel) ≡ location_eq.it (Channel socket bank channel) at
 at_channel label socket bank channel (Channel socket' bank' channel') = grind (arith, common_steps, nat_tests)
 at_channel label socket bank channel (Numbers node card module') = refl
 
--- a place row is at its own numbers
+-- A place row is at its own numbers.
 pub at_numbers : (label : Bytes) (node card module' : ℕ) (at : Location) → is_at at (Place label node card module') ≡ location_eq.it (Numbers node card module') at
 at_numbers label node card module' (Channel socket bank channel) = refl
 at_numbers label node card module' (Numbers node' card' module'') = grind (arith, common_steps, nat_tests)

@@ -1,4 +1,4 @@
--- That an owner is the label of a module row, and a label or none.
+-- An owner is the label of a module row, and a valid label or empty.
 use Rattle.std.proofs.Common.{◌≡◌, ℕ, Bool, true, Option, Some, None, List, [], ◌∷◌, refl, arith, filter}
 use Rattle.std.specs.Prelude.{IsTrue, IfSome}
 use Rattle.std.proofs.lemmas.Grind.{common_steps}
@@ -14,7 +14,7 @@ use Rattle.dimm_topology.specs.Rows.{labels_of_rows, names_module, is_labelled, 
 use Rattle.dimm_topology.specs.Owners.{the_one, owner_by_rows, owner_of_address, owner_at}
 use Rattle.dimm_topology.specs.Topology.{IsTopology}
 
--- the labels of rows that pass a test are those of module rows
+-- The labels of rows that pass a test are labels of module rows.
 fits_named : (rows xs : List Row) (test : Row → Bool) → ((label : Bytes) → is_module_label xs label ≡ true → is_module_label rows label ≡ true)
     → list_all (names_module rows) xs ≡ true → list_all (is_module_label rows) (labels_of_rows (filter test xs)) ≡ true
 fits_named rows [] test among named = refl
@@ -27,12 +27,12 @@ fits_named rows (Module label socket bank channel ∷ xs) test among named =
 fits_named rows (Range label first last ∷ xs) test among named = grind (arith, common_steps, fits_named rows xs test among)
 fits_named rows (Place label node card module' ∷ xs) test among named = grind (arith, common_steps, fits_named rows xs test among)
 
--- the one label of a list passes what all of its labels pass
+-- The only label of a list passes a test that all of its labels pass.
 one_passes : (test : Bytes → Bool) (labels : List Bytes) → list_all test labels ≡ true → IfSome (the_one labels) (λ label. IsTrue (test label))
 one_passes test [] all = tt
 one_passes test (label ∷ labels) all = grind (arith, common_steps)
 
--- the labels of rows are labels or none
+-- The labels of rows are valid or empty.
 fits_labelled : (xs : List Row) (test : Row → Bool) → list_all is_labelled xs ≡ true → list_all is_label_or_none (labels_of_rows (filter test xs)) ≡ true
 fits_labelled [] test all = refl
 fits_labelled (Cpu cpu socket ∷ xs) test all = grind (arith, common_steps, fits_labelled xs test)
@@ -40,7 +40,7 @@ fits_labelled (Module label socket bank channel ∷ xs) test all = grind (arith,
 fits_labelled (Range label first last ∷ xs) test all = grind (arith, common_steps, fits_labelled xs test)
 fits_labelled (Place label node card module' ∷ xs) test all = grind (arith, common_steps, fits_labelled xs test)
 
--- an owner passes what the labels of all rows pass
+-- An owner passes a test that the labels of all rows pass.
 owner_passes : (rows : List Row) (address : Option ℕ) (location : Option Location) (passes : Bytes → Bool)
     → ((test : Row → Bool) → list_all passes (labels_of_rows (filter test rows)) ≡ true)
     → IfSome (owner_by_rows rows address location) (λ label. IsTrue (passes label))
@@ -65,19 +65,19 @@ owner_passes rows address location passes all =
     at None = tt
     at (Some l) = fitting (is_at l)
 
--- an owner is the label of a module row
+-- An owner is the label of a module row.
 owner_named : (rows : List Row) (address : Option ℕ) (location : Option Location) → IsTopology rows
     → IfSome (owner_by_rows rows address location) (λ label. IsTrue (is_module_label rows label))
 owner_named rows address location topology =
     owner_passes rows address location (is_module_label rows) (λ test. fits_named rows rows test (λ label held. held) topology.named)
 
--- an owner is a label or none
+-- An owner is a valid label or empty.
 pub owner_labelled : (rows : List Row) (address : Option ℕ) (location : Option Location) → IsTopology rows
     → IfSome (owner_by_rows rows address location) (λ label. IsTrue (is_label_or_none label))
 owner_labelled rows address location topology =
     owner_passes rows address location is_label_or_none (λ test. fits_labelled rows test topology.labelled)
 
--- of what is behind a reference
+-- The label after a reference.
 copied : (P : Bytes → Type 0) (result : Option (Bor Bytes)) (owner : Option Bytes) → option_copied result ≡ owner → IfSome owner P → IfSome result (λ label. P label.now)
 copied P None owner e p = tt
 copied P (Some label) owner e p = rw (← e) at p

@@ -1,4 +1,4 @@
--- What a search by halving finds among ranges, and where one more range belongs.
+-- What a binary search finds among ranges, and where one more range belongs.
 use Rattle.std.proofs.Common.{◌≡◌, ℕ, zero, suc, ◌+◌, ◌≤◌, ◌<◌, Bool, true, false, nat_le, nat_lt, ◌&&◌, ◌||◌, if◌then◌else◌, Option, Some, None, is_some, List, [], ◌∷◌, length, get_or, insert, refl, ap, arith}
 use Rattle.std.proofs.lemmas.Grind.{common_steps}
 use Rattle.std.proofs.lemmas.Bool.Decides.{nat_tests}
@@ -11,14 +11,14 @@ use Rattle.dimm_topology.specs.Steps.Ranges.{meets, ends_before, comes_before, p
 one_more : (n : ℕ) → 1 + n ≡ suc n
 one_more n = omega arith
 
--- a range that all come before is none that one of them passes
+-- A range that comes before all others is passed by none of them.
 earlier : (address : ℕ) (x : HeldRange) (xs : List HeldRange) (j : ℕ) (d : HeldRange) → list_all (comes_before x) xs ≡ true → j < length xs
     → ends_before address (get_or xs j d) ≡ true → ends_before address x ≡ true
 earlier address x [] j d all within ends = absurd (omega arith)
 earlier address x (y ∷ ys) zero d all within ends = grind (arith, common_steps, nat_tests)
 earlier address x (y ∷ ys) (suc j) d all within ends = earlier address x ys j d (grind (arith, common_steps)) (omega arith) ends
 
--- ranges that end before an address come first
+-- Ranges that end before an address come first.
 pub parted : (address : ℕ) (xs : List HeldRange) → IsRising xs → IsPartitionedBy (ends_before address) xs
 parted address [] rising i j d low within ends = absurd (omega arith)
 parted address (x ∷ xs) rising zero zero d low within ends = ends
@@ -26,7 +26,7 @@ parted address (x ∷ xs) rising zero (suc j) d low within ends = earlier addres
 parted address (x ∷ xs) rising (suc i) zero d low within ends = absurd (omega arith)
 parted address (x ∷ xs) rising (suc i) (suc j) d low within ends = parted address xs rising.2 i j d (omega arith) (omega arith) ends
 
--- how many ranges end before an address, by the point at which a search by halving arrives
+-- How many ranges end before an address, by the index that a binary search returns.
 pub place_from_point : (address : ℕ) (xs : List HeldRange) (r : ℕ) → r ≤ length xs
     → IsPartitionPoint (λ y. ends_before address y ≡ true) (λ y. ends_before address y ≡ false) xs r → prefix_len (ends_before address) xs ≡ r
 place_from_point address xs r bound point =
@@ -38,13 +38,13 @@ abbrev pub begun : ℕ → Option HeldRange → Option HeldRange
 begun last None = None
 begun last (Some range) = if nat_le range.first last then Some range else None
 
--- where a range begins too late, those after it do too
+-- If a range begins too late, so do the ranges after it.
 none_after : (first last : ℕ) (x : HeldRange) (xs : List HeldRange) → x.first ≤ x.last → nat_le x.first last ≡ false → list_all (comes_before x) xs ≡ true
     → find (meets first last) xs ≡ None
 none_after first last x [] upright late all = refl
 none_after first last x (y ∷ ys) upright late all = grind (arith, common_steps, nat_tests, none_after first last x ys upright late)
 
--- the first range that meets addresses is the first that doesn't end before them
+-- The first range that meets addresses is the first that doesn't end before them.
 pub first_meeting : (first last : ℕ) (xs : List HeldRange) → first ≤ last → IsRising xs
     → find (meets first last) xs ≡ begun last (slice_get xs (prefix_len (ends_before first) xs))
 first_meeting first last [] low rising = refl
@@ -63,7 +63,7 @@ first_meeting first last (x ∷ xs) low rising = by (ends_before first x) (nat_l
         let none : meets first last x ≡ false = grind (arith, nat_tests) in
         rw (none, ends, begins) (none_after first last x xs rising.0 begins rising.1)
 
--- an insertion after the ranges that end before one puts it in
+-- A range is put in by an insertion after the ranges that end before it.
 pub put_at : (range : HeldRange) (xs : List HeldRange) → insert xs (prefix_len (ends_before range.first) xs) range ≡ put_in range xs
 put_at range [] = refl
 put_at range (x ∷ xs) = by (ends_before range.first x) refl (put_at range xs)
@@ -81,13 +81,13 @@ all_put : (test : HeldRange → Bool) (range : HeldRange) (xs : List HeldRange) 
 all_put test range [] = refl
 all_put test range (x ∷ xs) = grind (arith, common_steps, all_put test range xs)
 
--- what a range comes before, one that ends before it begins comes before
+-- A range that ends before another begins comes before all that the other comes before.
 all_later : (range x : HeldRange) (xs : List HeldRange) → nat_lt range.last x.first ≡ true → x.first ≤ x.last → list_all (comes_before x) xs ≡ true
     → list_all (comes_before range) xs ≡ true
 all_later range x [] before upright all = refl
 all_later range x (y ∷ ys) before upright all = grind (arith, common_steps, nat_tests, all_later range x ys before upright)
 
--- ranges stay in their order as one is put in that meets none
+-- Ranges stay in their order if a range is put in that meets none of them.
 pub rising_put : (range : HeldRange) (xs : List HeldRange) → range.first ≤ range.last → list_any (meets range.first range.last) xs ≡ false → IsRising xs
     → IsRising (put_in range xs)
 rising_put range [] upright free rising = (upright, refl, tt)
@@ -101,12 +101,12 @@ rising_put range (x ∷ xs) upright free rising =
         let upright' : nat_le x.first x.last ≡ true = grind (arith, nat_tests, rising.0) in
         rw ends (upright, grind (arith, common_steps, all_later range x xs before rising.0 rising.1), rising)
 
--- a range that fails a test hides none that passes it
+-- A range that fails a test doesn't change which range passes it first.
 pub find_put : (test : HeldRange → Bool) (range : HeldRange) (xs : List HeldRange) → test range ≡ false → find test (put_in range xs) ≡ find test xs
 find_put test range [] fails = rw fails refl
 find_put test range (x ∷ xs) fails = grind (arith, common_steps, find_put test range xs)
 
--- a range that meets no other is the one that holds an address of its own
+-- A range that meets no other is the range of each of its addresses.
 pub found_put : (address : ℕ) (range : HeldRange) (xs : List HeldRange) → meets address address range ≡ true → list_any (meets range.first range.last) xs ≡ false
     → find (meets address address) (put_in range xs) ≡ Some range
 found_put address range [] holds free = rw holds refl
@@ -114,7 +114,7 @@ found_put address range (x ∷ xs) holds free =
     let other : meets address address x ≡ false = grind (arith, common_steps, nat_tests) in
     grind (arith, common_steps, other, found_put address range xs holds)
 
--- a search finds something where something passes
+-- A search finds something if something passes.
 pub any_found : (test : HeldRange → Bool) (xs : List HeldRange) → is_some (find test xs) ≡ list_any test xs
 any_found test [] = refl
 any_found test (x ∷ xs) = grind (arith, common_steps, any_found test xs)

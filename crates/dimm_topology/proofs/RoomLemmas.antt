@@ -1,4 +1,4 @@
--- The room of a label that is made of bytes.
+-- The room of a label that is made from bytes.
 use Rattle.std.proofs.Common.{◌≡◌, ℕ, ◌≤◌, Bool, true, false, nat_le, nat_eq, ◌&&◌, ◌||◌, not, List, ◌++◌, length, drop, replicate, refl, sym, ap, subst, ◌∙◌, true≢false, arith, length-append, length-drop, codes}
 use Rattle.std.specs.List.{list_all}
 use Rattle.std.proofs.lemmas.Bool.Decides.{nat_tests}
@@ -20,7 +20,7 @@ or_second : (a b : Bool) → b ≡ true → (a || b) ≡ true
 or_second true b is = refl
 or_second false b is = is
 
--- a label has no more bytes than the room
+-- A label has no more bytes than the room.
 label-length : (bytes : Bytes) → is_label bytes ≡ true → length bytes ≤ MOST_LABEL_BYTES
 label-length bytes is =
     let front : (nat_le 1 (length bytes) && nat_le (length bytes) MOST_LABEL_BYTES) ≡ true =

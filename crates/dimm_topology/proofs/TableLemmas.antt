@@ -1,4 +1,4 @@
--- That the tables tell what the rows tell, as rows are taken.
+-- The tables say what the rows say, as rows are added.
 use Rattle.std.proofs.Common.{◌≡◌, ℕ, ◌≤◌, Bool, true, false, cond, ◌&&◌, ◌||◌, nat_eq, Option, Some, None, Result, Ok, Err, List, [], ◌∷◌, ◌++◌, refl, sym, ap, ◌∙◌, arith, filter, append-nil, option_map}
 use Rattle.std.proofs.lemmas.Grind.{common_steps}
 use Rattle.std.proofs.lemmas.Bool.Decides.{nat_tests}
@@ -30,14 +30,14 @@ none_overlaps : (row : Row) → ((other : Row) → overlap row other ≡ false) 
 none_overlaps row none [] = refl
 none_overlaps row none (other ∷ rows) = rw (none other) (none_overlaps row none rows)
 
--- the ranges that a row meets are those that it overlaps
+-- The ranges that a row meets are the ranges that it overlaps.
 pub meets_overlapped : (rows : List Row) (tables : Tables) (row : Row) → Tells rows tables → meets_one tables.ranges row ≡ list_any (overlap row) rows
 meets_overlapped rows tables (Range label first last) tells = sym (tells.held label first last)
 meets_overlapped rows tables (Cpu cpu socket) tells = sym (none_overlaps (Cpu cpu socket) (λ other. refl) rows)
 meets_overlapped rows tables (Module label socket bank channel) tells = sym (none_overlaps (Module label socket bank channel) (λ other. refl) rows)
 meets_overlapped rows tables (Place label node card module') tells = sym (none_overlaps (Place label node card module') (λ other. refl) rows)
 
--- a row that is no range over an address leaves its owner
+-- A row that isn't a range over an address doesn't change the address's owner.
 pub same_owner : (rows : List Row) (row : Row) (address : ℕ) → is_range_over address row ≡ false → owner_of_address (rows ++ row ∷ []) address ≡ owner_of_address rows address
 same_owner rows row address other =
     let more : filter (is_range_over address) (rows ++ row ∷ []) ≡ filter (is_range_over address) rows =
@@ -55,7 +55,7 @@ last_added : (xs : List ℕ) (first : Option ℕ) (x : ℕ) → last_or first (x
 last_added [] first x = refl
 last_added (y ∷ xs) first x = last_added xs (Some y) x
 
--- labels with one more
+-- Labels with one more.
 noted_more : (labels : List Bytes) (label : Bytes) → noted (labels ++ label ∷ []) ≡ Some (joined (noted labels) label)
 noted_more [] label = refl
 noted_more (first ∷ labels) label =
@@ -84,7 +84,7 @@ one_noted rows row label at names here =
     let more : filter (is_at at) (rows ++ row ∷ []) ≡ filter (is_at at) rows ++ row ∷ [] = filter-append (is_at at) rows (row ∷ []) ∙ rw here refl in
     ap labels_of_rows more ∙ filter_map-append label_in (filter (is_at at) rows) (row ∷ []) ∙ rw names refl
 
--- the owners of locations, as a row of one is taken
+-- The owners of locations, after a row of one location is added.
 owners_more : (rows : List Row) (row : Row) (label : Bytes) (own : Location) (old new : Location → Option (Option Bytes)) → label_in row ≡ Some label
     → ((at : Location) → is_at at row ≡ location_eq.it own at)
     → ((at : Location) → new at ≡ cond (location_eq.it own at) (Some (joined (old own) label)) (old at))
@@ -97,14 +97,14 @@ owners_more rows row label own old new names is after before at = by (location_e
         after at ∙ rw (here, one_noted rows row label at names (is at ∙ here), noted_more (labels_at rows at) label, same, before at) refl
     by false other = after at ∙ rw (other, same_noted rows row at (is at ∙ other)) (before at)
 
--- the sockets of CPUs stay as a row that is no CPU's is taken
+-- The sockets of CPUs are unchanged after a row that isn't a CPU's.
 same_socket : (rows : List Row) (row : Row) (cpu : ℕ) → socket_of cpu row ≡ None → socket_by_rows (rows ++ row ∷ []) cpu ≡ socket_by_rows rows cpu
 same_socket rows row cpu other =
     let more : filter_map (socket_of cpu) (rows ++ row ∷ []) ≡ filter_map (socket_of cpu) rows =
     filter_map-append (socket_of cpu) rows (row ∷ []) ∙ rw other (append-nil (filter_map (socket_of cpu) rows)) in
     ap (last_or None) more
 
--- a row of a CPU gives the CPU its socket
+-- A row of a CPU gives the CPU its socket.
 pub socket_more : (rows : List Row) (cpu socket at : ℕ)
     → socket_by_rows (rows ++ Cpu cpu socket ∷ []) at ≡ cond (nat_eq at cpu) (Some socket) (socket_by_rows rows at)
 socket_more rows cpu socket at = by (nat_eq at cpu) refl
@@ -116,7 +116,7 @@ socket_more rows cpu socket at = by (nat_eq at cpu) refl
         ap (last_or None) more ∙ last_added (filter_map (socket_of at) rows) None socket
     by false other = same_socket rows (Cpu cpu socket) at (rw other refl)
 
--- the tables with the socket of a CPU
+-- The tables with the socket of a CPU.
 pub cpu_more : (rows : List Row) (cpu socket : ℕ) (old new : Tables) → new.modules ≡ old.modules → new.owners ≡ old.owners → new.ranges ≡ old.ranges
     → ((at : ℕ) → get nat_eq new.sockets at ≡ cond (nat_eq cpu at) (Some socket) (get nat_eq old.sockets at)) → Tells rows old
     → Tells (rows ++ Cpu cpu socket ∷ []) new
@@ -137,7 +137,7 @@ any_more true false = refl
 any_more false true = refl
 any_more false false = refl
 
--- the tables with a row of a module
+-- The tables with a row of a module.
 pub module_more : (rows : List Row) (label : Bytes) (socket bank channel : ℕ) (old new : Tables) → new.sockets ≡ old.sockets → new.ranges ≡ old.ranges
     → ((at : Bytes) → contains same_label new.modules at ≡ cond (same_label label at) true (contains same_label old.modules at))
     → ((at : Location) → get location_eq.it new.owners at ≡ cond (location_eq.it (Channel socket bank channel) at)
@@ -157,7 +157,7 @@ module_more rows label socket bank channel old new sockets ranges modules owners
     with_module at before = sym (list_any-append (is_module_of at) rows (Module label socket bank channel ∷ [])
         ∙ rw (nat_list_eq_equiv.symm at label, ← before) (any_more (same_label label at) (contains same_label old.modules at)))
 
--- the tables with a row of a place
+-- The tables with a row of a place.
 pub place_more : (rows : List Row) (label : Bytes) (node card module' : ℕ) (old new : Tables) → new.sockets ≡ old.sockets → new.modules ≡ old.modules
     → new.ranges ≡ old.ranges → ((at : Location) → get location_eq.it new.owners at ≡ cond (location_eq.it (Numbers node card module') at)
     (Some (joined (get location_eq.it old.owners (Numbers node card module')) label)) (get location_eq.it old.owners at)) → Tells rows old
@@ -171,7 +171,7 @@ place_more rows label node card module' old new sockets modules ranges owners te
       owned = λ address. rw ranges (same_owner rows row address refl ∙ tells.owned address);
     }
 
--- the tables with a range put in
+-- The tables with one more range.
 pub range_more : (rows : List Row) (label : Bytes) (first last : ℕ) (old new : Tables) → new.sockets ≡ old.sockets → new.modules ≡ old.modules → new.owners ≡ old.owners
     → first ≤ last → meets_one old.ranges (Range label first last) ≡ false
     → new.ranges ≡ put_in (record { label = label; first = first; last = last }) old.ranges → Tells rows old → Tells (rows ++ Range label first last ∷ []) new
@@ -201,17 +201,17 @@ range_more rows label first last old new sockets modules owners upright free put
         let none : meets address address range ≡ false = grind (arith, nat_tests) in
         same_owner rows (Range label first last) address over ∙ tells.owned address ∙ rw (find_put (meets address address) range old.ranges none) refl
 
--- what follows from what holds on success
+-- What follows from what holds on success.
 pub after : {P Q : Type 0} (result : Result (Unit {0}) NoMemory) → (P → Q) → OnOk result P → OnOk result Q
 after (Ok done) f p = f p
 after (Err refused) f p = tt
 
--- what holds is said of a failure too
+-- A statement that holds in any case holds of a failure too.
 pub on_failure : {P : Type 0} (result : Result (Unit {0}) NoMemory) → P → OnErr result P
 on_failure (Ok done) p = tt
 on_failure (Err refused) p = p
 
--- tables with the same entries, in whatever order
+-- Tables with the same entries, in any order.
 pub same_entries : (rows : List Row) (old new : Tables) → new.sockets ≡ old.sockets → new.ranges ≡ old.ranges
     → ((label : Bytes) → contains same_label new.modules label ≡ contains same_label old.modules label) → new.owners.entries ≡ old.owners.entries
     → Tells rows old → Tells rows new

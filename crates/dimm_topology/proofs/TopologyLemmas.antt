@@ -1,4 +1,4 @@
--- What a topology keeps as rows are added.
+-- What stays true of a topology when rows are added.
 use Rattle.std.proofs.Common.{◌≡◌, ℕ, ◌≤◌, ◌<◌, Bool, true, false, ◌&&◌, ◌||◌, Some, Result, List, [], ◌∷◌, ◌++◌, length, refl, ◌∙◌, arith, length-append}
 use Rattle.std.specs.Prelude.{OnOk, OnErr, Ok, Err, nat_le, nat_eq, max, IsSome}
 use Rattle.std.proofs.lemmas.Grind.{common_steps}
@@ -16,7 +16,7 @@ use Rattle.dimm_topology.specs.Topology.{IsApart, IsTopology, is_upright}
 use Rattle.dimm_topology.proofs.OwnerLemmas.{overlap_at, none_over}
 use Rattle.dimm_topology.proofs.TableLemmas.{same_owner, socket_more}
 
--- which of two rows is named first says nothing
+-- The order of two rows doesn't matter for whether they overlap.
 overlap_turned : (one other : Row) → overlap one other ≡ overlap other one
 overlap_turned (Range label first last) (Range label' first' last') = grind (arith, nat_tests)
 overlap_turned (Range label first last) (Cpu cpu socket) = refl
@@ -35,13 +35,13 @@ overlap_turned (Place label' node card module') (Cpu cpu' socket') = refl
 overlap_turned (Place label' node card module') (Module label socket' bank' channel') = refl
 overlap_turned (Place label' node card module') (Place label node' card' module'') = refl
 
--- a row that overlaps none may be added
+-- A row that overlaps no other may be added.
 apart_more : (rows : List Row) (row : Row) → IsApart rows → list_any (overlap row) rows ≡ false → IsApart (rows ++ row ∷ [])
 apart_more [] row apart free = (refl, apart)
 apart_more (other ∷ rows) row apart free =
     (grind (arith, common_steps, list_any-append (overlap other) rows (row ∷ []), overlap_turned other row, apart.0), apart_more rows row apart.1 (grind (arith, common_steps)))
 
--- a label that a module row has, it has however many rows are added
+-- The label of a module row stays one, however many rows are added.
 named_kept : (rows more : List Row) (row : Row) → names_module rows row ≡ true → names_module (rows ++ more) row ≡ true
 named_kept rows more (Cpu cpu socket) named = refl
 named_kept rows more (Module label socket bank channel) named = refl
@@ -61,13 +61,13 @@ topology_more rows row topology named free upright labelled small = record {
   small = grind (arith, common_steps, length-append rows (row ∷ []));
 }
 
--- a row that is no range over an address leaves its owner
+-- A row that isn't a range over an address doesn't change the address's owner.
 pub other_row : (result : Result (Unit {0}) TopologyRefused) (old new : List Row) (row : Row) → ((address : ℕ) → is_range_over address row ≡ false)
     → OnOk result (new ≡ old ++ row ∷ []) → OnErr result (new ≡ old) → (address : ℕ) → owner_of_address new address ≡ owner_of_address old address
 other_row (Ok done) old new row other ok err address = rw ok (same_owner old row address (other address))
 other_row (Err refused) old new row other ok err address = rw err refl
 
--- a range shares an address with a held one that it overlaps
+-- A range shares an address with an earlier range that it overlaps.
 pub shares : (label : Bytes) (first last : ℕ) (rows : List Row) → first ≤ last → list_all is_upright rows ≡ true
     → list_any (overlap (Range label first last)) rows ≡ true → SharesAddress rows first last
 shares label first last [] upright all meets = cc
@@ -89,14 +89,14 @@ overlaps_at label first last address (row ∷ rows) low high held =
     let over : is_range_over address (Range label first last) ≡ true = grind (arith, nat_tests) in
     grind (arith, common_steps, overlap_at address (Range label first last) row over, overlaps_at label first last address rows low high)
 
--- a CPU row that is added gives the CPU its socket
+-- A CPU row that is added gives the CPU its socket.
 pub last_socket : (result : Result (Unit {0}) TopologyRefused) (old new : List Row) (cpu socket : ℕ) → OnOk result (new ≡ old ++ Cpu cpu socket ∷ []) → OnOk result (socket_by_rows new cpu ≡ Some socket)
 last_socket (Err refused) old new cpu socket ok = tt
 last_socket (Ok done) old new cpu socket ok =
     let own : nat_eq cpu cpu ≡ true = grind (arith, nat_tests) in
     rw ok (socket_more old cpu socket cpu ∙ rw own refl)
 
--- where an address is in a range, a row that overlaps none doesn't hold it
+-- If an address is in a range, a row that overlaps no range doesn't contain it.
 not_over : (address : ℕ) (row : Row) (rows : List Row) → list_any (overlap row) rows ≡ false → IsSome (owner_of_address rows address) → is_range_over address row ≡ false
 not_over address row rows free owned = by (is_range_over address row) refl
   where
@@ -104,7 +104,7 @@ not_over address row rows free owned = by (is_range_over address row) refl
     by false e = refl
     by true e = let none = rw (none_over address row rows e free) at owned in cc
 
--- a range that is taken leaves the owners of the other ranges' addresses
+-- A range that is added doesn't change the owners of other ranges' addresses.
 pub range_keeps : (result : Result (Unit {0}) TopologyRefused) (old new : List Row) (row : Row) → AnswersRow result (row_refusal old row)
     → OnOk result (new ≡ old ++ row ∷ []) → OnErr result (new ≡ old) → (address : ℕ) → IsSome (owner_of_address old address) → owner_of_address new address ≡ owner_of_address old address
 range_keeps (Err refused) old new row answer ok err address owned = rw err refl

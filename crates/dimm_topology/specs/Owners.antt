@@ -12,12 +12,12 @@ use Rattle.dimm_topology.specs.declared.row.Location.{Location}
 use Rattle.dimm_topology.specs.declared.row.Location.TheVariants.{Channel, Numbers}
 use Rattle.dimm_topology.specs.declared.row.Row.{Row}
 
--- the only label that a list names, maybe several times; None if it names no label or different ones
+-- The only label in a list, maybe several times; None if the list has no label or different ones.
 abbrev pub the_one : List Bytes → Option Bytes
 the_one [] = None
 the_one (label ∷ labels) = if list_all (same_label label) labels then Some label else None
 
--- the ranges that contain an address: at most one, since no two ranges overlap
+-- the ranges that contain an address: at most one, because no two ranges overlap
 abbrev pub ranges_over : List Row → ℕ → List Row
 ranges_over rows address = filter (is_range_over address) rows
 
@@ -25,7 +25,7 @@ ranges_over rows address = filter (is_range_over address) rows
 abbrev pub owner_of_address : List Row → ℕ → Option Bytes
 owner_of_address rows address = the_one (labels_of_rows (ranges_over rows address))
 
--- the only label that the rows of a location name
+-- the only label in the rows of a location
 abbrev pub owner_at : List Row → Location → Option Bytes
 owner_at rows location = the_one (labels_of_rows (filter (is_at location) rows))
 
@@ -38,7 +38,7 @@ owner_by_rows rows address location =
 abbrev pub socket_by_rows : List Row → ℕ → Option ℕ
 socket_by_rows rows cpu = last_or None (filter_map (socket_of cpu) rows)
 
--- the memory channel that a code names: a memory controller error's, unless it is 15
+-- the memory channel in an error code: a memory controller error's, unless it is 15
 abbrev pub channel_of : Code → Option ℕ
 channel_of (Memory mmm channel filter) = if nat_eq channel 15 then None else Some channel
 channel_of _ = None

@@ -1,4 +1,4 @@
--- The rows of a topology, and what each says.
+-- The rows of a topology.
 use Rattle.std.specs.Prelude.{ℕ, Bool, true, false, nat_eq, nat_le, ◌&&◌, Option, Some, None, List, if◌then◌else◌}
 use Rattle.std.specs.List.{list_any, filter_map}
 use Rattle.std.specs.Option.{option_map_or}
@@ -13,23 +13,23 @@ abbrev pub socket_of : ℕ → Row → Option ℕ
 socket_of cpu (Cpu cpu' socket) = if nat_eq cpu cpu' then Some socket else None
 socket_of cpu _ = None
 
--- the label that a row names
+-- the label of a row
 abbrev pub label_in : Row → Option Bytes
 label_in (Cpu cpu socket) = None
 label_in (Module label socket bank channel) = Some label
 label_in (Range label first last) = Some label
 label_in (Place label node card module') = Some label
 
--- whether the label that a row names is one or none
+-- Whether the label of a row is valid or empty.
 abbrev pub is_labelled : Row → Bool
 is_labelled row = option_map_or is_label_or_none (label_in row) true
 
--- the labels that rows name, in order
+-- the labels of rows, in order
 abbrev pub labels_of_rows : List Row → List Bytes
 labels_of_rows rows = filter_map label_in rows
 
--- whether a row says which module is at a location: module rows for memory channels, place rows for
--- the places that firmware names
+-- Whether a row says which module is at a location: module rows for memory channels, place rows for the places in
+-- firmware reports.
 abbrev pub is_at : Location → Row → Bool
 is_at location (Cpu cpu socket) = false
 is_at location (Range label first last) = false
@@ -54,7 +54,7 @@ is_module_of label _ = false
 abbrev pub is_module_label : List Row → Bytes → Bool
 is_module_label rows label = list_any (is_module_of label) rows
 
--- whether a row names a module that the rows have, as a range and a place must
+-- Whether a row names a module that the rows have, as a range and a place must.
 abbrev pub names_module : List Row → Row → Bool
 names_module rows (Range label first last) = is_module_label rows label
 names_module rows (Place label node card module') = is_module_label rows label

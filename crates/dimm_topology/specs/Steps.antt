@@ -1,4 +1,4 @@
--- What only proofs use: no public clause refers to it.
+-- Definitions that only proofs use.
 pub mod LabelRoom
 pub mod LabelLemmas
 pub mod Ranges

@@ -21,7 +21,7 @@ pub const MOST_LABEL_BYTES: usize = 32;
 /// The name of a memory module, as printed on the mainboard, or no name.
 ///
 /// A label is 1 to 32 printable bytes without a space, and not the one byte `-`, which is printed
-/// where there is no label. Contracts see the list of its bytes, empty for no label.
+/// if there is no label. Contracts see the list of its bytes, empty for no label.
 #[derive(Clone, Copy, Debug)]
 pub struct Label {
     // The bytes, and zeros after them.
@@ -67,7 +67,7 @@ impl Label {
         Ok(Label::from_bytes(bytes))
     }
 
-    /// Returns no label, which is printed as `-`. Allocates nothing.
+    /// Returns the empty label, which is printed as `-`. Allocates nothing.
     pub fn none() -> Label
         ensures { result ≡ [] }
     {
@@ -77,7 +77,7 @@ impl Label {
         }
     }
 
-    /// Returns the bytes of the label. `Label::none()` has none.
+    /// Returns the bytes of the label. `Label::none()` has no bytes.
     pub fn bytes(&self) -> &[u8]
         ensures bytes { result.now ≡ self.now }
         ensures label { IsTrue (is_label_or_none self.now) }
@@ -94,7 +94,7 @@ impl Label {
         Ok(*self)
     }
 
-    // The label of bytes that are one.
+    // Returns the label of bytes that are valid.
     fn from_bytes(bytes: &[u8]) -> Label
         requires { IsTrue (is_label bytes.now) }
         ensures { result ≡ bytes.now }
@@ -108,7 +108,7 @@ impl Label {
     }
 }
 
-// Whether bytes may be a label.
+// Returns whether bytes may be a label.
 fn is_label(bytes: &[u8]) -> bool
     ensures { result ≡ is_label bytes.now }
 {
@@ -117,7 +117,7 @@ fn is_label(bytes: &[u8]) -> bool
         && bytes != b"-".as_slice()
 }
 
-// Whether each byte may stand in a label.
+// Returns whether each byte may be in a label.
 fn are_label_bytes(bytes: &[u8]) -> bool
     ensures { result ≡ list_all is_label_byte bytes.now }
 {

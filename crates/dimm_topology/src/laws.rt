@@ -1,4 +1,4 @@
-//! What holds of every topology.
+//! The laws of every topology.
 
 ghost use Rattle.std.specs.Prelude.{◌≡◌, ◌≤◌, ℕ, List, Option, IsTrue, IfSome};
 ghost use Rattle.mca_codes.specs.Codes.{HasFieldsInRange};
@@ -18,7 +18,7 @@ pub fn owners_have_labels()
         → IfSome (owner_by_rows rows address location) (λ label. IsTrue (is_label_or_none label)) }
 {}
 
-/// The numbers that the definitions cite by name have these digits.
+/// The numbers behind the names that the definitions use.
 pub fn numbers()
     ensures rows { MOST_ROWS ≡ 4096 }
     ensures label { MOST_LABEL_BYTES ≡ 32 }

@@ -19,7 +19,7 @@ pub(crate) struct HeldRange {
     pub(crate) last: u64,
 }
 
-/// Ranges of which no two have an address in common, in the order of their addresses.
+/// Ranges in the order of their addresses, no two of which have an address in common.
 #[derive(Debug, Drop)]
 pub(crate) struct Ranges {
     ranges: Vec<HeldRange>,
@@ -70,7 +70,7 @@ impl Ranges {
     }
 }
 
-// How many ranges end before an address.
+// Returns how many ranges end before an address.
 fn place(ranges: &[HeldRange], address: u64) -> usize
     requires { IsRising ranges.now }
     ensures { result ≡ prefix_len (ends_before address) ranges.now }

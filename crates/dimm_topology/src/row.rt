@@ -6,7 +6,7 @@ ghost use Rattle.dimm_topology.specs.Rows.{label_in, is_labelled};
 
 use crate::Label;
 
-/// Where a report says that an error is, besides its address.
+/// Where an error is by a report, besides its address.
 #[derive(Clone, Copy, Debug, PartialEq, Eq, Hash)]
 pub enum Location {
     /// A memory channel, of a machine-check bank in a socket.
@@ -47,7 +47,7 @@ pub enum Row {
 }
 
 impl Row {
-    // The label that the row names.
+    // Returns the label of the row.
     pub(crate) fn label(&self) -> Option<&Label>
         ensures label { option_copied result ≡ label_in self.now }
         ensures labelled { IsTrue (is_labelled self.now) }
@@ -55,8 +55,8 @@ impl Row {
         match self {
             Row::Cpu { .. } => None,
             Row::Module { label, .. } | Row::Range { label, .. } | Row::Place { label, .. } => {
-                // The contract of `bytes` says that a label's bytes are a label or none, which the
-                // clause needs.
+                // By the contract of `bytes`, a label's bytes are valid or empty, which the clause
+                // needs.
                 let _ = label.bytes();
                 Some(label)
             }

@@ -1,4 +1,4 @@
-//! What the rows of a topology say, indexed by what is looked up.
+//! Tables of what the rows of a topology say, by the keys that are looked up.
 
 ghost use Rattle.std.specs.Prelude.{◌≡◌, Some, List, [], ◌∷◌, ◌++◌, cond, IsTrue, OnOk, OnErr};
 ghost use Rattle.std.specs.Bool.{IsFalse};
@@ -14,21 +14,21 @@ use ras_base::NoMemory;
 use std::alloc::Global;
 use std::collections::{HashMap, HashSet};
 
-/// What the rows say, found without a walk through them.
+/// What the rows say, found without a search through them.
 #[derive(Debug, Drop)]
 pub(crate) struct Tables {
     /// The socket of each CPU.
     pub(crate) sockets: HashMap<u16, u8>,
     /// The labels of the module rows.
     pub(crate) modules: HashSet<Label>,
-    /// The one label that the rows of a location name, or none if they name different ones.
+    /// The only label in the rows of a location, or none if they have different labels.
     pub(crate) owners: HashMap<Location, Option<Label>>,
     /// The ranges of addresses.
     pub(crate) ranges: Ranges,
 }
 
 impl Tables {
-    /// Returns the tables of no rows.
+    /// Returns the tables of an empty list of rows.
     pub(crate) fn new(alloc: Global) -> Tables
         ensures { Tells [] result }
     {
@@ -102,7 +102,7 @@ impl Tables {
     }
 }
 
-// Notes that a row of a location names a label.
+// Records that a row of a location has this label.
 fn note(
     owners: &mut HashMap<Location, Option<Label>>,
     location: Location,

@@ -1,4 +1,4 @@
-//! The rows of a machine, and the owners of errors by them.
+//! The rows of a machine, and which module owns an error by these rows.
 
 ghost use Rattle.std.specs.Prelude.{◌≡◌, ◌≤◌, ◌<◌, ◌↔◌, ℕ, List, [], ◌∷◌, ◌++◌, length, Option, Some, IsTrue, IfSome, IsSome, OnOk, OnErr};
 ghost use Rattle.std.specs.Bool.{IsFalse};
@@ -49,19 +49,19 @@ impl Model for Topology {
     ghost invariant = { λ a. IsTopology a.rows.items × Tells a.rows.items a.tables };
 }
 
-/// Why a topology doesn't take a row. If several reasons apply, the first is returned.
+/// Why a topology rejects a row: the first reason that applies.
 #[derive(Clone, Copy, Debug, PartialEq, Eq, Error)]
 pub enum TopologyRefused {
-    /// 1: a range or a place names a label that no module row has.
+    /// 1: a range or a place has a label that no module row has.
     #[error("no memory module has the label")]
     Label,
-    /// 2: a range has an address in common with a range that is there.
+    /// 2: a range has an address in common with an earlier range.
     #[error("the range has an address in common with another")]
     Overlap,
     /// 3: there are `MOST_ROWS` rows already.
     #[error("the topology has as many rows as it may hold")]
     Full,
-    /// Memory ran out. It has no number, since it is no fault of the row.
+    /// Memory ran out. This has no number, because it isn't a fault of the row.
     #[error("memory ran out")]
     NoMemory,
 }
@@ -91,7 +91,8 @@ impl Topology {
         }
     }
 
-    /// What holds of the rows of every topology. A law: the body is empty, the clause is the point.
+    /// The properties of the rows of every topology. A law: the body is empty, the clause is the
+    /// point.
     pub fn invariant(&self)
         ensures { IsTopology self.now }
     {
@@ -107,11 +108,11 @@ impl Topology {
         ensures ok { OnOk result (self.new ≡ self.old ++ Row.Cpu cpu socket ∷ []) }
         ensures err { OnErr result (self.new ≡ self.old) }
 
-        // The owners of addresses that are in a range stay.
+        // Addresses in a range keep their owners.
         ensures addresses { (address : ℕ)
             → owner_of_address self.new address ≡ owner_of_address self.old address }
 
-        // The row counts from now on, whatever row the CPU had.
+        // The row applies from now on, whatever row the CPU had.
         ensures last { OnOk result (socket_by_rows self.new cpu ≡ Some socket) }
     {
         self.add(Row::Cpu { cpu, socket })
@@ -137,7 +138,7 @@ impl Topology {
             ≡ self.old ++ Row.Module label socket bank channel ∷ []) }
         ensures err { OnErr result (self.new ≡ self.old) }
 
-        // The owners of addresses that are in a range stay.
+        // Addresses in a range keep their owners.
         ensures addresses { (address : ℕ)
             → owner_of_address self.new address ≡ owner_of_address self.old address }
     {
@@ -190,7 +191,7 @@ impl Topology {
         ensures ok { OnOk result (self.new ≡ self.old ++ Row.Place label node card «module» ∷ []) }
         ensures err { OnErr result (self.new ≡ self.old) }
 
-        // The owners of addresses that are in a range stay.
+        // Addresses in a range keep their owners.
         ensures addresses { (address : ℕ)
             → owner_of_address self.new address ≡ owner_of_address self.old address }
     {
@@ -216,7 +217,7 @@ impl Topology {
         ensures owner { option_copied result
             ≡ owner_by_rows self.now address (bank_location self.now cpu bank code) }
 
-        // Each address is in one range at most.
+        // Each address is in at most one range.
         ensures one_range { (held : ℕ) → length (ranges_over self.now held) ≤ 1 }
 
         // An owner is the label of a module row.
@@ -241,12 +242,12 @@ impl Topology {
         self.owner(section.physical, location_of_section(section))
     }
 
-    // The owner of an error: the owner of its address, else the owner of its location.
+    // Returns the owner of an error: the owner of its address, else the owner of its location.
     fn owner(&self, address: Option<u64>, location: Option<Location>) -> Option<&Label>
         ensures owner { option_copied result ≡ owner_by_rows self.now address location }
         ensures topology { IsTopology self.now }
     {
-        // Looking at the rows brings in what holds of every topology, which the clause needs.
+        // Reading the rows proves the properties of every topology, which the clause needs.
         let _ = &self.rows;
         match address.and_then(|address| self.owner_of_address(address)) {
             Some(label) => Some(label),
@@ -282,7 +283,7 @@ impl Topology {
         }
     }
 
-    // Adds a row that may come after the others.
+    // Appends a row that may come after the others.
     fn hold(&mut self, row: Row) -> Result<(), NoMemory>
         requires upright { IsTrue (is_upright row) }
         requires named { IsTrue (names_module self.old row) }
@@ -291,7 +292,7 @@ impl Topology {
         ensures ok { OnOk result (self.new ≡ self.old ++ row ∷ []) }
         ensures err { OnErr result (self.new ≡ self.old) }
     {
-        // The contract of `label` says that the row names a label or none.
+        // By the contract of `label`, the row's label is valid or empty.
         let _ = row.label();
         self.rows.reserve(1)?;
         self.tables.take(&row)?;
@@ -299,7 +300,7 @@ impl Topology {
         Ok(())
     }
 
-    // Whether a row names a module that the rows have, as a range and a place must.
+    // Returns whether a row names a module that the rows have, as a range and a place must.
     fn names_module(&self, row: &Row) -> bool
         ensures { result ≡ names_module self.now row.now }
     {
@@ -309,14 +310,14 @@ impl Topology {
         }
     }
 
-    // Whether some module row has a label.
+    // Returns whether some module row has a label.
     fn is_module_label(&self, label: &Label) -> bool
         ensures { result ≡ is_module_label self.now label.now }
     {
         self.tables.modules.contains(label)
     }
 
-    // Whether a row is a range that has an address in common with a range that is there.
+    // Returns whether a row is a range that has an address in common with an earlier range.
     fn has_overlap(&self, row: &Row) -> bool
         requires { IsTrue (is_upright row.now) }
         ensures { result ≡ list_any (overlap row.now) self.now }
@@ -324,7 +325,7 @@ impl Topology {
         self.tables.meets_one(row)
     }
 
-    // The label of the range that contains an address.
+    // Returns the label of the range that contains an address.
     fn owner_of_address(&self, address: u64) -> Option<&Label>
         ensures { option_copied result ≡ owner_of_address self.now address }
     {
@@ -332,7 +333,7 @@ impl Topology {
         Some(&range.label)
     }
 
-    // The location of an error in a bank.
+    // Returns the location of an error in a bank.
     fn bank_location(&self, cpu: u16, bank: u8, code: Code) -> Option<Location>
         ensures { result ≡ bank_location self.now cpu bank code }
     {
@@ -345,14 +346,14 @@ impl Topology {
         })
     }
 
-    // The socket of a CPU, by its last row.
+    // Returns the socket of a CPU, by its last row.
     fn socket(&self, cpu: u16) -> Option<u8>
         ensures { result ≡ socket_by_rows self.now cpu }
     {
         self.tables.sockets.get(&cpu).copied()
     }
 
-    // The only label that the rows of a location name.
+    // Returns the only label in the rows of a location.
     fn owner_at(&self, location: Location) -> Option<&Label>
         ensures { option_copied result ≡ owner_at self.now location }
     {
@@ -360,7 +361,7 @@ impl Topology {
     }
 }
 
-// The memory channel that a code names.
+// Returns the memory channel in an error code.
 fn channel_of(code: Code) -> Option<u8>
     ensures { result ≡ channel_of code }
 {
@@ -370,7 +371,7 @@ fn channel_of(code: Code) -> Option<u8>
     }
 }
 
-// The location that a memory section names.
+// Returns the location that a memory section names.
 fn location_of_section(section: &MemSection) -> Option<Location>
     ensures { result ≡ section_location section.now }
 {

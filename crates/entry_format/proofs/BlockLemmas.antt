@@ -1,4 +1,4 @@
--- A name that is spelled over the bytes of a room.
+-- A name that is written over bytes in place.
 use Rattle.std.proofs.Common.{◌≡◌, ◌∙◌, ℕ, ◌+◌, ◌≤◌, List, ◌++◌, length, take, sym, ap, append_assoc, length-append, arith}
 use Rattle.std.proofs.lemmas.List.{take_at, length-take-le}
 use borrow.Rule.Slice.PartMut.{put_mid, post_of}

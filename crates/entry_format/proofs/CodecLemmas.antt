@@ -1,4 +1,4 @@
--- What it is that a reader reads a spelling, and how readers that do are put together.
+-- When a reader reads a spelling, and how such readers are combined.
 use Rattle.std.proofs.Common.{◌≡◌, ℕ, zero, suc, ◌+◌, ◌<◌, Bool, true, false, cond, eqb, List, [], ◌∷◌, ◌++◌, length, get_or, Option, Some, None, Result, Ok, Err, refl, sym, ap, subst, ◌∙◌, append_assoc, arith, inl, inr, ◌⊎◌}
 use Rattle.std.specs.List.{flat_map, AllByRecursion}
 use Rattle.std.proofs.lemmas.Bool.{eqb-true}
@@ -8,12 +8,12 @@ use Rattle.ras_base.specs.LittleEndian.{AreBytes}
 use Rattle.entry_format.specs.declared.refused.EntryRefused.{EntryRefused}
 use Rattle.entry_format.specs.Reading.{Reader, both_at, some_or_bad, made_at, many_at, byte_at, by_kind}
 
--- the reader reads this spelling of valid values, and nothing else
+-- The reader reads this spelling of valid values, and nothing else.
 pub record Reads {A : Type 0} (read : Reader A) (spell : A → List ℕ) (Valid : A → Type 0) : Type 0 where
   pub takes : (bytes : List ℕ) (x : A) (rest : List ℕ) → AreBytes bytes → read bytes ≡ Ok (x, rest) → (bytes ≡ spell x ++ rest) × Valid x
   pub again : (x : A) (rest : List ℕ) → Valid x → read (spell x ++ rest) ≡ Ok (x, rest)
 
--- the value of a step that did not fail
+-- The value of a step that didn't fail.
 pub bind_ok : {A B : Type 0} (r : Result A EntryRefused) (f : A → Result B EntryRefused) (y : B) → (r >>= f) ≡ Ok y → (x : A) × (r ≡ Ok x) × (f x ≡ Ok y)
 bind_ok (Ok x) f y e = (x, refl, e)
 bind_ok (Err d) f y e = absurd cc
@@ -24,18 +24,18 @@ done x = Ok x
 pub ok_is : {A : Type 0} (x y : A) → done x ≡ done y → x ≡ y
 ok_is x y e = cc
 
--- what holds of one value that was read holds of the other name of it
+-- A property of a value that was read is a property of every equal value.
 pub read_as : {A : Type 0} (P : A → Type 0) (x y : A) → done x ≡ done y → P x → P y
 read_as P x y same holds = subst P (ok_is x y same) holds
 
--- bytes behind others
+-- Bytes after others.
 pub rest_fits : (bytes text rest : List ℕ) → AreBytes bytes → bytes ≡ text ++ rest → AreBytes rest
 rest_fits bytes text rest fits parts i =
     let all : AreBytes (text ++ rest) = subst AreBytes parts fits in
     let there : get_or (text ++ rest) (length text + i) 0 < 256 = all (length text + i) in
     rw get_or-append-add at there
 
--- two texts, one after the other
+-- Two texts, one after the other.
 pub joined : (bytes one two middle rest : List ℕ) → bytes ≡ one ++ middle → middle ≡ two ++ rest → bytes ≡ (one ++ two) ++ rest
 joined bytes one two middle rest first second = first ∙ ap (λ (w : List ℕ). one ++ w) second ∙ sym (append_assoc one two rest)
 
@@ -78,7 +78,7 @@ some_ok : {A : Type 0} (o : Option A) (x : A) → some_or_bad o ≡ Ok x → o �
 some_ok None x e = absurd cc
 some_ok (Some y) x e = ap some (ok_is y x e)
 
--- f makes values that are valid of what is read, and g takes them back
+-- f makes valid values from what is read, and g converts them back.
 pub record Makes {A B : Type 0} (f : A → Option B) (g : B → A) (V : A → Type 0) (W : B → Type 0) : Type 0 where
   pub made : (x : A) (y : B) → V x → f x ≡ Some y → (g y ≡ x) × W y
   pub again : (y : B) → W y → (f (g y) ≡ Some y) × V (g y)
@@ -136,7 +136,7 @@ many_read r s V a n = record { takes = many_takes r s V a n; again = many_again 
 
 -- ---- what stands after a kind
 
--- what is read after a kind has that kind, and what is spelled after its kind is read
+-- What is read after a kind has this kind, and what is spelled after its kind is read.
 pub record ReadsKinds {A : Type 0} (read : ℕ → Reader A) (kind : A → ℕ) (body : A → List ℕ) (Valid : A → Type 0) : Type 0 where
   pub takes : (k : ℕ) (bytes : List ℕ) (x : A) (rest : List ℕ) → AreBytes bytes → read k bytes ≡ Ok (x, rest) → (k ≡ kind x) × (bytes ≡ body x ++ rest) × Valid x
   pub again : (x : A) (rest : List ℕ) → Valid x → read (kind x) (body x ++ rest) ≡ Ok (x, rest)
@@ -157,7 +157,7 @@ kinds_again r kind body V a x rest v = a.again x rest v
 pub kinds_read : {A : Type 0} (r : ℕ → Reader A) (kind : A → ℕ) (body : A → List ℕ) (V : A → Type 0) → ReadsKinds r kind body V → Reads (by_kind r) (λ x. kind x ∷ body x) V
 kinds_read r kind body V a = record { takes = kinds_takes r kind body V a; again = kinds_again r kind body V a }
 
--- what is read where the kind is this one, or else by other readers
+-- What is read if the kind is this one, or else by other readers.
 pub either_kind : {A : Type 0} (k n : ℕ) (read others : Result A EntryRefused) (y : A) → cond (eqb k n) read others ≡ Ok y → ((k ≡ n) × (read ≡ Ok y)) ⊎ (others ≡ Ok y)
 either_kind {A} k n read others y e = by (eqb k n) refl e
   where

@@ -28,7 +28,7 @@ use Rattle.entry_format.proofs.CodecLemmas.{Reads, Makes, bind_ok, ok_is, rest_f
 use Rattle.entry_format.proofs.FieldLemmas.{u16_read, u64_read, class_read, label_read, page_read, IsWeight, weight_read}
 use Rattle.entry_format.proofs.NameFormatLemmas.{name_read}
 
--- a record is made of its fields, and they are taken from it again
+-- A record is made from its fields, and gives them back.
 fields_make : {A B : Type 0} (f : A → B) (g : B → A) (V : A → Type 0) (W : B → Type 0) → ((x : A) → g (f x) ≡ x) → ((y : B) → f (g y) ≡ y) → ((x : A) → V x → W (f x)) → ((y : B) → W y → V (g y))
     → Makes (λ x. Some (f x)) g V W
 fields_make {A} {B} f g V W back forth there here = record {
@@ -174,7 +174,7 @@ AreNumbers p = (p.0 < 2 ^ 64) × (p.1 < 2 ^ 64)
 abbrev of_numbers : ℕ → ℕ → Limit
 of_numbers capacity period = record { capacity = capacity; period = period }
 
--- a limit that was made of two numbers
+-- A limit that was made from two numbers.
 limit_made : (a b c d : Bool) (capacity period : ℕ) (limit : Limit) → cond ((a && b) && (c && d)) (Some (of_numbers capacity period)) None ≡ Some limit
     → (of_numbers capacity period ≡ limit) × (a ≡ true) × (b ≡ true) × (c ≡ true) × (d ≡ true)
 limit_made true true true true capacity period limit e = (cc, refl, refl, refl, refl)

@@ -17,14 +17,14 @@ use Rattle.entry_format.specs.Spelling.{page_bytes, label_bytes}
 use Rattle.entry_format.specs.Reading.{leading_number, u16_at, u32_at, u64_at, byte_at, bytes_at, if_passes, made_at, class_of, class_at, label_at, page_number_at, some_page_at, no_page_at, page_of_kind, page_at, weight_at}
 use Rattle.entry_format.proofs.CodecLemmas.{Reads, Makes, bind_ok, ok_is, rest_fits, like_read, made_read, kinds_read, either_kind}
 
--- what was read where the bytes were enough
+-- A value that was read because there were enough bytes.
 long_ok : {A : Type 0} (short : Bool) (x y : A) → cond short (Err Bad) (Ok x) ≡ Ok y → (short ≡ false) × (x ≡ y)
 long_ok true x y e = absurd cc
 long_ok false x y e = (refl, ok_is x y e)
 
 -- ---- numbers
 
--- the numbers of so many bytes
+-- Numbers of this many bytes.
 record AreWide (width limit : ℕ) (spell : ℕ → List ℕ) : Type 0 where
   len : (n : ℕ) → length (spell n) ≡ width
   back : (bytes : List ℕ) → AreBytes bytes → width ≤ length bytes → spell (number_at 0 width bytes) ≡ take width bytes
@@ -90,7 +90,7 @@ passed : {A : Type 0} (test : Bool) (x y : A) → cond test (Some x) None ≡ So
 passed true x y e = (cc, refl)
 passed false x y e = absurd cc
 
--- a test makes the values that pass it
+-- A test makes the values that pass it.
 pub tested : {A : Type 0} (test : A → Bool) (V W : A → Type 0) → ((x : A) → V x → test x ≡ true → W x) → ((x : A) → W x → (test x ≡ true) × V x) → Makes (if_passes test) (λ x. x) V W
 tested {A} test V W there back = record {
   made = λ x y v e. let p = passed (test x) x y e in (sym p.0, subst W p.0 (there x v p.1));
@@ -133,7 +133,7 @@ class_read = made_read class_of class_number byte_at (λ n. n ∷ []) (λ n. n <
 
 -- ---- a label after the number of its bytes
 
--- so many bytes as they are
+-- This many bytes, unchanged.
 bytes_read : (n : ℕ) → Reads (bytes_at n) (λ text. text) (λ text. length text ≡ n)
 unfolding bytes_at
 bytes_read n = record {
@@ -149,7 +149,7 @@ bytes_read n = record {
 abbrev IsLabel : Bytes → Type 0
 IsLabel label = is_label_or_none label ≡ true
 
--- a label of so many bytes
+-- A label of this many bytes.
 sized_read : (n : ℕ) → Reads (made_at (if_passes is_label_or_none) (bytes_at n)) (λ text. text) (λ text. (length text ≡ n) × IsLabel text)
 sized_read n =
     made_read (if_passes is_label_or_none) (λ text. text) (bytes_at n) (λ text. text) (λ text. length text ≡ n) (λ text. (length text ≡ n) × IsLabel text)

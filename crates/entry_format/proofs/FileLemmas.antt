@@ -1,4 +1,4 @@
--- The entries that bytes are: one reading.
+-- Bytes are at most one list of entries.
 use Rattle.std.proofs.Common.{◌≡◌, ℕ, Bool, true, false, cond, eqb, List, [], ◌∷◌, ◌++◌, length, All, Result, Ok, Err, refl, sym, ap, subst, ◌∙◌, append-nil, arith, length-append}
 use Rattle.std.specs.Prelude.{IfOk, IsOkAnd}
 use Rattle.std.specs.Global.{Vec}
@@ -20,7 +20,7 @@ use Rattle.entry_format.proofs.EntryLemmas.{entry_read, entry_not_empty}
 
 -- ---- no spelling begins another
 
--- a file of version 2 can hold every valid entry
+-- A file of version 2 can have every valid entry.
 pub of_two : (entry : Entry) → IsValidEntry entry → IsEntryOf Two entry
 of_two entry valid = record { valid = valid; held = tt }
 

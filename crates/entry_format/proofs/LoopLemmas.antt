@@ -1,11 +1,11 @@
--- Reading fields of one sort one after the other, as a loop does.
+-- Reading fields of one kind one after the other, as a loop does.
 use Rattle.std.proofs.Common.{◌≡◌, ℕ, suc, ◌-◌, ◌+◌, ◌≤◌, ◌<◌, List, [], ◌∷◌, ◌++◌, Result, Ok, Err, refl, sym, ap, ◌∙◌, append_assoc, append-nil, arith}
 use Rattle.ras_base.specs.Chaining.{◌>>=◌}
 use Rattle.entry_format.specs.declared.refused.EntryRefused.{EntryRefused}
 use Rattle.entry_format.specs.declared.refused.EntryRefused.TheVariants.{Bad, NoMemory}
 use Rattle.entry_format.specs.Reading.{Reader, FailsUnlessMemory, ReadsUnlessMemory, RefusesExactly, ReadsExactly, many_at}
 
--- what a function that takes no memory returned, in the words for those that may
+-- The error of a function that allocates nothing, as the error of a function that may allocate.
 pub is_failed : {Y : Type 0} (e : EntryRefused) (read : Result Y EntryRefused) → RefusesExactly e read → FailsUnlessMemory e read
 is_failed NoMemory read refused = tt
 is_failed Bad read refused = refused
@@ -17,7 +17,7 @@ is_given view (Err e) read told = is_failed e read told
 abbrev ok : {A : Type 0} → A → Result A EntryRefused
 ok x = Ok x
 
--- what was read before, and what is still read
+-- the values read before, and the values read then
 abbrev pub with_front : {A : Type 0} → List A → Result (List A × List ℕ) EntryRefused → Result (List A × List ℕ) EntryRefused
 with_front front read = read >>= λ x. Ok (front ++ x.0, x.1)
 

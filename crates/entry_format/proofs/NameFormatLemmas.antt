@@ -77,7 +77,7 @@ boot_takes bytes name rest fits e =
     let t = u64_read.takes bytes p.0.0 p.0.1 fits p.1 in
     subst (λ (x : Name × List ℕ). Taken 4 bytes x.0 x.1) (ok_is (named (Boot p.0.0) p.0.1) (name, rest) p.2) (refl, t.0, t.1)
 
--- what is read of a kind, where it is the kind that was found
+-- What is read of a kind, if it is the kind that was found.
 of_kind : (k kind : ℕ) (bytes : List ℕ) (name : Name) (rest : List ℕ) → k ≡ kind → Taken kind bytes name rest → Taken k bytes name rest
 of_kind k kind bytes name rest same t = (same ∙ t.0, t.1, t.2)
 

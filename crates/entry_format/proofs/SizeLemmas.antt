@@ -1,4 +1,4 @@
--- How many bytes an entry has at most.
+-- The most bytes of an entry.
 use Rattle.std.proofs.Common.{◌≡◌, ℕ, ◌+◌, ◌*◌, ◌≤◌, true, List, [], ◌∷◌, ◌++◌, length, Option, Some, None, arith, length-append}
 use Rattle.std.specs.List.{flat_map, AllByRecursion}
 use Rattle.std.proofs.lemmas.Bool.Decides.{nat_tests}
@@ -29,7 +29,7 @@ unfolding page_bytes
 page_most None = omega arith
 page_most (Some n) = omega (arith, length-u64_bytes n)
 
--- a label or none has at most 32 bytes
+-- A valid or empty label has at most 32 bytes.
 label_short : (label : Bytes) → is_label_or_none label ≡ true → length label ≤ 32
 label_short label is = grind (arith, nat_tests, is)
 
@@ -64,7 +64,7 @@ fact_entry_most fact valid =
       items_most fact.items (recursion_from_All IsValidItem fact.items valid.items),
     )
 
--- an entry is far shorter than a link may be
+-- An entry is far shorter than a link may be.
 pub entry_most : (e : Entry) → IsValidEntry e → length (entry_bytes e) ≤ 3000001
 unfolding entry_bytes limit_bytes
 entry_most (entry.Fact fact) valid = omega (arith, fact_entry_most fact valid, valid.count)

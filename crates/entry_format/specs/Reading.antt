@@ -1,5 +1,5 @@
--- How fields are read, each at the front of bytes, from left to right: a field is read if and only if the bytes begin
--- with its spelling.
+-- How fields are read from left to right, each at the start of the bytes. A field is read if and only if the bytes
+-- begin with its spelling.
 use Rattle.std.specs.Prelude.{◌≡◌, ℕ, zero, suc, List, [], ◌∷◌, length, take, drop, Option, Some, None, Result, Ok, Err, Bool, nat_lt, nat_le, ◌==◌, ◌&&◌, if◌then◌else◌}
 use Rattle.std.specs.List.{find}
 use Rattle.ras_base.specs.Chaining.{◌>>=◌}
@@ -21,26 +21,26 @@ use Rattle.entry_format.specs.declared.version.Version.TheVariants.{One, Two}
 use Rattle.entry_format.specs.declared.refused.EntryRefused.{EntryRefused}
 use Rattle.entry_format.specs.declared.refused.EntryRefused.TheVariants.{Bad, NoMemory}
 
--- what a field reads: its value and the bytes after it, or that the bytes don't begin with one
+-- A field's value and the bytes after it, or Bad if the bytes don't begin with the field.
 abbrev pub Reader : Type 0 → Type 0
 Reader A = List ℕ → Result (A × List ℕ) EntryRefused
 
--- what a function returned, seen by view, is what reading gives, unless memory ran out
+-- The error of a function is the error of reading, unless memory ran out.
 abbrev pub FailsUnlessMemory : {Y : Type 0} → EntryRefused → Result Y EntryRefused → Type 0
 FailsUnlessMemory NoMemory read = Unit {0}
 FailsUnlessMemory Bad read = read ≡ Err Bad
 
--- a function that succeeds returns what reading gives, seen by view; it may run out of memory instead
+-- A function returns what reading gives, seen by view, unless memory runs out.
 abbrev pub ReadsUnlessMemory : {X Y : Type 0} → (X → Y) → Result X EntryRefused → Result Y EntryRefused → Type 0
 ReadsUnlessMemory view (Ok x) read = read ≡ Ok (view x)
 ReadsUnlessMemory view (Err e) read = FailsUnlessMemory e read
 
--- the result of a function that allocates nothing: it refuses exactly what can't be read
+-- The error of a function that allocates nothing is the error of reading.
 abbrev pub RefusesExactly : {Y : Type 0} → EntryRefused → Result Y EntryRefused → Type 0
 RefusesExactly NoMemory read = ⊥
 RefusesExactly Bad read = read ≡ Err Bad
 
--- a function returns exactly what reading gives, seen by view
+-- A function that allocates nothing returns what reading gives, seen by view.
 abbrev pub ReadsExactly : {X Y : Type 0} → (X → Y) → Result X EntryRefused → Result Y EntryRefused → Type 0
 ReadsExactly view (Ok x) read = read ≡ Ok (view x)
 ReadsExactly view (Err e) read = RefusesExactly e read
@@ -58,7 +58,7 @@ abbrev pub some_or_bad : {A : Type 0} → Option A → Result A EntryRefused
 some_or_bad None = Err Bad
 some_or_bad (Some x) = Ok x
 
--- a field that is converted from what is read, if it can be
+-- a field that is converted from the value read, if it can be
 abbrev pub made_at : {A B : Type 0} → (A → Option B) → Reader A → Reader B
 made_at make read bytes = do
   x ← read bytes
@@ -69,7 +69,7 @@ made_at make read bytes = do
 abbrev pub if_passes : {A : Type 0} → (A → Bool) → A → Option A
 if_passes test x = if test x then Some x else None
 
--- n fields of one sort
+-- n fields of one kind
 unfoldable pub many_at : {A : Type 0} → Reader A → ℕ → Reader (List A)
 many_at read zero bytes = Ok ([], bytes)
 many_at read (suc n) bytes = do
@@ -77,7 +77,7 @@ many_at read (suc n) bytes = do
   others ← many_at read n first.1
   Ok (first.0 ∷ others.0, others.1)
 
--- a field that is all of the bytes
+-- a field that takes all of the bytes
 abbrev pub whole_at : {A : Type 0} → Reader A → List ℕ → Result A EntryRefused
 whole_at read bytes = do
   x ← read bytes
@@ -107,7 +107,7 @@ unfoldable pub byte_at : Reader ℕ
 byte_at [] = Err Bad
 byte_at (byte ∷ rest) = Ok (byte, rest)
 
--- what follows a kind of one byte, by the kind
+-- the field after a kind of one byte, by the kind
 abbrev pub by_kind : {A : Type 0} → (ℕ → Reader A) → Reader A
 by_kind read bytes = do
   kind ← byte_at bytes
@@ -150,7 +150,7 @@ class_of number = find (λ c. class_number c == number) classes
 unfoldable pub class_at : Reader ItemClass
 class_at = made_at class_of byte_at
 
--- a label or none, after the number of its bytes
+-- a label, maybe empty, after the number of its bytes
 unfoldable pub label_at : Reader Bytes
 label_at bytes = do
   n ← byte_at bytes
@@ -169,7 +169,7 @@ abbrev pub page_of_kind : ℕ → Reader (Option ℕ)
 page_of_kind kind bytes =
     if kind == 0 then no_page_at bytes else if kind == 1 then some_page_at bytes else Err Bad
 
--- a page after its flag
+-- a page, or no page, after the flag that says which
 unfoldable pub page_at : Reader (Option ℕ)
 page_at = by_kind page_of_kind
 

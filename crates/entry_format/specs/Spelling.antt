@@ -22,12 +22,12 @@ name_bytes (Record id) = 2 ∷ u64_bytes id
 name_bytes (Block boot source number) = 3 ∷ u64_bytes boot ++ u16_bytes source ++ u64_bytes number
 name_bytes (Boot boot) = 4 ∷ u64_bytes boot
 
--- a page: whether there is one (1), and its number (8) if there is one
+-- a page: whether there is a page (1), and its number (8) if so
 unfoldable pub page_bytes : Option ℕ → List ℕ
 page_bytes None = 0 ∷ []
 page_bytes (Some page) = 1 ∷ u64_bytes page
 
--- a label: the number of its bytes (1), and its bytes; no label has no bytes
+-- A label: the number of its bytes (1), and its bytes. An empty label has no bytes.
 unfoldable pub label_bytes : Bytes → List ℕ
 label_bytes label = length label ∷ label
 

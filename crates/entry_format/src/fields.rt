@@ -1,4 +1,4 @@
-//! The fields of every sort of value.
+//! Reads the fields of every kind of value.
 //!
 //! Each function reads one value at the front of the bytes, and returns it with the bytes after it.
 //! It returns `Bad` if the bytes don't begin with such a value, allocates nothing, and never
@@ -9,7 +9,7 @@ ghost use Rattle.entry_format.specs.Reading.{ReadsExactly, u16_at, u32_at, u64_a
 use crate::EntryRefused;
 use ras_base::little_endian;
 
-// A number of 2 bytes, the lowest first.
+// Returns a number of 2 bytes, the lowest first, and the bytes after it.
 #[tactic(auto, unfolding(crate::specs::Reading::u16_at))]
 pub(crate) fn u16_at(bytes: &[u8]) -> Result<(u16, &[u8]), EntryRefused>
     ensures { ReadsExactly (λ x. (x.0, x.1.now)) result (u16_at bytes.now) }
@@ -59,7 +59,7 @@ pub fn byte_at(bytes: &[u8]) -> Result<(u8, &[u8]), EntryRefused>
     }
 }
 
-// This many bytes.
+// Returns this many bytes, and the bytes after them.
 #[tactic(auto, unfolding(crate::specs::Reading::bytes_at))]
 pub(crate) fn bytes_at(count: usize, bytes: &[u8]) -> Result<(&[u8], &[u8]), EntryRefused>
     ensures { ReadsExactly (λ x. (x.0.now, x.1.now)) result (bytes_at count bytes.now) }

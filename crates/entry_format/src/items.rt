@@ -1,4 +1,4 @@
-//! Items from bytes.
+//! Reads items from bytes.
 ghost use Rattle.std.specs.Prelude.{◌≡◌};
 ghost use Rattle.dimm_topology.specs.Labels.{is_label_or_none};
 ghost use Rattle.entry_format.specs.Reading.{ReadsUnlessMemory, ReadsExactly, some_or_bad, if_passes, class_of, class_at, label_at, page_number_at, page_at, weight_at, item_at, many_at, items_at};
@@ -30,7 +30,7 @@ fn class_of(number: u8) -> Option<ItemClass>
     }
 }
 
-// A class, by its number.
+// Returns a class, read as its number, and the bytes after it.
 #[tactic(auto, unfolding(crate::specs::Reading::class_at))]
 fn class_at(bytes: &[u8]) -> Result<(ItemClass, &[u8]), EntryRefused>
     ensures { ReadsExactly (λ x. (x.0, x.1.now)) result (class_at bytes.now) }
@@ -42,7 +42,7 @@ fn class_at(bytes: &[u8]) -> Result<(ItemClass, &[u8]), EntryRefused>
     }
 }
 
-// The label of these bytes; no bytes are no label.
+// Returns the label of these bytes; no bytes are the empty label.
 fn label_of(alloc: Global, text: &[u8]) -> Result<Label, EntryRefused>
     ensures { ReadsUnlessMemory (λ label. label) result (some_or_bad (if_passes is_label_or_none text.now)) }
 {
@@ -56,10 +56,10 @@ fn label_of(alloc: Global, text: &[u8]) -> Result<Label, EntryRefused>
     }
 }
 
-/// Returns the label at the front, or no label, and the bytes after it. The number of its bytes
-/// comes before it.
+/// Returns the label at the front, which may be empty, and the bytes after it. The number of its
+/// bytes comes before it.
 ///
-/// `Bad`: if and only if the bytes don't begin with one. `NoMemory`: only if memory runs out.
+/// `Bad`: if and only if the bytes don't begin with a label. `NoMemory`: only if memory runs out.
 #[tactic(auto, unfolding(crate::specs::Reading::label_at))]
 pub fn label_at(alloc: Global, bytes: &[u8]) -> Result<(Label, &[u8]), EntryRefused>
     ensures { ReadsUnlessMemory (λ x. (x.0, x.1.now)) result (label_at bytes.now) }
@@ -72,7 +72,7 @@ pub fn label_at(alloc: Global, bytes: &[u8]) -> Result<(Label, &[u8]), EntryRefu
 
 /// Returns the number of a page at the front, and the bytes after it.
 ///
-/// `Bad`: if and only if the bytes don't begin with one. `NoMemory`: never.
+/// `Bad`: if and only if the bytes don't begin with a page number. `NoMemory`: never.
 #[tactic(auto, unfolding(crate::specs::Reading::page_number_at))]
 pub fn page_number_at(bytes: &[u8]) -> Result<(u64, &[u8]), EntryRefused>
     ensures { ReadsExactly (λ x. (x.0, x.1.now)) result (page_number_at bytes.now) }
@@ -85,7 +85,7 @@ pub fn page_number_at(bytes: &[u8]) -> Result<(u64, &[u8]), EntryRefused>
     }
 }
 
-// A page after its flag.
+// Returns a page, or no page, after the flag that says which.
 #[tactic(auto, unfolding(crate::specs::Reading::page_at, crate::specs::Reading::some_page_at))]
 fn page_at(bytes: &[u8]) -> Result<(Option<u64>, &[u8]), EntryRefused>
     ensures { ReadsExactly (λ x. (x.0, x.1.now)) result (page_at bytes.now) }
@@ -101,7 +101,7 @@ fn page_at(bytes: &[u8]) -> Result<(Option<u64>, &[u8]), EntryRefused>
     }
 }
 
-// A weight of 1 to 32,767.
+// Returns a weight of 1 to 32,767.
 #[tactic(auto, unfolding(crate::specs::Reading::weight_at))]
 fn weight_at(bytes: &[u8]) -> Result<(u16, &[u8]), EntryRefused>
     ensures { ReadsExactly (λ x. (x.0, x.1.now)) result (weight_at bytes.now) }
@@ -114,7 +114,7 @@ fn weight_at(bytes: &[u8]) -> Result<(u16, &[u8]), EntryRefused>
     }
 }
 
-// An item: class, label, page and weight.
+// Returns an item: class, label, page and weight.
 #[tactic(auto, unfolding(crate::specs::Reading::item_at))]
 fn item_at(alloc: Global, bytes: &[u8]) -> Result<(Item, &[u8]), EntryRefused>
     ensures { ReadsUnlessMemory (λ x. (x.0, x.1.now)) result (item_at bytes.now) }
@@ -135,7 +135,7 @@ fn item_at(alloc: Global, bytes: &[u8]) -> Result<(Item, &[u8]), EntryRefused>
     Ok((item, rest))
 }
 
-// This many items.
+// Returns this many items.
 fn many_items_at(alloc: Global, count: u16, bytes: &[u8]) -> Result<(Items, &[u8]), EntryRefused>
     ensures { ReadsUnlessMemory (λ x. (x.0, x.1.now)) result (many_at item_at count bytes.now) }
 {
@@ -152,7 +152,7 @@ fn many_items_at(alloc: Global, count: u16, bytes: &[u8]) -> Result<(Items, &[u8
     Ok((items, rest))
 }
 
-// Items after their number.
+// Returns items after their number.
 #[tactic(auto, unfolding(crate::specs::Reading::items_at))]
 pub(crate) fn items_at(alloc: Global, bytes: &[u8]) -> Result<(Items, &[u8]), EntryRefused>
     ensures { ReadsUnlessMemory (λ x. (x.0, x.1.now)) result (items_at bytes.now) }

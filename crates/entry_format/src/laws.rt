@@ -1,4 +1,4 @@
-//! What holds of the format itself.
+//! The laws of the format itself.
 ghost use Rattle.std.specs.Prelude.{◌≡◌, ◌≤◌, ◌+◌, ◌*◌, ◌++◌, ℕ, List, All, length};
 ghost use Rattle.ras_facts.specs.Entries.{IsValidEntry};
 ghost use Rattle.entry_format.specs.Spelling.{entry_bytes, entries_bytes};

@@ -1,7 +1,7 @@
 //! The entries of an account as the bytes of a file, and back.
 //!
 //! Each valid entry has one spelling, which `specs/Spelling.antt` defines. A spelling is read back
-//! whatever follows it, and bytes that aren't a spelling are refused.
+//! whatever follows it, and bytes that aren't a spelling are rejected.
 //!
 //! A public function with an empty body is a law: its clauses are the point.
 #![tactic(auto)]

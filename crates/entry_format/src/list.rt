@@ -1,4 +1,4 @@
-//! A list of entries from bytes.
+//! Reads a list of entries from bytes.
 ghost use Rattle.std.specs.Prelude.{◌≡◌, ◌≢◌, ℕ, List, length, IfOk, IsOkAnd};
 ghost use Rattle.entry_format.specs.File.{AreEntriesOf};
 ghost use Rattle.entry_format.specs.Reading.{ReadsUnlessMemory, many_at, whole_at, entry_at};
@@ -8,7 +8,7 @@ use crate::{EntryRefused, Version};
 use ras_facts::Entry;
 use std::alloc::Global;
 
-// This many entries at the front of the bytes, and the bytes after them.
+// Returns this many entries at the front of the bytes, and the bytes after them.
 fn many_entries_at(
     alloc: Global,
     version: Version,
@@ -28,7 +28,7 @@ fn many_entries_at(
     Ok((entries, rest))
 }
 
-// This many entries, which are all of the bytes.
+// Returns this many entries, which are all of the bytes.
 fn whole_list(
     alloc: Global,
     version: Version,
@@ -57,7 +57,7 @@ pub fn read_list(
     count: u32,
     bytes: &[u8],
 ) -> Result<Vec<Entry>, EntryRefused>
-    // The entries that are read are the entries that the bytes spell.
+    // The returned entries are the entries that the bytes spell.
     ensures found { IfOk result (λ read. AreEntriesOf version read.items bytes.now) }
     ensures count { IfOk result (λ read. length read.items ≡ count) }
 

@@ -1,4 +1,4 @@
-//! Names from bytes.
+//! Reads names from bytes.
 ghost use Rattle.std.specs.Prelude.{◌≡◌};
 ghost use Rattle.entry_format.specs.Reading.{ReadsExactly, bank_name_at, record_name_at, block_name_at, boot_name_at, name_at};
 
@@ -69,7 +69,7 @@ fn boot_name_at(bytes: &[u8]) -> Result<(Name, &[u8]), EntryRefused>
 
 /// Returns the name of a report at the front, and the bytes after it.
 ///
-/// `Bad`: if and only if the bytes don't begin with one. `NoMemory`: never.
+/// `Bad`: if and only if the bytes don't begin with a name. `NoMemory`: never.
 #[tactic(auto, unfolding(crate::specs::Reading::name_at))]
 pub fn name_at(bytes: &[u8]) -> Result<(Name, &[u8]), EntryRefused>
     ensures { ReadsExactly (λ x. (x.0, x.1.now)) result (name_at bytes.now) }

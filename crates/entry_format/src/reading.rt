@@ -1,4 +1,4 @@
-//! One entry from bytes.
+//! Reads one entry from bytes.
 ghost use Rattle.std.specs.Prelude.{◌≡◌};
 ghost use Rattle.entry_format.specs.Reading.{ReadsUnlessMemory, ReadsExactly, fact_at, limit_at, module_limit_entry_at, entry_at};
 
@@ -64,7 +64,7 @@ fn module_limit_entry_at(version: Version, bytes: &[u8]) -> Result<(Entry, &[u8]
     }
 }
 
-// An entry of this version, kind first.
+// Returns an entry of this version, which begins with its kind.
 #[tactic(auto, unfolding(crate::specs::Reading::entry_at, crate::specs::Reading::fact_entry_at, crate::specs::Reading::limit_entry_at, crate::specs::Reading::retire_entry_at))]
 pub(crate) fn entry_at(
     alloc: Global,

@@ -1,4 +1,4 @@
-//! Why bytes could not be read.
+//! Why bytes can't be read.
 ghost use Rattle.std.specs.Prelude.{◌≡◌};
 ghost use Rattle.entry_format.specs.declared.refused.EntryRefused.TheVariants.{Bad as NoEntry, NoMemory as NoMemoryForEntry};
 
@@ -7,10 +7,10 @@ use ras_base::NoMemory;
 use std::alloc::AllocFailed;
 use thiserror::Error;
 
-/// Why bytes were not read as entries.
+/// Why bytes can't be read as entries.
 #[derive(Clone, Copy, Debug, PartialEq, Eq, Drop, Error)]
 pub enum EntryRefused {
-    /// They aren't entries: they end before an entry does, or don't begin like one.
+    /// The bytes aren't entries: they end before an entry does, or don't begin like an entry.
     #[error("the bytes are no entry")]
     Bad,
     /// Memory ran out.

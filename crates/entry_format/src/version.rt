@@ -1,6 +1,6 @@
 //! The versions of the format.
 
-/// The version of the format that a file has.
+/// A version of the format.
 #[derive(Clone, Copy, Debug, PartialEq, Eq)]
 pub enum Version {
     /// The first version, without limits of modules.

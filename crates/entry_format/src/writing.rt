@@ -1,4 +1,4 @@
-//! Entries as bytes.
+//! Appends entries as bytes.
 ghost use Rattle.std.specs.Prelude.{◌≡◌, ◌++◌, ◌+◌, ◌≤◌, length, take, OnOk};
 ghost use Rattle.std.specs.List.{flat_map};
 ghost use Rattle.ras_facts.specs.Entries.{items_in};
@@ -120,7 +120,7 @@ pub fn push_label(bytes: &mut Vec<u8>, label: &Label) -> Result<(), NoMemory>
     Ok(())
 }
 
-// Adds a page.
+// Appends a page.
 #[tactic(auto, unfolding(crate::specs::Spelling::page_bytes))]
 fn push_page(bytes: &mut Vec<u8>, page: Option<u64>) -> Result<(), NoMemory>
     ensures { OnOk result (bytes.new.items ≡ bytes.old.items ++ page_bytes page) }
@@ -137,7 +137,7 @@ fn push_page(bytes: &mut Vec<u8>, page: Option<u64>) -> Result<(), NoMemory>
     }
 }
 
-// Adds an item.
+// Appends an item.
 #[tactic(auto, unfolding(crate::specs::Spelling::item_bytes))]
 fn push_item(bytes: &mut Vec<u8>, item: &Item) -> Result<(), NoMemory>
     ensures { OnOk result (bytes.new.items ≡ bytes.old.items ++ item_bytes item.now) }
@@ -148,7 +148,7 @@ fn push_item(bytes: &mut Vec<u8>, item: &Item) -> Result<(), NoMemory>
     push_u16(bytes, item.weight)
 }
 
-// Adds items in order.
+// Appends items in order.
 fn push_items(bytes: &mut Vec<u8>, items: &[Item]) -> Result<(), NoMemory>
     ensures { OnOk result (bytes.new.items ≡ bytes.old.items ++ flat_map item_bytes items.now) }
 {
@@ -158,7 +158,7 @@ fn push_items(bytes: &mut Vec<u8>, items: &[Item]) -> Result<(), NoMemory>
     Ok(())
 }
 
-// Adds a fact.
+// Appends a fact.
 #[tactic(auto, unfolding(crate::specs::Spelling::fact_bytes))]
 fn push_fact(bytes: &mut Vec<u8>, fact: &Fact) -> Result<(), NoMemory>
     requires { length fact.now.items ≤ MOST_ITEMS }

@@ -35,7 +35,7 @@ acted_as table lists s value a b is acted = subst (λ (l : List (List Instructio
 failed_as : (table lists : List (List InstructionEntry)) (plan : Plan) (a b : Seen) → table ≡ lists → FailsIn table plan a b → FailsIn lists plan a b
 failed_as table lists plan a b is fails = subst (λ (l : List (List InstructionEntry)). FailsIn l plan a b) is fails
 
--- the device after an action is one
+-- The device after an action is a device.
 input_fits : (action input : ℕ) → input < input_limit action → input < 2 ^ 64
 input_fits action input inside = by (nat_eq action set_record_offset) inside
   where
@@ -65,7 +65,7 @@ module _ (lists : List (List InstructionEntry)) (s : Step) (a b : Seen) (kept : 
   well stored faults = well_more (StoreInAction s.action s.input a.told) (StoreIn (λ d. s ∷ []) a.told) store_in a b
       (record { kept = kept; stops = stops; stored = stored; faults = faults })
 
-  -- a refusal: an admitted list comes to Register alone
+  -- A refusal: an admitted list fails only with Register.
   failed : (why : RunRefused) → IsRegisterAlone (Err why) → RunCause (Err why) a.faults b.faults
       → IfSome a.told (λ t. IsRun (Err why) (machine_end (list_of s.action lists) s.input (device_of t)) t b.told) → FailsIn lists (λ d. s ∷ []) a b
   unfolding device_calls
@@ -127,7 +127,7 @@ module _ (table lists : List (List InstructionEntry)) (view : table ≡ lists) (
   pub ran_device : (result : Result ℕ RunRefused) → (IsAdmitted s.action (list_of s.action table) → RunsAction s.action s.input result a b) → HasDevice lists a.told
   ran_device result acts = record { admitted = subst IsAdmittedTable view admitted; device = (acts (admitted s.action inside.action)).device }
 
--- the actions of which an operation is made, besides its steps
+-- The actions of an operation besides its steps.
 pub check_inside : Inside (without_input check_busy_status)
 check_inside = record { action = omega arith; input = omega arith }
 

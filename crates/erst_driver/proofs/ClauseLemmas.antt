@@ -1,4 +1,4 @@
--- The clauses of the public operations, from what their actions do.
+-- The clauses of the public operations, by what their actions do.
 use Rattle.std.proofs.Common.{◌≡◌, ℕ, ◌<◌, ◌≤◌, ◌^◌, List, length, inl, inr}
 use Rattle.std.specs.Prelude.{◌⊎◌, Result, IfSome}
 use Rattle.ras_base.specs.LittleEndian.{AreBytes, number_at}
@@ -70,7 +70,7 @@ module _ {X : Type 0} (see : X → Seen) (lists : List (List InstructionEntry)) 
         device = has.device;
       }
 
-  -- the bytes didn't come into the range, or they did
+  -- The bytes weren't written into the range, or they were.
   pub puts : (bytes : List ℕ) (long : header_length ≤ length bytes) (short : length bytes ≤ range_length) (whole : number_at length_place 4 bytes ≡ length bytes)
       → Passes (InStore Unchanged) (see a).clock (see b).clock ⊎ (IsAdmittedTable lists × AreBytes bytes) → (result : Answer) → Writes lists bytes result (see a) (see b) → IsAnswered result
       → IfSome (see a).told (λ t. IsDevice (device_of t)) → RunsOperation see (write_calls lists bytes) (answer_on_put (written_id bytes)) (Puts bytes) result a b

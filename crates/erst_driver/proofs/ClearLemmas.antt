@@ -1,4 +1,4 @@
--- What the actions of a clear come to.
+-- What the actions of a clear lead to.
 use Rattle.std.proofs.Common.{◌≡◌, ◌∙◌, ℕ, Bool, true, false, nat_eq, List, [], ◌∷◌, length, Option, Some, None, refl, sym, ap, subst, inl, inr, arith, if◌then◌else◌}
 use Rattle.std.proofs.lemmas.Bool.Decides.{nat_tests}
 use Rattle.std.specs.Prelude.{◌⊎◌, IfSome}
@@ -20,7 +20,7 @@ without-empty : (id : ℕ) (rs : List Stored) → nat_eq (length rs) 0 ≡ true 
 without-empty id [] is = refl
 without-empty id (r ∷ rs) is = absurd (grind (arith, nat_tests, is))
 
--- the device at EXECUTE, and what the command makes of it
+-- the device before EXECUTE_OPERATION, and what the command does to it
 abbrev begun : ℕ → Device → Device
 begun id d = record d { command = Some Clear; value = id; id = id; action = set_record_identifier }
 

@@ -1,4 +1,4 @@
--- That calls of the device were made: what was told before them is a device.
+-- If device calls were made, the device in the model before them is a device.
 use Rattle.std.proofs.Common.{◌≡◌, ℕ, ◌+◌, ◌<◌, List, Option, Some, None, refl, subst, inl, inr, arith}
 use Rattle.std.specs.Prelude.{◌⊎◌, IfSome}
 use Rattle.board_core.specs.Told.{Told, device_of}
@@ -28,7 +28,7 @@ pub called_all : (lists : List (List InstructionEntry)) → (count : ℕ) (old n
 called_all lists count old now (inl none) = inl none.1
 called_all lists count old now (inr before) = inr before
 
--- what is said of a device that is told
+-- A property of the device in the model.
 pub over_device_told : (P : Told → Type 0) (told : Option Told) → IfSome told (λ t. IsDevice (device_of t)) → Over P told → IfSome told P
 over_device_told P None device over = tt
 over_device_told P (Some t) device over = over device

@@ -41,7 +41,7 @@ torn_after (range_read place count) t = refl
 torn_after (range_write place bytes) t = refl
 torn_after (put id bytes) t = record { store = (after_device (put id bytes) t).here.store; step = inr refl; rest = refl }
 
--- a stop may leave what was told before them, and what is told after them
+-- A crash may leave the model before the calls, and the model after them.
 pub moment_before : (calls : List DeviceCall) (t : Told) → HasCall calls → Moment (acts_of calls) t t.here
 moment_before [] t none = absurd none
 moment_before (call ∷ calls) t has = inl (torn_before call t)
@@ -155,7 +155,7 @@ finishes_inside busy = inside_both (asks busy) (ends busy) (asked (is_free_in_ti
 -- ---- an operation, by what it does to the record store
 
 module _ {X : Type 0} (see : X → Seen) (a b : X) where
-  -- one that leaves the store
+  -- An operation that doesn't change the store.
   module _ (calls : List DeviceCall) (t : Told) (is : (see a).told ≡ Some t) (has : HasCall calls)
       (passes : StoreIsLeft (see a).told (see a).clock → Passes (InStore (Stays (see a).told)) (see a).clock (see b).clock) where
     stays_moments : (left : Left) → InStore (Stays (see a).told) t.here left → Moment (acts_of calls) t left
@@ -171,7 +171,7 @@ module _ {X : Type 0} (see : X → Seen) (a b : X) where
         → Does see (acts_of calls) went_well a b
     quietly_went stored told faults = went see calls (Stays (see a).told) t a b is passes stays_moments stored told faults
 
-  -- a listing, which may also lack memory
+  -- A listing, during which memory may also run out.
   pub does_listing : {T : Type 0} (calls : List DeviceCall) (t : Told) → (see a).told ≡ Some t → HasCall calls → (StoreIsLeft (see a).told (see a).clock → Passes (InStore (Stays (see a).told)) (see a).clock (see b).clock)
       → (result : Result T DriverRefused) → KeepsStored result (see a) (see b) → Leaves result t (see b).told calls → HasCauseIn result (see a).faults (see b).faults → IsMemoryOnly result
       → DoesListing see calls result a b
@@ -186,7 +186,7 @@ module _ {X : Type 0} (see : X → Seen) (a b : X) where
     does = quietly_went begun.done t is begun.some passes stored begun.told cause;
   }
 
-  -- one before which nothing was done that the store shows
+  -- An operation before which nothing was done that changed the store.
   pub does_nothing_else : {T : Type 0} (calls : List DeviceCall) (t : Told) → (see a).told ≡ Some t → HasCall calls → Passes (InStore (λ x y. y ≡ x)) (see a).clock (see b).clock
       → (result : Result T DriverRefused) → KeepsStored result (see a) (see b) → Leaves result t (see b).told calls → HasCauseIn result (see a).faults (see b).faults → IsAnswered result
       → Does see (acts_of calls) (ended_by driver_end result) a b
@@ -194,7 +194,7 @@ module _ {X : Type 0} (see : X → Seen) (a b : X) where
       (λ left by. subst (λ (l : Left). Moment (acts_of calls) t l) (sym (by.rest ∙ ap (λ (store : List Stored). record t.here { store = store }) by.step)) (moment_before calls t has))
       result stored told cause answered
 
-  -- one after which the store is this one
+  -- An operation after which the store is this one.
   module _ (calls : List DeviceCall) (t : Told) (is : (see a).told ≡ Some t) (has : HasCall calls) (store : List Stored) (after : (after_acts (acts_of calls) t).here.store ≡ store)
       (Step : Option Told → List Stored → List Stored → Type 0) (becomes : (new : List Stored) → Step (Some t) t.here.store new → Becomes store t.here.store new)
       (passes : StoreIsLeft (see a).told (see a).clock → Passes (InStore (Step (see a).told)) (see a).clock (see b).clock) where

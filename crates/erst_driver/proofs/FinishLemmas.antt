@@ -1,4 +1,4 @@
--- A device that carried out a command is asked for its status, and the operation is ended.
+-- The status of a device that carried out a command is read, and the operation is ended.
 use Rattle.std.proofs.Common.{◌≡◌, ◌∙◌, ℕ, ◌+◌, Bool, true, false, List, [], ◌∷◌, ◌++◌, refl, sym, ap, arith, if◌then◌else◌, append-nil, append_assoc}
 use Rattle.std.specs.Prelude.{Result, Ok, Err}
 use Rattle.erst_store.specs.declared.device.CommandStatus.{CommandStatus}
@@ -24,7 +24,7 @@ ask = without_input get_command_status
 abbrev end : Step
 end = without_input end_operation
 
--- two answers are the same
+-- Two results are the same.
 abbrev Is : Result (Unit {0}) DriverRefused → Result (Unit {0}) DriverRefused → Type 0
 Is one other = one ≡ other
 
@@ -54,7 +54,7 @@ no_status : (code : ℕ) (b : Bool) → Is (Err (EndedWith code)) (if b then Ok 
 no_status code true is = status_not_ok code is
 no_status code false is = status_not_busy code is
 
--- what is done of a device that is free in time, and of one that isn't
+-- The last steps over a device that is free in time, and over one that isn't.
 finishes_free : (busy : ℕ) → is_free_in_time busy ≡ true → (asks busy ++ ask ∷ []) ++ end ∷ [] ≡ finishes busy
 finishes_free busy is =
     append_assoc (asks busy) (ask ∷ []) (end ∷ [])
@@ -86,7 +86,7 @@ module _ (lists : List (List InstructionEntry)) (a b : Seen) where
 
 -- ---- a device that is free
 
--- checks leave the status
+-- Checks don't change the status.
 asked_status : (busy : ℕ) (d : Device) → (after_steps (asks busy) d).status ≡ d.status
 asked_status busy d = by (is_free_in_time busy)
   where

@@ -1,4 +1,4 @@
--- Identifiers that are listed.
+-- Listing identifiers.
 use Rattle.std.proofs.Common.{◌≡◌, ◌∙◌, ℕ, zero, suc, ◌+◌, ◌-◌, ◌<◌, ◌≤◌, min, List, [], ◌∷◌, ◌++◌, length, take, drop, Option, Some, None, refl, sym, ap, subst, inl, inr, arith, append-nil, length-append}
 use Rattle.std.proofs.lemmas.List.{length-drop}
 use Rattle.std.proofs.lemmas.Option.{slice_get_within, slice_get_cases}
@@ -35,7 +35,7 @@ list = without_input get_record_identifier
 
 -- ---- one listing
 
--- what a listing answers at an identifier, and at the end
+-- What a listing returns for an identifier, and at the end.
 pub record Listed (d e : Device) (value : ℕ) : Type 0 where
   pub store : e.store ≡ d.store
   pub within : (value ≡ all_ones → ⊥) → (slice_get (ids d.store) d.cursor ≡ Some value) × (e.cursor ≡ d.cursor + 1)
@@ -80,7 +80,7 @@ listings_both (suc one) two =
     let e : suc (one + two) ≡ suc one + two = omega arith in
     ap (λ (steps : List Step). list ∷ steps) (listings_both one two) ∙ ap listings e
 
--- one more listing makes a call
+-- One more listing makes a call.
 listing_calls : (lists : List (List InstructionEntry)) (count : ℕ) (d : Device) → IsAdmittedTable lists → HasCall (device_calls lists (listings (count + 1)) d)
 listing_calls lists count d admitted =
     let next : suc count ≡ count + 1 = omega arith in
@@ -119,7 +119,7 @@ quiet count (Some t) x y is = λ device. elim (is device) [ inl same ↦ inl sam
 
 -- ---- a listing on its way
 
--- the device after so many listings, none of which was the end
+-- The device after this many listings, none of which reached the end.
 pub record At (count : ℕ) (d : Device) : Type 0 where
   pub cursor : (after_steps (listings count) d).cursor ≡ d.cursor + count
   pub store : (after_steps (listings count) d).store ≡ d.store
@@ -226,7 +226,7 @@ module _ (lists : List (List InstructionEntry)) (count : ℕ) (a b c : Seen) (li
           subst (λ (n : ℕ). (after_steps (listings n) (device_of t)).store ≡ t.here.store) (at_end count value (device_of t) at one end) (end_store count value (device_of t) at one));
     }
 
--- a store has fewer records than that
+-- A store has fewer records than that.
 pub listing_gives_up : (lists : List (List InstructionEntry)) (count : ℕ) (a b : Seen) → Listing lists count a b → count ≡ most_records + 1 → EndsListing lists a b
 listing_gives_up lists count a b listing is = record {
   done = done_as lists (λ d. listings count) (λ d. listings (left_to_list d)) a b (over_more _ _ a.told never (λ t no_more. absurd no_more)) listing.done;
@@ -349,7 +349,7 @@ module _ (lists : List (List InstructionEntry)) (a b c : Seen) (ends : EndsListi
   goes_on : GoesWell (Quietly b.told) b c → GoesWell (Quietly a.told) a c
   goes_on well = well_both (StoreIn (λ d. listings (left_to_list d)) a.told) (Quietly a.told) quiet_first (Quietly b.told) quiet_both a b c ends.done.well well
 
-  -- the listing begins anew
+  -- The listing starts again.
   same_steps : Over (λ t. both_plans (λ d. listings (left_to_list d)) (λ d. listings (min (left_to_list d) most_records)) (device_of t) ≡ ids_steps (device_of t)) a.told
   same_steps = over_both _ _ _ a.told ends.cursor ends.store
       (λ t cursor store. ap (λ (n : ℕ). listings (left_to_list (device_of t)) ++ listings (min n most_records)) (anew (device_of t) cursor store))

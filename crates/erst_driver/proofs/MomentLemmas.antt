@@ -1,4 +1,4 @@
--- What a stop of the machine leaves during an operation, and what is told once it is done.
+-- What a crash of the machine leaves during an operation, and the model after it.
 use Rattle.std.proofs.Common.{◌≡◌, ◌∙◌, ℕ, ◌+◌, ◌<◌, ◌≤◌, ◌^◌, List, [], ◌∷◌, length, min, refl, sym, ap, subst, inl, inr, arith}
 use Rattle.std.specs.Prelude.{◌⊎◌, Result, Ok, Err}
 use Rattle.ras_base.specs.LittleEndian.{AreBytes, number_at}
@@ -35,7 +35,7 @@ use Rattle.erst_driver.proofs.ReadLemmas.{read_carries}
 use Rattle.erst_driver.proofs.ToldLemmas.{clear_after, clear_inside, listings_inside, operation_inside, read_inside, told_device, write_after, write_inside}
 use Rattle.erst_driver.proofs.WriteLemmas.{write_carries}
 
--- what is left is as told, but for the store, which is one that the device comes through
+-- A crash leaves what the model says, except the store, which is one that the device passes through.
 record LeavesSteps (steps : List Step) (t : Told) (left : Left) : Type 0 where
   rest : left ≡ record t.here { store = left.store }
   through : (left.store ≡ t.here.store) ⊎ ComesThrough steps (device_of t) left.store

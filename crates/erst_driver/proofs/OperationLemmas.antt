@@ -1,4 +1,4 @@
--- What public operations say, of a plan that was done.
+-- The clauses of the public operations, for a plan that was done.
 use Rattle.std.proofs.Common.{◌≡◌, ◌∙◌, ℕ, zero, suc, ◌+◌, Bool, true, false, List, [], ◌∷◌, ◌++◌, Option, Some, refl, ap, subst, inl, inr, if◌then◌else◌}
 use Rattle.std.specs.Prelude.{◌⊎◌, Ok, Err}
 use Rattle.erst_store.specs.Actions.{check_busy_status, get_command_status, end_operation}
@@ -19,7 +19,7 @@ use Rattle.erst_driver.specs.Steps.Operating.{KeepsStored, Leaves, Over, Plan, C
 use Rattle.erst_driver.proofs.PlanLemmas.{everywhere, over_more, after_both}
 use Rattle.erst_driver.proofs.WaitLemmas.{checked}
 
--- what a stop before left of the store is what was told
+-- A crash before left the model's store.
 module _ (T S : List Stored → List Stored → Type 0) (told : Option Told) (old new : Clock) (law : StoreIsLeft told old)
     (more : (x y : List Stored) → ((t : Told) → told ≡ Some t → x ≡ t.here.store) → T x y → S x y) where
   after_at : (left : Left) → After old (InStore T) left → After old (InStore S) left
@@ -98,7 +98,7 @@ module _ (lists : List (List InstructionEntry)) (plan : Plan) (answer : Device �
 
 -- ---- what the end of an operation keeps
 
--- what was come through in the first part, or in the second
+-- The device passed through a store in the first part, or in the second.
 through_either : (one two : List Step) (d : Device) (store : List Stored) → ComesThrough (one ++ two) d store → ComesThrough one d store ⊎ ComesThrough two (after_steps one d) store
 unfolding ComesThrough after_steps
 through_either [] two d store is = inr is
@@ -178,8 +178,8 @@ range_after steps d =
 
 -- ---- a whole operation, by what its command does
 
--- What the actions up to EXECUTE come to: the device is busy for `slow` answers, has this status
--- and this store, and came through no third store.
+-- What the actions up to EXECUTE_OPERATION lead to: the device is busy for `slow` answers, has this status and this
+-- store, and passed through no third store.
 pub record Carries (steps : List Step) (d : Device) (status : CommandStatus) (store : List Stored) : Type 0 where
   pub busy : (after_steps steps d).busy ≡ d.slow
   pub status_is : (after_steps steps d).status ≡ status

@@ -22,7 +22,7 @@ use Rattle.erst_driver.specs.declared.step.Step.{Step}
 use Rattle.erst_driver.specs.Operations.{after_step, after_steps, device_calls, end_by, told_by_step, told_by}
 use Rattle.erst_driver.specs.Steps.Operating.{Begins, HasCall, Over, Plan, ComesThrough, StoreIn, Tells, Done, CutIn, FailsIn, IsBeginning, Acted, Acts, Runs, Operates}
 
--- one plan, and then another over the device after it
+-- a plan, followed by another over the device after it
 abbrev pub both_plans : Plan → Plan → Plan
 both_plans p q = λ d. p d ++ q (after_steps (p d) d)
 
@@ -31,7 +31,7 @@ unfolding after_steps
 after_both [] two d = refl
 after_both (s ∷ one) two d = after_both one two (after_step s d)
 
--- what is told, and the calls, of one action and then others
+-- The model and the calls of one action and then others.
 pub told_step : (lists : List (List InstructionEntry)) (s : Step) (steps : List Step) (t : Told) → told_by lists (s ∷ steps) t ≡ told_by lists steps (told_by_step lists s t)
 unfolding device_calls
 told_step lists s steps t =
@@ -104,7 +104,7 @@ tells_both lists one q t mid new first over =
       is = subst IsDevice device_is second.is;
     }
 
--- the same where a call failed
+-- A joined plan in which a call failed.
 cut_both : (lists : List (List InstructionEntry)) (one : List Step) (q : Plan) (t : Told) (mid new : Option Told) → Tells lists one t mid → CutIn lists q mid new
     → IsCutShort (device_calls lists (one ++ q (after_steps one (device_of t))) (device_of t)) t new
 cut_both lists one q t mid new first over =
@@ -125,7 +125,7 @@ cut_more lists some all t new begins cut =
     (sym (calls_both lists some begins.0 t) ∙ ap (λ (steps : List Step). device_calls lists steps (device_of t)) begins.1)
     (off_more (device_calls lists some (device_of t)) later t new cut)
 
--- some actions of a list were done
+-- Some actions of a list were done.
 begun_some : (lists : List (List InstructionEntry)) (some all : List Step) (t : Told) (new : Option Told) → IsBeginning some all → HasCall (device_calls lists some (device_of t)) → new ≡ Some (told_by lists some t)
     → Begins (device_calls lists all (device_of t)) t new
 begun_some lists some all t new begins has is = record {
@@ -258,7 +258,7 @@ module _ (lists : List (List InstructionEntry)) (p q : Plan) (a b : Seen) where
       by None same tells = tt
       by (Some t) same tells = λ device. subst (λ (steps : List Step). Tells lists steps t b.told) (same device) (tells device)
 
--- no action at all
+-- No action at all.
 pub nothing_done : (lists : List (List InstructionEntry)) (a : Seen) → Done lists (λ d. []) a a
 unfolding device_calls after_steps
 nothing_done lists a = record { well = none_made (StoreIn (λ d. []) a.told) (λ x. same a.told x) a; tells = by a.told refl }
@@ -293,13 +293,13 @@ pub over_both_device : (P Q R : Told → Type 0) (o : Option Told) → Over P o 
 over_both_device P Q R None p q both = tt
 over_both_device P Q R (Some t) p q both = λ device. both t device (p device) (q device)
 
--- a plan was done that is a beginning of another
+-- A plan was done that is a beginning of another.
 pub begun_of : (lists : List (List InstructionEntry)) (p q : Plan) (a b : Seen) → Over (λ t. IsBeginning (p (device_of t)) (q (device_of t))) a.told
     → ((d : Device) → HasCall (device_calls lists (p d) d)) → Done lists p a b → Over (λ t. Begins (device_calls lists (q (device_of t)) (device_of t)) t b.told) a.told
 begun_of lists p q a b begins has done = over_both (λ t. IsBeginning (p (device_of t)) (q (device_of t))) (λ t. Tells lists (p (device_of t)) t b.told) _ a.told begins done.tells
     (λ t begins tells. begun_some lists (p (device_of t)) (q (device_of t)) t b.told begins (has (device_of t)) tells.told)
 
--- what holds of the device after a plan
+-- A property of the device after a plan.
 pub over_after : (lists : List (List InstructionEntry)) (p : Plan) (a b : Seen) → Done lists p a b → (Q : Device → Type 0) → Over (λ t. Q (device_of t)) b.told
     → Over (λ t. Q (after_steps (p (device_of t)) (device_of t))) a.told
 over_after lists p a b one Q over = by a.told one.tells
@@ -353,7 +353,7 @@ module _ (lists : List (List InstructionEntry)) (steps : List Step) (i : ℕ) (z
   one_refused e acts = refused_in_run lists (λ d. take i steps) (λ d. steps) (get_or steps i z) a b c one
       (everywhere _ a.told (λ t. part_begins i z steps inside)) e acts
 
--- the steps so far are all of them
+-- The steps so far are all steps.
 take_past : (steps : List Step) (i : ℕ) → length steps ≤ i → take i steps ≡ steps
 take_past [] zero past = refl
 take_past [] (suc i) past = refl

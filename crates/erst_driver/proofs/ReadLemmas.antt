@@ -1,4 +1,4 @@
--- What the actions of a read come to.
+-- What the actions of a read lead to.
 use Rattle.std.proofs.Common.{◌≡◌, ◌∙◌, ℕ, zero, suc, ◌+◌, ◌-◌, ◌≤◌, Bool, true, false, ◌||◌, nat_eq, nat_lt, List, [], ◌∷◌, ◌++◌, length, take, drop, Option, Some, None, refl, sym, ap, subst, inl, inr, arith, if◌then◌else◌, append-nil}
 use Rattle.std.proofs.lemmas.Bool.Decides.{nat_tests}
 use Rattle.std.specs.Prelude.{◌⊎◌, replicate, is_some, Ok, Err, OnOk, IfSome}
@@ -69,7 +69,7 @@ read_by empty found d = if empty then record d { status = StoreEmpty } else afte
 abbrev carried : Bool → Option (List ℕ) → ℕ → Device → Device
 carried empty found id d = record (busy_device (read_by empty found (begun id d))) { action = execute_operation }
 
--- what a buffer of the range's length holds after it
+-- a buffer of the range's length after the read
 abbrev filled : List ℕ → List ℕ
 filled bytes = bytes ++ replicate (range_length - length bytes) 0
 
@@ -144,7 +144,7 @@ read_stops id (Some t) old new device law is = elim (is device) [
       ]
 ]
 
--- an answer is Ok only where the record was found
+-- A result is Ok only if the record was found.
 abbrev Is : Answer → Answer → Type 0
 Is one other = one ≡ other
 

@@ -1,4 +1,4 @@
--- What is told after actions of an admitted table.
+-- The model after actions of an admitted table.
 use Rattle.std.proofs.Common.{◌≡◌, ◌∙◌, ◌<◌, ◌≤◌, ◌^◌, ℕ, zero, suc, length, List, [], ◌∷◌, ◌++◌, refl, sym, ap, subst, arith}
 use Rattle.board_core.specs.Told.{Told, after_put, after_range_write, after_reg_write, device_of, on_device, register_in, with_access}
 use Rattle.erst_store.specs.DeviceLaws.{IsDevice}

@@ -1,4 +1,4 @@
--- A device is asked until it isn't busy.
+-- The device is checked until it isn't busy.
 use Rattle.std.proofs.Common.{◌≡◌, ◌∙◌, ℕ, zero, suc, ◌+◌, ◌-◌, ◌<◌, ◌≤◌, Bool, true, false, nat_lt, List, [], ◌∷◌, ◌++◌, refl, sym, ap, arith, if◌then◌else◌}
 use Rattle.std.proofs.lemmas.Bool.Decides.{nat_tests}
 use Rattle.std.specs.Prelude.{Ok, Err}
@@ -18,7 +18,7 @@ use Rattle.erst_driver.proofs.PlanLemmas.{done_then, done_as, refused_in_operati
 abbrev check : Step
 check = without_input check_busy_status
 
--- a device after so many checks
+-- A device after this many checks.
 pub record Checked (count : ℕ) (d e : Device) : Type 0 where
   pub busy : e.busy ≡ d.busy - count
   pub status : e.status ≡ d.status
@@ -51,7 +51,7 @@ checked (suc count) d =
       range = rest.range ∙ one.range;
     }
 
--- the answer of a check
+-- The result of a check.
 busy_answer : (d : Device) → answer_after check_busy_status 0 d ≡ 0 → d.busy ≡ 0
 unfolding act
 busy_answer d = by (nat_lt 0 d.busy) refl
@@ -88,7 +88,7 @@ asks_busy most busy late = ap (λ (b : Bool). if b then checks (busy + 1) else c
     busy_is : (most busy : ℕ) → most ≤ busy → nat_lt busy most ≡ false
     busy_is most busy late = grind (arith, nat_tests, late)
 
--- a check more is among those that are asked
+-- One more check is one of the checks of the operation.
 begins_asks : (most busy count : ℕ) → count ≤ busy → count < most → IsBeginning (checks count ++ check ∷ []) (asks_within most busy)
 begins_asks most busy count within inside = by (nat_lt busy most)
   where
@@ -104,7 +104,7 @@ begins_asks most busy count within inside = by (nat_lt busy most)
 
 -- ---- the loop
 
--- So many checks were made, each of which answered that the device is busy.
+-- This many checks were made, and the device was busy at each.
 pub record Waiting (lists : List (List InstructionEntry)) (count : ℕ) (a b : Seen) : Type 0 where
   pub done : Done lists (λ d. checks count) a b
   pub busy : Over (λ t. count ≤ (device_of t).busy) a.told

@@ -27,7 +27,8 @@ abbrev pub by_status : CommandStatus → Answer
 by_status Success = Ok tt
 by_status status = Err (EndedWith (status_number status))
 
--- the result over a device that gives this many busy answers: one that is busy for too long is given up
+-- The result over a device that gives this many busy answers. The operation gives up if the device is busy for too
+-- long.
 abbrev pub answer_within : ℕ → Answer
 answer_within busy = if is_free_in_time busy then Ok tt else Err Busy
 
@@ -47,12 +48,13 @@ found_status id store =
     if nat_eq (length store) 0 then StoreEmpty
     else (if holds id store then Success else NotFound)
 
--- The result of such an operation: busy if the device gives as many busy answers as there are checks, or more.
+-- The result of a command about one record: Busy if the device gives as many busy answers as there are checks, or
+-- more.
 abbrev pub answer_on_found : ℕ → Device → Answer
 answer_on_found id d =
     if is_free_in_time d.slow then by_status (found_status id d.store) else Err Busy
 
--- a read's calls: a read that succeeds reads the range too
+-- The calls of a read. A read that succeeds reads the range too.
 abbrev pub read_calls : List (List InstructionEntry) → ℕ → Device → List DeviceCall
 read_calls lists id d = device_calls lists (actions_of (read_steps id) d) d ++ fetch_calls (answer_on_found id d)
 
@@ -60,7 +62,7 @@ read_calls lists id d = device_calls lists (actions_of (read_steps id) d) d ++ f
 abbrev pub written_id : List ℕ → ℕ
 written_id bytes = number_at id_place 8 bytes
 
--- whether a write is refused: the identifier is reserved, or the store has no room for it
+-- Whether a write is refused: the identifier is reserved, or the store has no room for it.
 abbrev pub is_put_refused : ℕ → List Stored → Bool
 is_put_refused id store = is_reserved id || is_full_for id store
 
@@ -80,30 +82,30 @@ answer_on_put id d =
 
 -- ---- what holds unless a call of the board failed
 
--- This is returned.
+-- This is returned, unless a call of the device failed.
 abbrev pub AnswersAs : Answer → Answer → Type 0
 AnswersAs (Err Register) answer = Unit {0}
 AnswersAs result answer = result ≡ answer
 
--- Register is returned if a call of the device failed, every other result once all is done.
+-- Register is returned if a call of the device failed, every other result after all calls.
 abbrev pub driver_end : DriverRefused → Ended
 driver_end Register = broke device_call
 driver_end why = went_well
 
--- Some of these calls were done, from the first on, and then memory ran out.
+-- A beginning of these calls was made, and then memory ran out.
 pub record DoesSome {X : Type 0} (see : X → Seen) (calls : List DeviceCall) (old new : X) : Type 0 where
   pub done : List DeviceCall
   pub later : List DeviceCall
   pub splits : done ++ later ≡ calls
   pub does : Does see (acts_of done) went_well old new
 
--- A listing does these calls, or the first of them until memory ran out.
+-- A listing makes these calls, or a beginning of them until memory ran out.
 abbrev pub DoesListing : {X T : Type 0} → (X → Seen) → List DeviceCall → Result T DriverRefused → X → X → Type 0
 DoesListing see calls (Err NoMemory) old new = DoesSome see calls old new
 DoesListing see calls result old new = Does see (acts_of calls) (ended_by driver_end result) old new
 
--- Register is returned if and only if the count of failed device calls rose. With any other result all counts are as
--- they were.
+-- Register is returned if and only if the count of failed device calls rose. With any other result all counts are
+-- unchanged.
 abbrev pub HasCauseIn : {T : Type 0} → Result T DriverRefused → Faults → Faults → Type 0
 HasCauseIn (Err Register) before now = Raises device_call before now
 HasCauseIn result before now = now ≡ before
@@ -114,7 +116,7 @@ IsAnswered (Err NoMemory) = ⊥
 IsAnswered (Err (EndedWith status)) = status ≢ 0
 IsAnswered result = Unit {0}
 
--- A call that allocates memory may run out of it, and has no other error but Register.
+-- A call that allocates memory may run out of it, and has no other error except Register.
 abbrev pub IsMemoryOnly : {T : Type 0} → Result T DriverRefused → Type 0
 IsMemoryOnly (Ok x) = Unit {0}
 IsMemoryOnly (Err Register) = Unit {0}
@@ -141,13 +143,14 @@ Puts bytes (Some t) old new = Becomes (store_after_write bytes old) old new
 
 -- ---- what a read leaves in a buffer of the range's length
 
--- the record under an identifier, and zeros after it
+-- a buffer with the record under an identifier, and zeros after it
 pub record HoldsRecord (id : ℕ) (store : List Stored) (buffer : List ℕ) : Type 0 where
   pub bytes : List ℕ
   pub found : bytes_under id store ≡ Some bytes
   pub is : buffer ≡ bytes ++ replicate (range_length - length bytes) 0
 
--- A call of the device failed if and only if the operation says so, and the operation never runs out of memory.
+-- A call of the device failed if and only if the operation returns Register, and the operation never runs out of
+-- memory.
 pub record EndsOperation {T : Type 0} (result : Result T DriverRefused) (before now : Faults) : Type 0 where
   pub cause : HasCauseIn result before now
   pub refused : IsAnswered result
@@ -156,7 +159,7 @@ pub record EndsOperation {T : Type 0} (result : Result T DriverRefused) (before 
 
 -- An operation that makes these calls over a device, returns this result, and may change the record store in this way.
 pub record RunsOperation {X : Type 0} (see : X → Seen) (calls : Device → List DeviceCall) (answer : Device → Answer) (Store : Option Told → List Stored → List Stored → Type 0) (result : Answer) (old new : X) : Type 0 where
-  -- The operation's calls are its acts, up to one that failed.
+  -- The operation's calls are its acts, up to the first failed call.
   pub does : IfSome (see old).told (λ t. Does see (acts_of (calls (device_of t))) (ended_by driver_end result) old new)
   -- The operation returns this result, unless a call failed.
   pub answers : IfSome (see old).told (λ t. AnswersAs result (answer (device_of t)))
@@ -169,7 +172,7 @@ pub record RunsOperation {X : Type 0} (see : X → Seen) (calls : Device → Lis
   -- The device in the model was a device.
   pub device : IfSome (see old).told (λ t. IsDevice (device_of t))
 
--- A listing, which may run out of memory after some of its calls, and leaves the record store.
+-- A listing, which may run out of memory after some of its calls, and doesn't change the record store.
 pub record ListsRecords {X T : Type 0} (see : X → Seen) (calls : Device → List DeviceCall) (result : Result T DriverRefused) (old new : X) : Type 0 where
   pub does : IfSome (see old).told (λ t. DoesListing see (calls (device_of t)) result old new)
   pub refused : IsMemoryOnly result

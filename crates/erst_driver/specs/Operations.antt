@@ -1,5 +1,5 @@
 -- The operations on the device, each as the actions that it runs one after another: ACPI 6.5, section 18.5.2,
--- "Operations". How often a busy device is asked is this project's own rule.
+-- "Operations". How often a busy device is checked is this project's own rule.
 use Rattle.std.specs.Prelude.{ℕ, ◌+◌, ◌<◌, ◌≤◌, min, length, Bool, nat_lt, List, [], ◌∷◌, ◌++◌, replicate, Result, Ok, Err, if◌then◌else◌}
 use Rattle.std.specs.List.{AllByRecursion}
 use Rattle.erst_store.specs.Actions.{begin_write_operation, begin_read_operation, begin_clear_operation, end_operation, set_record_offset, execute_operation, check_busy_status, get_command_status, get_record_identifier, set_record_identifier, get_record_count, range_length}
@@ -18,7 +18,7 @@ use Rattle.erst_driver.specs.declared.step.Step.{Step}
 
 -- ---- the actions of an operation
 
--- an action that an admitted table does, with an input that it takes
+-- An admitted table does this action, and the action takes this input.
 pub record Inside (s : Step) : Type 0 where
   pub action : s.action ≤ get_record_count
   pub input : s.input < input_limit s.action
@@ -46,15 +46,15 @@ abbrev pub write_steps : List Step
 write_steps =
     without_input begin_write_operation ∷ step set_record_offset 0 ∷ without_input execute_operation ∷ []
 
--- A device that gives this many busy answers is asked once more, until it answers 0. After 1,000 checks it isn't asked
--- again.
+-- A device that gives this many busy answers is checked once more, until it answers 0. After 1,000 checks it isn't
+-- checked again.
 abbrev pub checks : ℕ → List Step
 checks count = replicate count (without_input check_busy_status)
 
 abbrev pub most_checks : ℕ
 most_checks = 1000
 
--- whether a device that gives this many busy answers is free within the most checks
+-- Whether a device that gives this many busy answers is free within the most checks.
 abbrev pub is_free_in_time : ℕ → Bool
 is_free_in_time busy = nat_lt busy most_checks
 
@@ -62,7 +62,7 @@ is_free_in_time busy = nat_lt busy most_checks
 abbrev pub asks : ℕ → List Step
 asks busy = if is_free_in_time busy then checks (busy + 1) else checks most_checks
 
--- A device that isn't busy any more is asked for its status, and the operation is ended.
+-- Once the device isn't busy any more, its status is read, and the operation is ended.
 abbrev pub ends : ℕ → List Step
 ends busy =
     if is_free_in_time busy then without_input get_command_status ∷ without_input end_operation ∷ [] else []
@@ -71,8 +71,8 @@ ends busy =
 abbrev pub finishes : ℕ → List Step
 finishes busy = asks busy ++ ends busy
 
--- Identifiers are listed to the end of the list, and then again from the first one on, until the end is returned or
--- there are as many as a store can contain.
+-- Identifiers are listed to the end of the list, and then again from the first on, until the end is returned or there
+-- are as many as a store can contain.
 abbrev pub listings : ℕ → List Step
 listings count = replicate count (without_input get_record_identifier)
 

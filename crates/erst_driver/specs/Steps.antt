@@ -1,2 +1,2 @@
--- What only proofs use: no public clause refers to it.
+-- Definitions that only proofs use.
 pub mod Operating

@@ -21,7 +21,7 @@ use erst_store::actions::{
 use std::alloc::Global;
 use std::marker::Model;
 
-/// How often a busy device is asked in one operation.
+/// How often a busy device is checked in one operation.
 pub const MOST_CHECKS: u32 = 1000;
 
 // How many identifiers are listed until the end of a list is returned: one more than a store has
@@ -184,8 +184,8 @@ impl Driver {
         Ok(found)
     }
 
-    // Runs the actions of an operation up to its execution, asks the device until it isn't busy,
-    // and then for its status, and ends the operation.
+    // Runs the actions of an operation up to its execution, checks the device until it isn't busy,
+    // reads its status, and ends the operation.
     fn operate<B: Board>(&self, steps: &[Step], board: &mut B) -> Result<(), DriverRefused>
         requires { AreInside steps.now }
         ensures operates { Operates self.now (actions_of steps.now) (answer_of steps.now) result
@@ -207,7 +207,7 @@ impl Driver {
         }
     }
 
-    // Asks the device until it isn't busy.
+    // Checks the device until it isn't busy.
     fn wait<B: Board>(&self, board: &mut B) -> Result<(), DriverRefused>
         ensures waits { Operates self.now (λ d. asks d.busy) (λ d. answer_within d.busy) result
             (B.seen board.old)

@@ -74,7 +74,7 @@ pub fn operations_on_the_store()
         → InStore (Becomes (store_after_write bytes t.here.store)) t.here left }
 {}
 
-/// The limits have these digits.
+/// The numbers behind the names of the limits.
 pub fn driver_limits()
     ensures checks { MOST_CHECKS ≡ 1000 }
     ensures records { MOST_RECORDS ≡ 1024 }

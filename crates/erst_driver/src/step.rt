@@ -16,14 +16,14 @@ pub struct Step {
 }
 
 impl Step {
-    // An action with its input.
+    // Returns an action with its input.
     pub(crate) fn new(action: u64, input: u64) -> Step
         ensures { result ≡ step action input }
     {
         Step { action, input }
     }
 
-    // An action that takes no input.
+    // Returns an action that takes no input.
     pub(crate) fn without_input(action: u64) -> Step
         ensures { result ≡ without_input action }
     {
@@ -31,7 +31,7 @@ impl Step {
     }
 }
 
-// The actions of a clear, up to its execution.
+// Returns the actions of a clear, up to its execution.
 pub(crate) fn clear_steps(id: u64) -> [Step; 3]
     ensures { result ≡ clear_steps id }
 {
@@ -40,7 +40,7 @@ pub(crate) fn clear_steps(id: u64) -> [Step; 3]
     [begin, cleared, Step::without_input(EXECUTE_OPERATION)]
 }
 
-// The actions of a read, up to its execution.
+// Returns the actions of a read, up to its execution.
 pub(crate) fn read_steps(id: u64) -> [Step; 4]
     ensures { result ≡ read_steps id }
 {
@@ -50,7 +50,7 @@ pub(crate) fn read_steps(id: u64) -> [Step; 4]
     [begin, offset, read, Step::without_input(EXECUTE_OPERATION)]
 }
 
-// The actions of a write, up to its execution.
+// Returns the actions of a write, up to its execution.
 pub(crate) fn write_steps() -> [Step; 3]
     ensures { result ≡ write_steps }
 {

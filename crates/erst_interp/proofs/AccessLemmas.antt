@@ -1,4 +1,4 @@
--- What a turn of the run calls, and that it is the machine's.
+-- The calls of a turn of the run, which are the machine's calls.
 use Rattle.std.proofs.Common.{◌≡◌, ◌∙◌, ℕ, ◌+◌, ◌-◌, Bool, true, false, ◌&&◌, List, [], ◌∷◌, ◌++◌, take, drop, Option, Some, None, refl, sym, ap, subst, append_assoc, append-nil, true≢false, if◌then◌else◌}
 use Rattle.std.specs.Prelude.{IfSome, Result, Ok, Err}
 use Rattle.std.specs.Option.{option_map}
@@ -26,7 +26,7 @@ use Rattle.erst_interp.proofs.TurnLemmas.{by_kind, turn_uses}
 
 -- ---- the calls of an instruction
 
--- those of a write to a field
+-- the calls of a write to a field
 field_made : InstructionEntry → Reg → ℕ → Device → List DeviceCall
 field_made e reg x d = if e.preserves then reg_read reg ∷ reg_write reg (with_field e x (register_in reg d)) ∷ [] else reg_write reg (alone e x) ∷ []
 
@@ -56,7 +56,7 @@ moved_calls offset s = by (is_inside (s.variables.src + offset) s.variables.var2
     )
     by false = ([], sym (append-nil s.calls))
 
--- Each but a write reads its register first.
+-- Each use of a register except a write reads it first.
 abbrev pub IsReading : Use → Type 0
 IsReading Writes = ⊥
 IsReading how = Unit {0}
@@ -73,7 +73,7 @@ read_first Moves is i e v reg t = moved_calls (field_in e reg (state_in v t)) (a
 
 -- ---- a part of a turn, as its calls
 
--- done, or refused with no call failing
+-- The part is done, or refused without a failed call.
 turned : (part : MachineState → Outcome) (v : Variables) (result : Result Variables RunRefused) (calls : List DeviceCall) (a b : Seen) → Made calls a b
     → ((t : Told) → a.told ≡ Some t → calls ≡ (state_of (part (state_in v t))).calls) → ((t : Told) → a.told ≡ Some t → ComesTo (part (state_in v t)) result) → Turned part v result a b
 turned part v result calls a b made same comes = record { made = made_for calls (calls_in part v) a b same made; comes = by a.told refl }
@@ -82,7 +82,7 @@ turned part v result calls a b made same comes = record { made = made_for calls 
     by None is = tt
     by (Some t) is = comes t is
 
--- the part goes on with these variables, after these calls
+-- The part continues with these variables, after these calls.
 record Goes (o : Outcome) (w : Variables) (calls : List DeviceCall) : Type 0 where
   pub state : MachineState
   pub is : o ≡ goes state
@@ -121,13 +121,13 @@ computes_alone e v w a kind is = went (λ s. turn e s) v w [] a a (nothing_made 
 -- ---- one that uses its register
 
 module _ (e : InstructionEntry) (v : Variables) (how : Use) (reg : Reg) (kind : Work.TheVariants.Uses how ≡ work_of e.instruction) (there : e.register ≡ Some reg) where
-  -- its first read failed
+  -- The turn's first read failed.
   pub unread : IsReading how → (a b : Seen) → Cut (reg_read reg ∷ []) a b → Turns (λ s. turn e s) v (Err Register) a b
   unread reads a b cut = cut_for (reg_read reg ∷ []) (calls_in (λ s. turn e s) v) a b
       (λ t told. (let more = read_first how reads e.instruction e v reg t in
       (more.0, sym (ap (λ (o : Outcome). (state_of o).calls) (turn_uses e how reg kind there (state_in v t))) ∙ more.1))) cut
 
--- what is read over what is told
+-- The number that is read, by the model.
 read_is : (reg : Reg) (n : ℕ) (told : Option Told) (t : Told) → told ≡ Some t → IsRead reg n told → n ≡ register_in reg (device_of t)
 read_is reg n told t is value = subst (λ (o : Option Told). IsRead reg n o) is value
 
@@ -141,7 +141,7 @@ reads_field e v w reg n a b kind there value is made = went (λ s. turn e s) v w
       same = refl;
     })
 
--- bytes are moved by the offset that was read
+-- Bytes are moved by the offset that was read.
 module _ (e : InstructionEntry) (v : Variables) (reg : Reg) (n : ℕ) (a b c : Seen) (kind : Work.TheVariants.Uses Moves ≡ work_of e.instruction) (there : e.register ≡ Some reg) (value : IsRead reg n a.told)
     (read : Made (reg_read reg ∷ []) a b) where
   offset : ℕ
@@ -150,14 +150,14 @@ module _ (e : InstructionEntry) (v : Variables) (reg : Reg) (n : ℕ) (a b c : S
   move : MachineState → Outcome
   move s = moved (field_of e n) s
 
-  -- the turn is the move, after the read
+  -- The turn is the move, after the read.
   at_move : (t : Told) → a.told ≡ Some t → turn e (state_in v t) ≡ shifted_outcome (reg_read reg ∷ []) (moved (field_of e n) (state_in v t))
   at_move t told =
       sym (turn_uses e Moves reg kind there (state_in v t))
       ∙ ap (λ (k : ℕ). moved (field_of e k) (after_register_read reg (state_in v t))) (sym (read_is reg n a.told t told value))
       ∙ moved-shifted (reg_read reg ∷ []) (field_of e n) (state_in v t)
 
-  -- what is told once it is read has the same device
+  -- The model after the read has the same device.
   after_read : (t : Told) → a.told ≡ Some t → b.told ≡ Some (after_acts (acts_of (reg_read reg ∷ [])) t)
   after_read t told = read.told ∙ ap (λ (o : Option Told). option_map (λ u. after_acts (acts_of (reg_read reg ∷ [])) u) o) told
 
@@ -192,7 +192,7 @@ module _ (e : InstructionEntry) (v : Variables) (reg : Reg) (n : ℕ) (a b c : S
 -- ---- a write: first the number is made, then what stands in the whole register, each maybe by a
 -- read
 
--- the number that is to be written was made, by these calls
+-- The number to be written was computed, after these calls.
 pub record Numbered (e : InstructionEntry) (reg : Reg) (v : Variables) (number : ℕ) (a b : Seen) : Type 0 where
   pub before : List DeviceCall
   pub made : Made before a b
@@ -219,7 +219,7 @@ numbered_changed e reg v n number a b kind there value is made = record {
       (sym (is ∙ ap (λ (k : ℕ). changed e.instruction e (field_of e k)) (read_is reg n a.told t told value)));
 }
 
--- what is written into the register was made, by these calls
+-- The contents to be written to the register were computed, after these calls.
 pub record Filled (e : InstructionEntry) (reg : Reg) (v : Variables) (whole : ℕ) (a b : Seen) : Type 0 where
   pub before : List DeviceCall
   pub made : Made before a b
@@ -247,7 +247,7 @@ module _ (e : InstructionEntry) (reg : Reg) (v : Variables) (number : ℕ) (a b 
         ∙ ap (λ (x : ℕ). after_register_write reg x (at t)) (sym is));
   }
 
-  -- the device is still the one that was told at first
+  -- The device is still the device in the first model.
   same_read : (n : ℕ) (t : Told) → a.told ≡ Some t → IsRead reg n b.told → n ≡ register_in reg (device_of t)
   same_read n t told value =
       read_is reg n b.told (after_acts (acts_of numbered.before) t)
@@ -288,7 +288,7 @@ module _ (e : InstructionEntry) (reg : Reg) (v : Variables) (whole : ℕ) (a b c
 
 -- ---- moves
 
--- one of the two stretches isn't inside
+-- One of the two stretches isn't inside the range.
 pub outside : (offset : ℕ) (v : Variables) (a : Seen) → (is_inside (v.src + offset) v.var2 && is_inside (v.dst + offset) v.var2) ≡ false → Turns (λ s. moved offset s) v (Err BadRange) a a
 outside offset v a is = refused (λ s. moved offset s) v BadRange a
     (λ t. ap (λ b. if b then goes (with_variables (next v) (after_move (v.src + offset - range_address) (v.dst + offset - range_address) v.var2 (state_in v t))) else stops BadRange (state_in v t)) is)

@@ -50,7 +50,7 @@ unfolding is_admitted
 is-admitted lists is action small = is_list action (list_of action lists)
     (in_each (λ a. is_admitted_list a (list_of a lists)) 0 11 action is (omega arith) (omega (arith, small)))
 
--- what holds of none can't be said of it
+-- If no list can have a property, the test for it fails.
 pub not-admitted : (lists : List (List InstructionEntry)) → (IsAdmittedTable lists → ⊥) → is_admitted lists ≡ false
 not-admitted lists none = by (is_admitted lists) refl
   where

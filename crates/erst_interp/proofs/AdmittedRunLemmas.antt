@@ -78,7 +78,7 @@ module _ (list : List InstructionEntry) (action input : ℕ) (fits : action < 2 
 -- ---- the clauses of a run, from its calls
 
 module _ (list : List InstructionEntry) (input : ℕ) where
-  -- a stop leaves a store that the machine comes through
+  -- A crash leaves a store that the machine passes through.
   come_through : (told : Option Told) (x y : List Stored) → StoreIn (run_calls list input told) told x y → StoreInRun list input told x y
   come_through None x y is = tt
   come_through (Some t) x y is = elim is [
@@ -117,7 +117,7 @@ module _ (list : List InstructionEntry) (input : ℕ) where
     runs_list (Err BadRegister) is = record { runs = ran (Err BadRegister) is; kept = is.made.well.kept; stops = stops_in is.made.well.stops; stored = tt; cause = is.made.well.faults }
     runs_list (Err BadRange) is = record { runs = ran (Err BadRange) is; kept = is.made.well.kept; stops = stops_in is.made.well.stops; stored = tt; cause = is.made.well.faults }
 
--- and of one of an admitted list
+-- The run of an admitted list.
 pub runs_action : (list : List InstructionEntry) (action input : ℕ) (result : Result ℕ RunRefused) (a b : Seen) → action < 2 ^ 64 → IsAdmitted action list → RunsList list input result a b → IsRegisterAlone result
     → IfSome a.told (λ t. IsDevice (device_of t)) → RunsAction action input result a b
 runs_action list action input result a b fits is ran alone device = record {
@@ -127,7 +127,7 @@ runs_action list action input result a b fits is ran alone device = record {
   stores = λ inside. stores_run list action input fits inside is a.told a.clock b.clock ran.stops;
 }
 
--- of a list that was looked up
+-- The run of a list that was looked up.
 module _ (list here : List InstructionEntry) (found : list ≡ here) (input : ℕ) (result : Result ℕ RunRefused) (a b : Seen) (runs : Runs list input result a b) where
   pub runs_as : RunsList here input result a b
   runs_as = subst (λ (l : List InstructionEntry). RunsList l input result a b) found (runs_list list input a b result runs)

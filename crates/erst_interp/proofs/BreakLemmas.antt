@@ -21,13 +21,13 @@ after_both one two t = ap (λ (acts : List Act). after_acts acts t) (acts_both o
 pub off_as : (calls other : List DeviceCall) (old : Told) (new : Option Told) → calls ≡ other → IsCutShort calls old new → IsCutShort other old new
 off_as calls other old new is breaks = subst (λ (l : List DeviceCall). IsCutShort l old new) is breaks
 
--- others would have come after them
+-- Other calls would have followed them.
 pub off_more : (calls more : List DeviceCall) (old : Told) (new : Option Told) → IsCutShort calls old new → IsCutShort (calls ++ more) old new
 off_more calls more old None breaks = absurd breaks
 off_more calls more old (Some new) breaks =
     subst (λ (acts : List Act). FailsActs device_call acts old new) (sym (acts_both calls more)) (fails_first device_call (acts_of calls) (acts_of more) old new breaks)
 
--- others were made before them
+-- Other calls were made before them.
 pub off_after : (first calls : List DeviceCall) (old mid : Told) (new : Option Told) → mid ≡ after_acts (acts_of first) old → IsCutShort calls mid new → IsCutShort (first ++ calls) old new
 off_after first calls old mid None is breaks = absurd breaks
 off_after first calls old mid (Some new) is breaks =

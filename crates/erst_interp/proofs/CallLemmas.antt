@@ -70,7 +70,7 @@ stops_in (range_read place count) a b stops = passes_same (StoreIn (range_read p
 stops_in (range_write place bytes) a b stops = passes_same (StoreIn (range_write place bytes ∷ []) a.told) (stays_in (range_write place bytes ∷ []) a.told) a.clock b.clock stops
 stops_in (put id bytes) a b stops = passes_more (StoreBy (after_put id bytes) a.told) (StoreIn (put id bytes ∷ []) a.told) (torn_in (put id bytes) (after_put id bytes) a.told (λ t y torn. torn)) a.clock b.clock stops
 
--- A call that leaves the store: if a crash before leaves the store of the model, so does one after.
+-- A call that doesn't change the store: if a crash before it leaves the model's store, so does a crash after it.
 stored_still : (call : DeviceCall) → ((t : Told) → (after_device call t).here ≡ t.here) → (a b : Seen) → Passes Same a.clock b.clock → Steps (λ t. after_device call t) a.told b.told
     → StoreIsLeft a.told a.clock → StoreIsLeft b.told b.clock
 stored_still call here a b stops told before u is left now = by a.told refl told
@@ -132,11 +132,11 @@ quiet_fails call a b stops made = record {
   raises = broke_faults device_call a.faults b.faults made.cause;
 }
 
--- a read of so many bytes
+-- A read of this many bytes.
 pub read_of : {T E : Type 0} (result : Result T E) (place count n : ℕ) (a b : Seen) → count ≡ n → ActMade (device (range_read place count)) result a b → ActMade (device (range_read place n)) result a b
 read_of result place count n a b is made = subst (λ (k : ℕ). ActMade (device (range_read place k)) result a b) is made
 
--- a register was read
+-- A register was read.
 abbrev pub IsRead : Reg → ℕ → Option Told → Type 0
 IsRead reg n told = IfSome told (λ t. n ≡ register_in reg (device_of t))
 
@@ -168,7 +168,7 @@ module _ (xs ys : List DeviceCall) (a b c : Seen) (first : Made xs a b) where
     fails = well_fails (StoreIn xs a.told) (StoreIn (xs ++ ys) a.told) (first_in xs ys a.told) (StoreIn ys b.told) (then_in xs ys a.told b.told first.told) a b c first.well second.fails;
   }
 
--- others would have come after them
+-- Other calls would have followed them.
 pub more_cut : (xs ys : List DeviceCall) (a b : Seen) → Cut xs a b → Cut (xs ++ ys) a b
 more_cut xs ys a b cut = record { told = by a.told cut.told; fails = fails_more (StoreIn xs a.told) (StoreIn (xs ++ ys) a.told) (first_in xs ys a.told) a b cut.fails }
   where
@@ -189,7 +189,7 @@ module _ (xs : List DeviceCall) (calls : Option Told → List DeviceCall) (a b :
         well = well_more (StoreIn xs a.told) (StoreIn (calls None) a.told) (λ x y step. subst (λ (o : Option Told). StoreIn (calls None) o x y) (sym is) tt) a b made.well;
       }
 
-  -- of which the first are these
+  -- Calls of which these are the first.
   pub cut_for : ((t : Told) → a.told ≡ Some t → (more : List DeviceCall) × (calls (Some t) ≡ xs ++ more)) → Cut xs a b → Cut (calls a.told) a b
   cut_for begins cut = by a.told refl
     where

@@ -23,7 +23,7 @@ soon less = omega (arith, less)
 
 -- ---- before the action's write
 
--- entries that lead to a device which the action can't tell from this one
+-- Entries that lead to a device which has the same result for the action.
 pub record Led (list : List InstructionEntry) (used action : ℕ) (s : MachineState) (d : Device) : Type 0 where
   pub after : MachineState
   pub leads : Leads list used s after
@@ -31,7 +31,7 @@ pub record Led (list : List InstructionEntry) (used action : ℕ) (s : MachineSt
   pub device : act action after.device ≡ act action d
   pub store : after.device.store ≡ s.device.store
 
--- one more entry before such
+-- One more entry before such entries.
 led_more : (list : List InstructionEntry) (n action : ℕ) (s t : MachineState) → Leads list 1 s t → t.variables.value ≡ s.variables.value → act action t.device ≡ act action s.device → t.device.store ≡ s.device.store
     → Led list n action t t.device → Led list (suc n) action s s.device
 led_more list n action s t first value device store others =
@@ -75,7 +75,7 @@ begins_plainly (e ∷ entries) list front rest action s laid place are =
         led_more list (length entries) action s one.after (leads_one list s one.after e next_is one.goes_is one.index (soon one.calls)) one.value
         forgotten (ap (λ (d : Device). d.store) one.device) (others one.after one.index)
 
--- the bits of an input
+-- The bits of an input.
 input_small : (action input : ℕ) → input < input_limit action → (k : ℕ) × (input_bits action ≡ 2 ^ k - 1) × (input < 2 ^ k) × (input < 2 ^ 64)
 input_small action input inside = by (nat_eq action set_record_offset) inside
   where
@@ -83,7 +83,7 @@ input_small action input inside = by (nat_eq action set_record_offset) inside
     by true small = (32, refl, small, omega (arith, small))
     by false small = (64, refl, small, small)
 
--- the input's write among idle entries
+-- The input's write among idle entries.
 begins_with_input : (entries list rest : List InstructionEntry) (action : ℕ) (s : MachineState) → list ≡ entries ++ rest → s.variables.index ≡ 0 → s.variables.value < input_limit action
     → HoldsOne (is_input action) entries → Led list (length entries) action s (record s.device { value = s.variables.value })
 begins_with_input entries list rest action s laid place inside holds =
@@ -117,7 +117,7 @@ begins_with_input entries list rest action s laid place inside holds =
       store = store_c ∙ store_b ∙ store_a;
     }
 
--- either of the two
+-- Either of the two beginnings.
 begins_by : (b : Bool) (entries list rest : List InstructionEntry) (action : ℕ) (s : MachineState) → list ≡ entries ++ rest → s.variables.index ≡ 0 → s.variables.value < input_limit action
     → BeginsBy b action entries → Led list (length entries) action s (if b then record s.device { value = s.variables.value } else s.device)
 begins_by true entries list rest action s laid place inside begins = begins_with_input entries list rest action s laid place inside begins
@@ -125,7 +125,7 @@ begins_by false entries list rest action s laid place inside begins = begins_pla
 
 -- ---- the whole
 
--- a run that came to the list's end with its action done
+-- A run that reached the list's end with its action done.
 pub record Done (action : ℕ) (list : List InstructionEntry) (s : MachineState) : Type 0 where
   pub after : MachineState
   pub ends : end_from most_turns list s ≡ record { answer = Ok after.variables.value; state = after }
@@ -136,7 +136,7 @@ pub record Done (action : ℕ) (list : List InstructionEntry) (s : MachineState)
   pub answer : (k : ℕ) → gives_answer action ≡ true → answer_bits action ≡ 2 ^ k - 1 → (device_after action s.variables.value s.device).value < 2 ^ k
       → after.variables.value ≡ (device_after action s.variables.value s.device).value
 
--- what is known once the action's write was made
+-- What is known after the action's write.
 record Acted (action : ℕ) (list : List InstructionEntry) (used : ℕ) (s : MachineState) : Type 0 where
   after : MachineState
   index : after.variables.index ≡ used
@@ -170,7 +170,7 @@ none_next list s place = ap (λ (i : ℕ). slice_get list i) place ∙ at_end li
 length_of : (action : ℕ) (list : List InstructionEntry) (is : IsAdmitted action list) → length list ≡ length is.before + 1 + length is.after
 length_of action list is = omega (arith, ap length is.laid, length-append is.before (is.act ∷ is.after))
 
--- idle entries to the end
+-- Idle entries to the end.
 ends_idly : (action : ℕ) (list : List InstructionEntry) (s : MachineState) (is : IsAdmitted action list) → Acted action list (length is.before + 1) s → AreIdle is.after → gives_answer action ≡ false → Done action list s
 ends_idly action list s is t idle silent =
     let count = length_of action list is in
@@ -200,7 +200,7 @@ ends_idly action list s is t idle silent =
       answer = λ k gives. absurd (true≢false (sym gives ∙ silent));
     }
 
--- idle entries, and last the answer's read
+-- Idle entries, and last the read of the result.
 ends_with_answer : (action : ℕ) (list : List InstructionEntry) (s : MachineState) (is : IsAdmitted action list) → Acted action list (length is.before + 1) s → EndsWithAnswer action is.after → gives_answer action ≡ true → Done action list s
 ends_with_answer action list s is t end gives =
     let count = length_of action list is in
@@ -273,7 +273,7 @@ input_kept action input d inside kept = by (takes_input action)
     by true = with_value d input (input_small action input inside).3 kept
     by false = kept
 
--- an answer has no more bits than a read has to hold
+-- A result has no more bits than a read has to have.
 answer_small : (action : ℕ) (d : Device) → IsDevice d → gives_answer action ≡ true → (k : ℕ) × (answer_bits action ≡ 2 ^ k - 1) × ((act action d).value < 2 ^ k)
 answer_small action d kept gives = busy (nat_eq action check_busy_status) refl
   where

@@ -14,7 +14,7 @@ use Rattle.erst_interp.specs.Run.{PassesStore, AtNext, AfterTurn}
 use Rattle.erst_interp.specs.Admission.{is_idle, is_idle_by}
 use Rattle.erst_interp.proofs.RunLemmas.{goes_on}
 
--- So many turns lead from one state to another, with no store in between but the first one's.
+-- This many turns lead from one state to another, with only the first state's store in between.
 pub record Leads (list : List InstructionEntry) (used : ℕ) (s t : MachineState) : Type 0 where
   pub index : t.variables.index ≡ s.variables.index + used
   pub calls : length s.calls ≤ length t.calls
@@ -61,7 +61,7 @@ leads_one list s t e next goes_is index calls = record {
       (let more : total ≡ suc turns = omega arith in passes_next list turns s t e next goes_is store (subst (λ (n : ℕ). PassesStore n list s store) more passes));
 }
 
--- a run that is at the list's end came through no other store
+-- A run that is at the list's end passed through no other store.
 pub passes_end : (list : List InstructionEntry) (turns : ℕ) (s : MachineState) → slice_get list s.variables.index ≡ None → (store : List Stored) → PassesStore turns list s store → store ≡ s.device.store
 unfolding PassesStore
 passes_end list zero s none store passes = passes
@@ -102,7 +102,7 @@ one_call xs x = omega (arith, length-append xs (x ∷ []))
 pub at_least : (xs : List DeviceCall) (x : DeviceCall) → length xs ≤ length (xs ++ x ∷ [])
 at_least xs x = omega (arith, length-append xs (x ∷ []))
 
--- a turn after which the device and the value are as they were
+-- A turn that leaves the device and the value unchanged.
 pub record Idles (s : MachineState) (o : Outcome) : Type 0 where
   pub after : MachineState
   pub goes_is : o ≡ goes after

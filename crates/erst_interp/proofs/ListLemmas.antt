@@ -8,7 +8,7 @@ use Rattle.erst_interp.specs.Entries.{entry_of}
 use Rattle.erst_interp.specs.Table.{list_of, lists_of, entries_for, instructions_at}
 use Rattle.erst_interp.specs.Steps.Lists.{AreEmpty, with_entry}
 
--- Lists that hold the entries before, and will hold those that follow.
+-- The lists have the entries before, and will have those that follow.
 pub record Hold (all : List InstructionEntry) (lists : List (List InstructionEntry)) (left : List InstructionEntry) : Type 0 where
   pub count : length lists ≡ 256
   pub each : (action : ℕ) → list_of action lists ++ entries_for action left ≡ entries_for action all
@@ -19,7 +19,7 @@ none_held lists all empty = record {
   each = λ action. ap (λ (list : List InstructionEntry). list ++ entries_for action all) (empty.empty action);
 }
 
--- the list of an action of so many entries
+-- The list of an action among the lists of these entries.
 pub list_of-lists_of : (action : ℕ) (entries : List InstructionEntry) → action < 256 → list_of action (lists_of entries) ≡ entries_for action entries
 unfolding lists_of
 list_of-lists_of action entries small = get_or-map-range_with_len (λ a. entries_for a entries) 0 256 action action [] small (zero-add action)
@@ -33,7 +33,7 @@ all_held all lists held =
     ext_get_or [] lists (lists_of all) (held.count ∙ sym (all_actions all)) (λ action inside.
     sym (append-nil (list_of action lists)) ∙ held.each action ∙ sym (list_of-lists_of action all (omega (arith, inside, held.count))))
 
--- an entry of an action, before others of it
+-- An entry of an action, before others of it.
 added : (list : List InstructionEntry) (e : InstructionEntry) (left : List InstructionEntry) → (list ++ e ∷ []) ++ left ≡ list ++ e ∷ left
 added list e left = append_assoc list (e ∷ []) left
 
@@ -60,7 +60,7 @@ next_held all lists e left small held = record {
   each = λ action. one_more action e lists left (omega (arith, held.count)) ∙ held.each action;
 }
 
--- one list is as good as another where their elements are the same
+-- One list can replace another with the same elements.
 pub pushed : {X : Type 0} (items : X → List InstructionEntry) (lists : List X) (i : ℕ) (old new : X) (e : InstructionEntry) → i < length lists → old ≡ get_or lists i old
     → items new ≡ items old ++ e ∷ [] → map items (set lists i new) ≡ set (map items lists) i (get_or (map items lists) i [] ++ e ∷ [])
 pushed {X} items lists i old new e inside is pushed_is =
@@ -73,7 +73,7 @@ pushed {X} items lists i old new e inside is pushed_is =
     at (x ∷ xs) zero inside = refl
     at (x ∷ xs) (suc i) inside = at xs i (omega (arith, inside))
 
--- the next entry is read from what is left
+-- The next entry is read from what is left.
 pub more_left : (count done : ℕ) (rest : List ℕ) → done < count → instructions_at (count - done) rest ≡ entry_of rest ∷ instructions_at (count - (done + 1)) (drop 32 rest)
 unfolding instructions_at
 more_left count done rest more =

@@ -1,4 +1,4 @@
--- What a stop of the machine leaves during the calls of a run.
+-- What a crash of the machine leaves during the calls of a run.
 use Rattle.std.proofs.Common.{◌≡◌, ◌∙◌, ℕ, zero, suc, ◌+◌, ◌-◌, ◌^◌, ◌<◌, Bool, true, false, ◌&&◌, if◌then◌else◌, List, [], ◌++◌, Option, Some, None, refl, sym, ap, subst, inl, inr, append-nil}
 use Rattle.std.specs.Prelude.{◌⊎◌, Err, slice_get}
 use Rattle.erst_store.specs.Actions.{range_address}
@@ -31,7 +31,7 @@ use Rattle.erst_interp.proofs.TurnLemmas.{by_kind}
 
 -- ---- one turn
 
--- what is left is as told, but for the store, which is as before or as this one
+-- A crash leaves what the model says, except the store, which is unchanged or this one.
 pub record LeavesStore (store : List Stored) (t : Told) (left : Left) : Type 0 where
   pub rest : left ≡ record t.here { store = left.store }
   pub store_is : Becomes store t.here.store left.store
@@ -134,7 +134,7 @@ turn_moment e v t left m =
 
 -- ---- a run
 
--- what is left is as told, but for the store, which is one that the run comes through
+-- A crash leaves what the model says, except the store, which is one that the run passes through.
 pub record LeavesRun (turns : ℕ) (list : List InstructionEntry) (v : Variables) (now : Told) (left : Left) : Type 0 where
   pub rest : left ≡ record now.here { store = left.store }
   pub passes : PassesStore turns list (state_in v now) left.store
@@ -207,7 +207,7 @@ run_moment (suc turns) list v now old calls is left m = by (slice_get list v.ind
     by (Some e) next_is m later = turned e next_is (turn e (state_in v now)) refl
         (subst (λ (o : Outcome). Moment (acts_of (after_turn (λ t. end_from turns list t) o).state.calls) old left) (turn_at e v now calls) m) later
 
--- a stop during the run of an admitted list leaves the store as before the action or as after it
+-- A crash during the run of an admitted list leaves the store as before the action or as after it.
 pub action_moment : (action : ℕ) (list : List InstructionEntry) (input : ℕ) (t : Told) (left : Left) → action < 2 ^ 64 → input < input_limit action → IsAdmitted action list
     → Moment (acts_of (machine_end list input (device_of t)).state.calls) t left → LeavesStore (device_after action input (device_of t)).store t left
 action_moment action list input t left fits inside is m = elim (run_moment most_turns list (new_variables input) t t [] refl left m) [

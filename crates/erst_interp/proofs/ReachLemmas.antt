@@ -1,4 +1,4 @@
--- That a run of entries of which one uses a register makes a call of the board.
+-- A run of entries one of which uses a register makes a call of the board.
 use Rattle.std.proofs.Common.{◌≡◌, ◌∙◌, ℕ, zero, suc, ◌≤◌, Bool, true, false, ◌&&◌, ◌||◌, List, [], ◌∷◌, ◌++◌, length, take, Option, Some, None, refl, sym, ap, subst, inl, inr, arith, true≢false, nat_eq, bit_and}
 use Rattle.std.specs.Prelude.{slice_get, Err, IfSome, Result, ◌⊎◌, is_some}
 use Rattle.std.specs.List.{list_any}
@@ -20,7 +20,7 @@ use Rattle.erst_interp.proofs.RoleLemmas.{constant_is}
 abbrev pub Device : Option Told → Type 0
 Device told = IfSome told (λ t. IsDevice (device_of t))
 
--- nothing was called yet: all is told as at first, and no entry so far uses a register
+-- No call was made yet: the model is the first one, and no entry so far uses a register.
 pub record IsIdleTo (list : List InstructionEntry) (i : ℕ) (old now : Option Told) : Type 0 where
   pub same : now ≡ old
   pub unused : list_any uses_register (take i list) ≡ false
@@ -53,7 +53,7 @@ reaches_next list i e result old now new next (inr device) turned = inr device
 reaches_next list i e result old now new next (inl idle) (inr device) = inr (subst Device idle.same device)
 reaches_next list i e result old now new next (inl idle) (inl none) = inl (record { same = none.same ∙ idle.same; unused = unused_next list i e next idle.unused none.unused })
 
--- a turn in which a call failed
+-- A turn in which a call failed.
 pub device_failed : (e : InstructionEntry) (why : RunRefused) (now new : Option Told) → IsRegisterAlone (Err why) → IsUnused e (Err why) now new ⊎ Device now → Device now
 device_failed e why now new alone (inr device) = device
 device_failed e Register now new alone (inl none) = absurd (none.called refl)

@@ -48,7 +48,7 @@ alone_whole e x y offset masked small =
     ∙ ap (λ (n : ℕ). n % 2 ^ 64) (mul-one y)
     ∙ mod-eq_of_lt small
 
--- a number that a mask leaves as it is
+-- A number that a mask doesn't change.
 kept_by : (x mask k bits : ℕ) → holds_bits bits mask ≡ true → bits ≡ 2 ^ k - 1 → x < 2 ^ k → bit_and x mask ≡ x
 kept_by x mask k bits holds is small =
     let low : bit_and x bits ≡ x = ap (bit_and x) is ∙ and_mask x k ∙ mod-eq_of_lt small in

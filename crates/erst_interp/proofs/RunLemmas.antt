@@ -1,4 +1,4 @@
--- A run on its way: the calls that it made, and what is still to come.
+-- A run in progress: the calls that it made, and what is left of it.
 use Rattle.std.proofs.Common.{◌≡◌, ◌∙◌, ℕ, zero, suc, ◌+◌, ◌-◌, Bool, true, false, ◌&&◌, if◌then◌else◌, List, [], ◌∷◌, ◌++◌, Option, Some, None, refl, sym, ap, subst, inl, inr, append-nil}
 use Rattle.std.specs.Prelude.{slice_get, Result, Ok, Err, IfSome}
 use Rattle.std.specs.Option.{option_map}
@@ -27,7 +27,7 @@ use Rattle.erst_interp.proofs.CallLemmas.{both_cut, both_made, cut_for, made_for
 use Rattle.erst_interp.proofs.ShiftedLemmas.{end_made, shifted, shifted_outcome, told_on, turn-shifted}
 use Rattle.erst_interp.proofs.TurnLemmas.{by_kind}
 
--- a state of a run over a board that tells this now, after these calls
+-- the state of a run over a board with this model, after these calls
 abbrev pub state_at : Variables → Told → List DeviceCall → MachineState
 state_at v now calls = record { variables = v; device = device_of now; calls = calls }
 
@@ -69,7 +69,7 @@ unfolding PassesStore
 here list zero s store is = is
 here list (suc turns) s store is = inl is
 
--- whatever the turn comes to
+-- Whatever the turn leads to.
 pub in_turn : (list : List InstructionEntry) (turns : ℕ) (s : MachineState) (e : InstructionEntry) → slice_get list s.variables.index ≡ Some e
     → (store : List Stored) → store ≡ (state_of (turn e s)).device.store → PassesStore (suc turns) list s store
 unfolding PassesStore
@@ -83,7 +83,7 @@ in_turn list turns s e next store is =
 
 -- ---- a turn of the run
 
--- the device that is told after a turn is the machine's
+-- The device in the model after a turn is the machine's.
 field_device : (e : InstructionEntry) (reg : Reg) (x : ℕ) (s : MachineState) (t : Told) → device_of (after_acts (acts_of s.calls) t) ≡ s.device
     → device_of (told_after (after_field e reg x s) t) ≡ (after_field e reg x s).device
 field_device e reg x s t is = by e.preserves
@@ -133,11 +133,11 @@ by_device (Work.TheVariants.Uses how) i e v t = by e.register
 pub turn_device : (e : InstructionEntry) (v : Variables) (t : Told) → ToldBy (turn e (state_in v t)) t
 turn_device e v t = subst (λ (o : Outcome). ToldBy o t) (sym (by_kind e.instruction e (state_in v t))) (by_device (work_of e.instruction) e.instruction e v t)
 
--- a turn of the run is the turn alone, after the calls before it
+-- A turn of the run is the turn alone, after the calls before it.
 pub turn_at : (e : InstructionEntry) (v : Variables) (now : Told) (calls : List DeviceCall) → turn e (state_at v now calls) ≡ shifted_outcome calls (turn e (state_in v now))
 turn_at e v now calls = ap (λ (made : List DeviceCall). turn e (state_at v now made)) (sym (append-nil calls)) ∙ turn-shifted calls e (state_in v now)
 
--- the device that is told after a run is the machine's
+-- The device in the model after a run is the machine's.
 ends_device : (turns : ℕ) (list : List InstructionEntry) (v : Variables) (now old : Told) (calls : List DeviceCall) → now ≡ after_acts (acts_of calls) old
     → device_of (told_after (end_from turns list (state_at v now calls)).state old) ≡ (end_from turns list (state_at v now calls)).state.device
 unfolding end_from
@@ -177,7 +177,7 @@ end_device list input t = ends_device most_turns list (new_variables input) t t 
 
 -- ---- a run on its way
 
--- So many turns are left, with these variables.
+-- This many turns are left, with these variables.
 pub record Way (list : List InstructionEntry) (turns input : ℕ) (v : Variables) (a b : Seen) : Type 0 where
   pub calls : List DeviceCall
   pub made : Made calls a b
@@ -190,7 +190,7 @@ way_begins list input a = record { calls = []; made = nothing_made a; ends = by 
     by None = tt
     by (Some t) = refl
 
--- the calls of a run, and what it comes to
+-- the calls of a run, and its end
 abbrev pub run_calls : List InstructionEntry → ℕ → Option Told → List DeviceCall
 run_calls list input None = []
 run_calls list input (Some t) = (end_over list input t).state.calls
@@ -203,12 +203,12 @@ abbrev pub Runs : List InstructionEntry → ℕ → Result ℕ RunRefused → Se
 Runs list input (Err Register) a b = Cut (run_calls list input a.told) a b
 Runs list input result a b = Ran list input result a b
 
--- what is told after calls, if this was told before
+-- The model after calls, by the model before.
 made_told : (calls : List DeviceCall) (a b : Seen) → Made calls a b → (t : Told) → a.told ≡ Some t → b.told ≡ Some (after_acts (acts_of calls) t)
 made_told calls a b made t is = made.told ∙ ap (λ (o : Option Told). option_map (λ u. after_acts (acts_of calls) u) o) is
 
 module _ (list : List InstructionEntry) (input : ℕ) (a b : Seen) where
-  -- the run came to this end
+  -- The run reached this end.
   ended : (turns : ℕ) (v : Variables) (result : Result ℕ RunRefused) (way : Way list turns input v a b)
       → ((s : MachineState) → s.variables ≡ v → end_from turns list s ≡ record { answer = result; state = s }) → Ran list input result a b
   ended turns v result way is = record { made = made_for way.calls (run_calls list input) a b same way.made; answers = by a.told refl }
@@ -224,7 +224,7 @@ module _ (list : List InstructionEntry) (input : ℕ) (a b : Seen) where
       by None told = tt
       by (Some t) told = sym (ap (λ (end : End). end.answer) (at t told))
 
-  -- no entry is next, or no turn is left
+  -- No entry is next, or no turn is left.
   pub run_ended : (turns : ℕ) (v : Variables) → slice_get list v.index ≡ None → Way list turns input v a b → Runs list input (Ok v.value) a b
   run_ended turns v none way = ended turns v (Ok v.value) way
       (λ s same. ends_at list turns s (ap (λ (w : Variables). slice_get list w.index) same ∙ none) ∙ ap (λ (w : Variables). record { answer = Ok w.value; state = s }) same)
@@ -232,7 +232,7 @@ module _ (list : List InstructionEntry) (input : ℕ) (a b : Seen) where
   pub run_out : (e : InstructionEntry) (v : Variables) → slice_get list v.index ≡ Some e → Way list zero input v a b → Runs list input (Err Fuel) a b
   run_out e v next way = ended zero v (Err Fuel) way (λ s same. runs_out list s e (ap (λ (w : Variables). slice_get list w.index) same ∙ next))
 
-  -- a turn was made
+  -- A turn was made.
   module _ (turns : ℕ) (e : InstructionEntry) (v : Variables) (c : Seen) (next : slice_get list v.index ≡ Some e) (way : Way list (suc turns) input v a b) where
     now : Told → Told
     now t = after_acts (acts_of way.calls) t
@@ -249,7 +249,7 @@ module _ (list : List InstructionEntry) (input : ℕ) (a b : Seen) where
     left : (t : Told) → a.told ≡ Some t → end_from (suc turns) list (state_at v (after_acts (acts_of way.calls) t) way.calls) ≡ end_over list input t
     left t told = subst (λ (o : Option Told). IfSome o (λ u. end_from (suc turns) list (state_at v (after_acts (acts_of way.calls) u) way.calls) ≡ end_over list input u)) told way.ends
 
-    -- it is the machine's, after the calls before it
+    -- The turn is the machine's, after the calls before it.
     at : (t : Told) (o : Outcome) → turn e (state_in v (after_acts (acts_of way.calls) t)) ≡ o → turn e (state_at v (after_acts (acts_of way.calls) t) way.calls) ≡ shifted_outcome way.calls o
     at t o is = turn_at e v (after_acts (acts_of way.calls) t) way.calls ∙ ap (shifted_outcome way.calls) is
 
@@ -277,7 +277,7 @@ module _ (list : List InstructionEntry) (input : ℕ) (a b : Seen) where
             subst (λ (made : List DeviceCall). end_from turns list (state_at w (after_acts (acts_of (way.calls ++ made)) t) (way.calls ++ made)) ≡ end_over list input t) (sym (turn_is t told))
             (went_on t told w (turn e (state_in v u)) refl (subst (λ (o : Option Told). IfSome o (λ x. ComesTo (turn e (state_in v x)) (Ok w))) (told_now t told) turned.comes))
 
-    -- it was refused
+    -- The turn was refused.
     stopped : (t : Told) → a.told ≡ Some t → (why : RunRefused) (o : Outcome) → turn e (state_in v (after_acts (acts_of way.calls) t)) ≡ o → ComesTo o (Err why)
         → end_over list input t ≡ record { answer = Err why; state = shifted way.calls (state_of o) }
     stopped t told why (goes s) is comes = absurd comes
@@ -301,7 +301,7 @@ module _ (list : List InstructionEntry) (input : ℕ) (a b : Seen) where
         by None told = tt
         by (Some t) told = sym (ap (λ (end : End). end.answer) (end_is t told))
 
-    -- the calls of the turn are the next ones of the run
+    -- The calls of the turn are the next calls of the run.
     more_made : (t : Told) → a.told ≡ Some t → (o : Outcome) → turn e (state_in v (after_acts (acts_of way.calls) t)) ≡ o
         → (more : List DeviceCall) × ((end_over list input t).state.calls ≡ (way.calls ++ (state_of o).calls) ++ more)
     more_made t told (goes s) is =

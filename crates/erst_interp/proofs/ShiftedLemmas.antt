@@ -1,4 +1,4 @@
--- Calls that were made before a run stand before its own, and change nothing else.
+-- Calls that were made before a run precede the run's calls, and change nothing else.
 use Rattle.std.proofs.Common.{◌≡◌, ◌∙◌, ℕ, zero, suc, ◌+◌, ◌-◌, Bool, true, false, ◌&&◌, List, ◌∷◌, [], ◌++◌, take, drop, Option, Some, None, refl, sym, ap, subst, inl, inr, append_assoc, append-nil, if◌then◌else◌}
 use Rattle.std.specs.Prelude.{slice_get, Err}
 use Rattle.erst_store.specs.Store.{Stored}
@@ -33,7 +33,7 @@ abbrev pub shifted_end : List DeviceCall → End → End
 shifted_end before end = record end { state = shifted before end.state }
 
 module _ (before : List DeviceCall) where
-  -- one call more
+  -- One more call.
   after_read-shifted : (reg : Reg) (s : MachineState) → after_register_read reg (shifted before s) ≡ shifted before (after_register_read reg s)
   after_read-shifted reg s =
       ap (λ (made : List DeviceCall). record s { calls = made }) (append_assoc before s.calls (reg_read reg ∷ []))

@@ -1,4 +1,4 @@
--- No action changes how slow the device is, and no call of the board.
+-- No action and no call of the board changes how slow the device is.
 use Rattle.std.proofs.Common.{◌≡◌, ℕ, ◌-◌, ◌+◌, Bool, true, false, Option, Some, None, nat_lt, refl, sym, subst, if◌then◌else◌}
 use Rattle.std.proofs.Common.{inl, inr}
 use Rattle.std.specs.Prelude.{nat_eq, length, List, slice_get}
@@ -79,12 +79,12 @@ keeps (range_read place count) t = record { here = refl; disk_calls = refl; slow
 keeps (range_write place bytes) t = record { here = refl; disk_calls = refl; slow = refl }
 keeps (put id bytes) t = record { here = refl; disk_calls = refl; slow = put-slow (refusal_of id bytes (device_of t).store) id bytes (device_of t) }
 
--- it is listed or isn't
+-- The access is listed or isn't.
 may_list : (access : Access) (t u v : Told) → KeepsButDevice t u → MayListAccess access u v → KeepsButDevice t v
 may_list access t u v kept (inl same) = subst (λ (w : Told). KeepsButDevice t w) (sym same) kept
 may_list access t u v kept (inr more) = subst (λ (w : Told). KeepsButDevice t w) (sym more) (record { here = kept.here; disk_calls = kept.disk_calls; slow = kept.slow })
 
--- it has acted or hasn't
+-- The device has acted or hasn't.
 may_act : (step : Device → Device) (t u : Told) → IsAsSlow (device_of t) (step (device_of t)) → MayAct step t u → KeepsButDevice t u
 may_act step t u slow (inl same) = subst (λ (w : Told). KeepsButDevice t w) (sym same) (record { here = refl; disk_calls = refl; slow = refl })
 may_act step t u slow (inr did) = subst (λ (w : Told). KeepsButDevice t w) (sym did) (record { here = refl; disk_calls = refl; slow = slow })

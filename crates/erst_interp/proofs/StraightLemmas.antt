@@ -1,5 +1,5 @@
--- A list whose entries come one after the other, as those of an admitted list do, is refused with
--- Register alone, whatever the board answers.
+-- A list whose entries run one after the other, as in an admitted list, fails only with Register, whatever the board
+-- returns.
 use Rattle.std.proofs.Common.{◌≡◌, ◌∙◌, ℕ, zero, suc, ◌+◌, Bool, true, false, ◌&&◌, ◌||◌, List, [], ◌∷◌, ◌++◌, Option, Some, None, refl, sym, ap, subst, true≢false, not, nat_eq, bit_and}
 use Rattle.std.specs.Prelude.{slice_get, Err}
 use Rattle.std.specs.List.{list_all}
@@ -41,7 +41,7 @@ computed_on Add e v is = refl
 computed_on Subtract e v is = refl
 computed_on _ e v is = refl
 
--- what an entry is, by the kind of its instruction
+-- What an entry does, by the kind of its instruction.
 pub by_work : (e : InstructionEntry) (work : Work) → work ≡ work_of e.instruction → is_straight e ≡ true → is_straight_by work e.instruction e.register ≡ true
 by_work e work kind is = subst (λ (w : Work). is_straight_by w e.instruction e.register ≡ true) (sym kind) is
 

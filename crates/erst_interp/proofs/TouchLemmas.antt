@@ -97,7 +97,7 @@ module _ (S1 S : List Stored → List Stored → Type 0) (more : (x y : List Sto
       raises = subst (λ (faults : Faults). Raises device_call faults c.faults) first.faults second.raises;
     }
 
--- no call at all
+-- No call at all.
 pub none_made : (S : List Stored → List Stored → Type 0) → ((x : List Stored) → S x x) → (a : Seen) → GoesWell S a a
 none_made S same a = record {
   kept = kept_none a.told;

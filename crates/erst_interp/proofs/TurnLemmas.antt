@@ -32,7 +32,7 @@ by_kind SetDstAddressBase e s = refl
 by_kind MoveData e s = refl
 by_kind Unknown e s = refl
 
--- an entry that uses its register
+-- An entry that uses its register.
 pub turn_uses : (e : InstructionEntry) (how : Use) (reg : Reg) → Work.TheVariants.Uses how ≡ work_of e.instruction → e.register ≡ Some reg
     → (s : MachineState) → used_by how e.instruction e s.variables reg s ≡ turn e s
 turn_uses e how reg kind there s =

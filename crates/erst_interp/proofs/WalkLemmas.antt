@@ -1,4 +1,4 @@
--- A list is walked to its end exactly where it is laid out as an admitted one.
+-- The walk reaches a list's end if and only if the list is laid out as an admitted list.
 use Rattle.std.proofs.Common.{◌≡◌, ◌∙◌, ℕ, ◌≤◌, Bool, true, false, ◌&&◌, ◌||◌, not, nat_eq, List, [], ◌∷◌, ◌++◌, length, Option, Some, None, refl, sym, ap, subst, inl, inr, append_assoc, append-nil, true≢false, if◌then◌else◌, bit_and}
 use Rattle.std.specs.Prelude.{◌⊎◌}
 use Rattle.std.specs.List.{list_all}
@@ -19,7 +19,7 @@ use Rattle.erst_interp.proofs.RoleLemmas.{constant_is, write_is, action_is, valu
 
 -- ---- one entry has one role
 
--- an instruction that no idle entry has
+-- An instruction that no idle entry has.
 no_idle : (e : InstructionEntry) (i : Instruction) → e.instruction ≡ i → ((r : Option Reg) → is_idle_by i r ≡ false) → is_idle e ≡ false
 no_idle e i is never = ap (λ (j : Instruction). is_idle_by j e.register) is ∙ never e.register
 
@@ -68,7 +68,7 @@ free-no_act action e free = by (is_act action e) refl
     by false is = refl
     by true is = (let two : Some Action ≡ Some Value = sym (act_register action e is) ∙ (free_parts action e free).1 in absurd cc)
 
--- an action that takes an input isn't EXECUTE
+-- An action that takes an input isn't EXECUTE_OPERATION.
 free-takes_none : (action : ℕ) (e : InstructionEntry) → takes_input action ≡ true → is_free action e ≡ false
 free-takes_none action e takes = by (is_free action e) refl
   where
@@ -106,7 +106,7 @@ end_none action (e ∷ entries) walked =
       | inr step ↦ absurd (true≢false (sym step.1))
     ]
 
--- a test that lets the walk go on was true
+-- A test after which the walk continues was true.
 if_goes : (action : ℕ) (awaited : Awaited) (entries : List InstructionEntry) (b : Bool) (other : Option Awaited) → goes_by (λ next. walks action next entries) (if b then Some awaited else other) ≡ true
     → (b ≡ true) × (walks action awaited entries ≡ true) ⊎ (b ≡ false) × (goes_by (λ next. walks action next entries) other ≡ true)
 if_goes action awaited entries true other is = inl (refl, is)
@@ -141,7 +141,7 @@ ends_shape action entries walked = by (gives_answer action) walked
     by true is = answer_shape action entries is
     by false is = rest_idle action entries is
 
--- the action's write, what stands before it, and what after it
+-- The action's write, and the entries before and after it.
 pub record ActShape (action : ℕ) (entries : List InstructionEntry) : Type 0 where
   pub before : List InstructionEntry
   pub act : InstructionEntry
@@ -186,7 +186,7 @@ act_shape action (e ∷ entries) walked =
           ]
         ]
 
--- the input's write before all that
+-- The input's write before these entries.
 pub record InputShape (action : ℕ) (entries : List InstructionEntry) : Type 0 where
   pub before : List InstructionEntry
   pub one : InstructionEntry
@@ -220,7 +220,7 @@ input_shape action (e ∷ entries) walked =
           | inr no_more ↦ absurd (true≢false (sym no_more.1))
         ]
 
--- where there are no free entries the others are idle
+-- Where there are no free entries, the others are idle.
 none_free : (action : ℕ) (entries : List InstructionEntry) → takes_input action ≡ true → list_all (λ e. is_idle e || is_free action e) entries ≡ true → list_all is_idle entries ≡ true
 none_free action [] takes all = refl
 none_free action (e ∷ entries) takes all =
@@ -273,14 +273,14 @@ walk-admits action list short walked = by (takes_input action) refl walked
 
 -- ---- and back
 
--- an idle entry is passed where something is awaited, and any other goes by its role
+-- An idle entry is skipped where something is awaited; any other entry is judged by its role.
 step_idle : (action : ℕ) (awaited : Awaited) (e : InstructionEntry) (entries : List InstructionEntry) → is_idle e ≡ true → walks action awaited (e ∷ entries) ≡ goes_by (λ next. walks action next entries) (after_idle awaited)
 step_idle action awaited e entries is = ap (λ b. goes_by (λ next. walks action next entries) (if b then after_idle awaited else after_role action awaited e)) is
 
 step_role : (action : ℕ) (awaited : Awaited) (e : InstructionEntry) (entries : List InstructionEntry) → is_idle e ≡ false → walks action awaited (e ∷ entries) ≡ goes_by (λ next. walks action next entries) (after_role action awaited e)
 step_role action awaited e entries is = ap (λ b. goes_by (λ next. walks action next entries) (if b then after_idle awaited else after_role action awaited e)) is
 
--- entries after which the same is awaited
+-- Entries after which the same is awaited.
 idle_walk : (action : ℕ) (awaited : Awaited) → after_idle awaited ≡ Some awaited → (idle rest : List InstructionEntry) → list_all is_idle idle ≡ true → walks action awaited (idle ++ rest) ≡ walks action awaited rest
 idle_walk action awaited stays [] rest all = refl
 idle_walk action awaited stays (e ∷ idle) rest all =

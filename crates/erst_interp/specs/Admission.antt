@@ -32,8 +32,8 @@ gives_answer action =
 abbrev pub input_bits : ℕ → ℕ
 input_bits action = if nat_eq action set_record_offset then 2 ^ 32 - 1 else 2 ^ 64 - 1
 
--- the bits that the mask of an answer's read has to have: bit 0 of whether the device is busy, the low 8 of a status,
--- all of an identifier, the low 32 of a count
+-- The bits that the mask of a result's read has to have: bit 0 of whether the device is busy, the low 8 of a status,
+-- all of an identifier, the low 32 of a count.
 abbrev pub answer_bits : ℕ → ℕ
 answer_bits action =
     if nat_eq action check_busy_status then 1
@@ -42,7 +42,7 @@ answer_bits action =
 
 -- ---- entries
 
--- whether an entry uses this register
+-- Whether an entry uses this register.
 abbrev pub is_action : Option Reg → Bool
 is_action (Some Action) = true
 is_action register = false
@@ -51,11 +51,11 @@ abbrev pub is_value : Option Reg → Bool
 is_value (Some Value) = true
 is_value register = false
 
--- whether a mask has these bits
+-- Whether a mask has these bits.
 abbrev pub holds_bits : ℕ → ℕ → Bool
 holds_bits bits mask = nat_eq (bit_and mask bits) bits
 
--- an entry that changes neither the device nor the value
+-- Whether an entry changes neither the device nor the value.
 abbrev pub is_idle_by : Instruction → Option Reg → Bool
 is_idle_by Noop register = true
 is_idle_by Stall register = true
@@ -68,11 +68,11 @@ is_idle_by _ register = false
 abbrev pub is_idle : InstructionEntry → Bool
 is_idle e = is_idle_by e.instruction e.register
 
--- an entry that uses a whole register, of which it keeps nothing
+-- Whether an entry uses a whole register, and preserves none of its bits.
 abbrev pub is_whole : InstructionEntry → Bool
 is_whole e = nat_eq e.offset 0 && not e.preserves
 
--- an entry that writes the number of an action to Action
+-- Whether an entry writes the number of an action to Action.
 abbrev pub is_constant : Instruction → Bool
 is_constant WriteRegisterValue = true
 is_constant _ = false
@@ -82,7 +82,7 @@ is_act action e =
     is_constant e.instruction && is_action e.register && is_whole e
     && nat_eq (bit_and e.value e.mask) action
 
--- an entry that writes the input to Value
+-- Whether an entry writes the input to Value.
 abbrev pub is_write : Instruction → Bool
 is_write WriteRegister = true
 is_write _ = false
@@ -91,12 +91,12 @@ abbrev pub is_input : ℕ → InstructionEntry → Bool
 is_input action e =
     is_write e.instruction && is_value e.register && is_whole e && holds_bits (input_bits action) e.mask
 
--- an entry that writes a number of its own to Value: EXECUTE ignores what Value has
+-- Whether an entry writes its own number to Value, which EXECUTE_OPERATION ignores.
 abbrev pub is_free : ℕ → InstructionEntry → Bool
 is_free action e =
     nat_eq action execute_operation && is_constant e.instruction && is_value e.register && not e.preserves
 
--- an entry that reads the answer from Value; if the answer is 0 or 1 it may be compared with 1
+-- Whether an entry reads the result from Value. A result of 0 or 1 may be compared with 1.
 abbrev pub is_read : ℕ → ℕ → Instruction → Bool
 is_read action value ReadRegister = true
 is_read action value ReadRegisterValue = nat_eq action check_busy_status && nat_eq value 1
@@ -112,7 +112,7 @@ is_answer action e =
 abbrev pub AreIdle : List InstructionEntry → Type 0
 AreIdle entries = IsTrue (list_all is_idle entries)
 
--- idle entries, one other, and again idle entries
+-- idle entries, one other entry, and again idle entries
 pub record HoldsOne (Is : InstructionEntry → Bool) (entries : List InstructionEntry) : Type 0 where
   pub before : List InstructionEntry
   pub one : InstructionEntry
@@ -122,8 +122,8 @@ pub record HoldsOne (Is : InstructionEntry → Bool) (entries : List Instruction
   pub is : IsTrue (Is one)
   pub idle_after : AreIdle after
 
--- what comes before the action's write: the input's write among idle entries, or idle entries and before EXECUTE also
--- writes to Value
+-- What comes before the action's write: the input's write among idle entries; or idle entries and, before
+-- EXECUTE_OPERATION, also writes to Value.
 abbrev pub BeginsBy : Bool → ℕ → List InstructionEntry → Type 0
 BeginsBy true action entries = HoldsOne (is_input action) entries
 BeginsBy false action entries = IsTrue (list_all (λ e. is_idle e || is_free action e) entries)
@@ -132,7 +132,7 @@ BeginsBy false action entries = IsTrue (list_all (λ e. is_idle e || is_free act
 abbrev pub IsBeginning : ℕ → List InstructionEntry → Type 0
 IsBeginning action entries = BeginsBy (takes_input action) action entries
 
--- idle entries, and last the answer's read
+-- idle entries, and last the read of the result
 pub record EndsWithAnswer (action : ℕ) (entries : List InstructionEntry) : Type 0 where
   pub idle : List InstructionEntry
   pub last : InstructionEntry
@@ -140,7 +140,7 @@ pub record EndsWithAnswer (action : ℕ) (entries : List InstructionEntry) : Typ
   pub are_idle : AreIdle idle
   pub is : IsTrue (is_answer action last)
 
--- what comes after the action's write: idle entries and, if the action returns something, last the answer's read
+-- What comes after the action's write: idle entries and, if the action returns something, last the read of the result.
 abbrev pub EndsBy : Bool → ℕ → List InstructionEntry → Type 0
 EndsBy true action entries = EndsWithAnswer action entries
 EndsBy false action entries = AreIdle entries
@@ -149,7 +149,7 @@ EndsBy false action entries = AreIdle entries
 abbrev pub IsEnding : ℕ → List InstructionEntry → Type 0
 IsEnding action entries = EndsBy (gives_answer action) action entries
 
--- An admitted list of an action: its one write to Action, with what comes before and after it.
+-- An admitted list of an action: its only write to Action, with what comes before and after it.
 pub record IsAdmitted (action : ℕ) (list : List InstructionEntry) : Type 0 where
   pub short : length list ≤ most_turns
   pub before : List InstructionEntry

@@ -1,9 +1,8 @@
--- One entry of a table: ACPI 6.5, section 18.5.1.2, "Serialization Instruction Entries". It has 32
--- bytes: the action at 0, the instruction at 1, flags at 2, of which bit 0 is "preserve register",
--- the register at 4, a value (8) at 16 and a mask (8) at 24. The register is a generic address
--- structure (section 5.2.3.2): the address space at 4, the bit width at 5, the bit offset at 6, the
--- access size at 7, the address (8) at 8. Bit width and access size are not used. That the two
--- registers stand in address space 0 at their addresses is this project's own.
+-- One entry of a table: ACPI 6.5, section 18.5.1.2, "Serialization Instruction Entries". It has 32 bytes: the action
+-- at 0, the instruction at 1, flags at 2, of which bit 0 is "preserve register", the register at 4, a value (8) at 16
+-- and a mask (8) at 24. The register is a generic address structure (section 5.2.3.2): the address space at 4, the bit
+-- width at 5, the bit offset at 6, the access size at 7, the address (8) at 8. Bit width and access size are not used.
+-- That the two registers are in address space 0 at their addresses is this project's own.
 use Rattle.std.specs.Prelude.{ℕ, ◌&&◌, nat_eq, nat_lt, List, [], ◌∷◌, get_or, slice_index, Option, Some, None, if◌then◌else◌}
 use Rattle.ras_base.specs.Bits.{is_set}
 use Rattle.ras_base.specs.LittleEndian.{number_at}
@@ -48,7 +47,7 @@ register_of address =
     if nat_eq address action_address then Some Action
     else (if nat_eq address value_address then Some Value else None)
 
--- the register of an address space, a bit offset and an address, if it is a good one
+-- the register at an address, if the address space and the bit offset are valid for it
 abbrev pub register_at : ℕ → ℕ → ℕ → Option Reg
 register_at space offset address = if nat_eq space 0 && nat_lt offset 64 then register_of address else None
 

@@ -30,7 +30,7 @@ device_after action input d = act action (with_input action input d)
 abbrev pub answer_after : ℕ → ℕ → Device → ℕ
 answer_after action input d = if gives_answer action then (device_after action input d).value else input
 
--- a run that did the action
+-- A run did the action.
 pub record DoesAction (action input : ℕ) (d : Device) (end : End) : Type 0 where
   pub answer : end.answer ≡ Ok (answer_after action input d)
   pub device : end.state.device ≡ device_after action input d
@@ -47,19 +47,19 @@ pub record ActsOn (action input value : ℕ) (t : Told) (new : Option Told) : Ty
   pub device : device_of after ≡ device_after action input (device_of t)
   pub answer : value ≡ answer_after action input (device_of t)
 
--- a run that does the action, or fails because a call of the board failed
+-- A run does the action, or fails because a call of the board failed.
 abbrev pub DoesRun : ℕ → ℕ → Result ℕ RunRefused → Told → Option Told → Type 0
 DoesRun action input (Ok answer) t new = ActsOn action input answer t new
 DoesRun action input (Err Register) t new = Unit {0}
 DoesRun action input (Err why) t new = ⊥
 
--- a run that returns a value, or fails only because a call of the board failed
+-- A run returns a value, or fails only because a call of the board failed.
 abbrev pub IsRegisterAlone : Result ℕ RunRefused → Type 0
 IsRegisterAlone (Ok answer) = Unit {0}
 IsRegisterAlone (Err Register) = Unit {0}
 IsRegisterAlone (Err why) = ⊥
 
--- The record store is unchanged, or becomes the one that the model has, or the one after the action. Says nothing of a
+-- The record store is unchanged, or becomes the store in the model or the store after the action. Says nothing of a
 -- board that isn't modelled.
 abbrev pub StoreInAction : ℕ → ℕ → Option Told → List Stored → List Stored → Type 0
 StoreInAction action input None old new = Unit {0}
@@ -68,12 +68,12 @@ StoreInAction action input (Some t) old new =
 
 -- A run of an admitted list over a board does its action.
 pub record RunsAction (action input : ℕ) (result : Result ℕ RunRefused) (old new : Seen) : Type 0 where
-  -- The run returns what the action returns, and the device is as after the action.
+  -- The run returns what the action returns, and the device is the device after the action.
   pub does : input < input_limit action → IfSome old.told (λ t. DoesRun action input result t new.told)
   -- The run fails only if a call of the board failed.
   pub only_register : IsRegisterAlone result
   -- The device in the model was a device.
   pub device : IfSome old.told (λ t. IsDevice (device_of t))
-  -- A crash during the run leaves of the record store what a crash before might have left, or the store in the model,
-  -- or the store after the action.
+  -- A crash during the run leaves a record store that a crash before might have left, or the store in the model, or
+  -- the store after the action.
   pub stores : input < input_limit action → Passes (InStore (StoreInAction action input old.told)) old.clock new.clock

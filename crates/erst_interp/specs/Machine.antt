@@ -22,11 +22,11 @@ pub record MachineState : Type 0 where
   pub device : Device
   pub calls : List DeviceCall
 
--- the variables of a run that begins
+-- the variables at the start of a run
 abbrev pub new_variables : ℕ → Variables
 new_variables input = record { index = 0; value = input; var1 = 0; var2 = 0; src = 0; dst = 0 }
 
--- how a turn ends: the run goes on in a state, or fails in one
+-- How a turn ends: the run continues in a state, or fails in a state.
 pub data Outcome : Type 0 where
   goes : MachineState → Outcome
   stops : RunRefused → MachineState → Outcome
@@ -50,7 +50,7 @@ truth false = 0
 
 -- ---- fields of registers
 
--- a number that is read from a register, shifted right by the bit offset and masked
+-- the number in an entry's field: shifted right by the bit offset and masked
 abbrev pub field_of : InstructionEntry → ℕ → ℕ
 field_of e number = bit_and (number / 2 ^ e.offset) e.mask
 
@@ -58,8 +58,7 @@ field_of e number = bit_and (number / 2 ^ e.offset) e.mask
 abbrev pub in_place : InstructionEntry → ℕ → ℕ
 in_place e number = wrapped (number * 2 ^ e.offset)
 
--- what is written for a number: it is masked and shifted left, and the register's other bits are 0
--- or, with preserve, as they were
+-- The register's other bits when a number is written with preserve: the number without the bits of the field.
 abbrev pub cleared : InstructionEntry → ℕ → ℕ
 cleared e number = bit_and number (2 ^ 64 - 1 - in_place e e.mask)
 
@@ -102,11 +101,11 @@ after_field e reg x s =
     if e.preserves then after_register_write reg (with_field e x (register_in reg s.device)) (after_register_read reg s)
     else after_register_write reg (alone e x) s
 
--- bytes of the range, from one place to another, as if read whole first
+-- bytes of the range moved from one offset to another, as if all were read first
 abbrev pub after_move : ℕ → ℕ → ℕ → MachineState → MachineState
 after_move from to count s = after_range_write_at to (take count (drop from s.device.range)) (after_range_read from count s)
 
--- whether this many bytes from an address on are inside the range
+-- Whether this many bytes from an address on are inside the range.
 abbrev pub is_inside : ℕ → ℕ → Bool
 is_inside address count = nat_le range_address address && nat_le (address + count) (range_address + range_length)
 
@@ -116,7 +115,7 @@ is_inside address count = nat_le range_address address && nat_le (address + coun
 abbrev pub next : Variables → Variables
 next v = record v { index = v.index + 1 }
 
--- a state with other variables
+-- a state with these variables
 abbrev pub with_variables : Variables → MachineState → MachineState
 with_variables v s = record s { variables = v }
 
@@ -203,8 +202,8 @@ abbrev pub after_turn : (MachineState → End) → Outcome → End
 after_turn go_on (goes s) = go_on s
 after_turn go_on (stops why s) = record { answer = Err why; state = s }
 
--- The end of a run that has n turns left. If no turn is left and there is a next entry, the run fails before that entry
--- is looked at.
+-- The end of a run that has n turns left. If no turn is left and there is a next entry, the run fails before that
+-- entry is read.
 unfoldable pub end_from : ℕ → List InstructionEntry → MachineState → End
 end_from zero list s =
     at_entry (λ e. record { answer = Err Fuel; state = s }) s (slice_get list s.variables.index)
@@ -215,7 +214,7 @@ end_from (suc turns) list s =
 abbrev pub most_turns : ℕ
 most_turns = 4096
 
--- the state of a run that begins with this input over a device
+-- the state at the start of a run with this input over a device
 abbrev pub start : ℕ → Device → MachineState
 start input device = record { variables = new_variables input; device = device; calls = [] }
 

@@ -3,7 +3,7 @@ use Rattle.std.specs.Prelude.{◌≡◌, ℕ, Option, Some, None, Result, Err}
 use Rattle.erst_interp.specs.declared.refusals.ErstTableRefused.{ErstTableRefused}
 use Rattle.erst_interp.specs.declared.refusals.ErstTableRefused.TheVariants.{Short, Signature, Length, Sum, HeaderSize, Count, NoMemory}
 
--- the number of a refusal; running out of memory has none
+-- The number of a refusal. Running out of memory has no number.
 abbrev pub erst_number : ErstTableRefused → Option ℕ
 erst_number Short = Some 1
 erst_number Signature = Some 2
@@ -13,7 +13,7 @@ erst_number HeaderSize = Some 5
 erst_number Count = Some 6
 erst_number NoMemory = None
 
--- This is returned, or memory ran out.
+-- This is returned, unless memory ran out.
 abbrev pub IsAnswer : {T : Type 0} → Result T ErstTableRefused → Result T ErstTableRefused → Type 0
 IsAnswer (Err NoMemory) answer = Unit {0}
 IsAnswer result answer = result ≡ answer

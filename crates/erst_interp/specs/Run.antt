@@ -37,19 +37,19 @@ pub record KeepsButDevice (old new : Told) : Type 0 where
   pub disk_calls : new.disk_calls ≡ old.disk_calls
   pub slow : new.volatile.slow ≡ old.volatile.slow
 
--- Register is returned if and only if the count of failed device calls rose. With any other result all counts are as
--- they were.
+-- Register is returned if and only if the count of failed device calls rose. With any other result all counts are
+-- unchanged.
 abbrev pub RunCause : Result ℕ RunRefused → Faults → Faults → Type 0
 RunCause (Err Register) before now = Raises device_call before now
 RunCause answer before now = now ≡ before
 
--- there is a next entry, and it has this property
+-- There is a next entry, and it has this property.
 abbrev pub AtNext : (InstructionEntry → Type 0) → Option InstructionEntry → Type 0
 AtNext Holds None = ⊥
 AtNext Holds (Some e) = Holds e
 
--- a turn after which the run goes on ends in a state with one property, and a turn after which it stops in a state with
--- the other
+-- A turn after which the run continues ends in a state with one property, and a turn after which it stops in a state
+-- with the other.
 abbrev pub AfterTurn : (MachineState → Type 0) → (MachineState → Type 0) → Outcome → Type 0
 AfterTurn Goes Stops (goes s) = Goes s
 AfterTurn Goes Stops (stops why s) = Stops s
@@ -74,9 +74,9 @@ pub record RunsList (list : List InstructionEntry) (input : ℕ) (result : Resul
   pub runs : IfSome old.told (λ t. IsRun result (machine_end list input (device_of t)) t new.told)
   -- In the model only the device changes.
   pub kept : Relates KeepsButDevice old.told new.told
-  -- A crash during the run leaves a record store that the machine passes through, and all else as it was.
+  -- A crash during the run leaves a record store that the machine passes through, and everything else unchanged.
   pub stops : Passes (InStore (StoreInRun list input old.told)) old.clock new.clock
   -- If the run succeeds, and a crash before it would leave the store in the model, so would a crash after it.
   pub stored : OnOk result (StoreIsLeft old.told old.clock → StoreIsLeft new.told new.clock)
-  -- Register means that a call failed, and no other result does.
+  -- Register is returned if and only if a call failed.
   pub cause : RunCause result old.faults new.faults

@@ -12,8 +12,8 @@ use Rattle.erst_interp.specs.declared.refusals.ErstTableRefused.{ErstTableRefuse
 use Rattle.erst_interp.specs.declared.refusals.ErstTableRefused.TheVariants.{Short, Signature, Length, Sum, HeaderSize, Count}
 use Rattle.erst_interp.specs.Entries.{entry_of}
 
--- the size of the serialization header: firmware counts its own 12 bytes, or those of the table's
--- header too
+-- Whether the size of the serialization header is valid: firmware counts its own 12 bytes, or those of the table's
+-- header too.
 abbrev pub has_header_size : List ℕ → Bool
 has_header_size table = nat_eq (number_at 36 4 table) 12 || nat_eq (number_at 36 4 table) 48
 
@@ -21,11 +21,11 @@ has_header_size table = nat_eq (number_at 36 4 table) 12 || nat_eq (number_at 36
 abbrev pub entry_count : List ℕ → ℕ
 entry_count table = number_at 44 4 table
 
--- whether the entries that a table counts lie inside it
+-- Whether the entries that a table counts lie inside it.
 abbrev pub has_entries : List ℕ → Bool
 has_entries table = nat_le (ERST_FIXED_LENGTH + ENTRY_LENGTH * entry_count table) (length table)
 
--- the table at the front of bytes, or the first reason that it can't be read
+-- The table at the front of bytes, or the first reason why it can't be read.
 unfoldable pub erst_table : List ℕ → Result (List ℕ) ErstTableRefused
 erst_table bytes =
     if nat_lt (length bytes) ERST_FIXED_LENGTH then Err Short
@@ -44,7 +44,7 @@ instructions_at (suc count) bytes = entry_of bytes ∷ instructions_at count (dr
 abbrev pub instructions_in : List ℕ → List InstructionEntry
 instructions_in table = instructions_at (entry_count table) (drop ERST_FIXED_LENGTH table)
 
--- what is kept of a table: for each number that an action can have, a list of entries
+-- what is stored of a table: for each number that an action can have, a list of entries
 abbrev pub list_of : ℕ → List (List InstructionEntry) → List InstructionEntry
 list_of action lists = get_or lists action []
 
@@ -60,6 +60,6 @@ abbrev pub lists_in : Result (List ℕ) ErstTableRefused → Result (List (List 
 lists_in (Ok table) = Ok (lists_of (instructions_in table))
 lists_in (Err why) = Err why
 
--- the table at the front of bytes, by its lists, or the first reason that it can't be read
+-- The table at the front of bytes, by its lists, or the first reason why it can't be read.
 abbrev pub erst_of : List ℕ → Result (List (List InstructionEntry)) ErstTableRefused
 erst_of bytes = lists_in (erst_table bytes)

@@ -23,7 +23,7 @@ pub(crate) enum Awaited {
     Input,
     /// The action's write.
     Action,
-    /// The answer's read, as the last entry.
+    /// The read of the result, as the last entry.
     Answer,
     /// Nothing more.
     Rest,
@@ -56,14 +56,14 @@ pub fn admits(table: &Table) -> bool
     true
 }
 
-// Whether a list of an action is admitted.
+// Returns whether a list of an action is admitted.
 fn admits_list(action: u64, list: &[InstructionEntry]) -> bool
     ensures { IsTrue result ↔ IsAdmitted action list.now }
 {
     list.len() <= MOST_TURNS as usize && walks(action, list)
 }
 
-// Whether a list of an action has the layout of an admitted list.
+// Returns whether a list of an action has the layout of an admitted list.
 fn walks(action: u64, list: &[InstructionEntry]) -> bool
     ensures { result ≡ walks action (first_awaited action) list.now }
 {
@@ -77,7 +77,7 @@ fn walks(action: u64, list: &[InstructionEntry]) -> bool
     matches!(awaited, Awaited::Rest | Awaited::End)
 }
 
-// What a list of an action has to contain.
+// Returns what a list of an action has to contain first.
 fn first_awaited(action: u64) -> Awaited
     ensures { result ≡ first_awaited action }
 {
@@ -88,7 +88,7 @@ fn first_awaited(action: u64) -> Awaited
     }
 }
 
-// What is awaited after an entry, or `None` if the entry isn't allowed here.
+// Returns what a list has to contain after an entry, or `None` if the entry isn't allowed here.
 fn next_awaited(action: u64, awaited: Awaited, entry: &InstructionEntry) -> Option<Awaited>
     ensures { result ≡ next_awaited action awaited entry.now }
 {
@@ -108,7 +108,7 @@ fn next_awaited(action: u64, awaited: Awaited, entry: &InstructionEntry) -> Opti
     }
 }
 
-// What is awaited after the action's write.
+// Returns what a list has to contain after the action's write.
 fn awaited_after(action: u64) -> Awaited
     ensures { result ≡ awaited_after action }
 {
@@ -119,14 +119,14 @@ fn awaited_after(action: u64) -> Awaited
     }
 }
 
-// Whether an action takes the input.
+// Returns whether an action takes the input.
 fn takes_input(action: u64) -> bool
     ensures { result ≡ takes_input action }
 {
     action == SET_RECORD_OFFSET || action == SET_RECORD_IDENTIFIER
 }
 
-// Whether an action returns something.
+// Returns whether an action returns something.
 fn gives_answer(action: u64) -> bool
     ensures { result ≡ gives_answer action }
 {
@@ -136,7 +136,7 @@ fn gives_answer(action: u64) -> bool
         || action == GET_RECORD_COUNT
 }
 
-// The bits that the mask of an input's write has to have.
+// Returns the bits that the mask of an input's write has to have.
 fn input_bits(action: u64) -> u64
     ensures { result ≡ input_bits action }
 {
@@ -147,7 +147,7 @@ fn input_bits(action: u64) -> u64
     }
 }
 
-// The bits that the mask of an answer's read has to have.
+// Returns the bits that the mask of a result's read has to have.
 fn answer_bits(action: u64) -> u64
     ensures { result ≡ answer_bits action }
 {
@@ -160,7 +160,7 @@ fn answer_bits(action: u64) -> u64
 }
 
 impl InstructionEntry {
-    // Whether the entry changes neither the device nor the value.
+    // Returns whether the entry changes neither the device nor the value.
     fn is_idle(&self) -> bool
         ensures { result ≡ is_idle self.now }
     {
@@ -173,35 +173,36 @@ impl InstructionEntry {
         }
     }
 
-    // Whether the entry's field is the whole register, of which a write keeps nothing.
+    // Returns whether the entry's field is the whole register, and a write preserves none of its
+    // bits.
     fn is_whole(&self) -> bool
         ensures { result ≡ is_whole self.now }
     {
         self.offset == 0 && !self.preserves
     }
 
-    // Whether the entry's mask has these bits.
+    // Returns whether the entry's mask has these bits.
     fn holds(&self, bits: u64) -> bool
         ensures { result ≡ holds_bits bits self.now.mask }
     {
         self.mask & bits == bits
     }
 
-    // Whether the entry uses the register Value.
+    // Returns whether the entry uses the register Value.
     fn is_of_value(&self) -> bool
         ensures { result ≡ is_value self.now.register }
     {
         matches!(self.register, Some(Reg::Value))
     }
 
-    // Whether the entry writes a number of its own to a register.
+    // Returns whether the entry writes its own number to a register.
     fn writes_constant(&self) -> bool
         ensures { result ≡ is_constant self.now.instruction }
     {
         matches!(self.instruction, Instruction::WriteRegisterValue)
     }
 
-    // Whether the entry writes the number of an action to Action.
+    // Returns whether the entry writes the number of an action to Action.
     fn is_act(&self, action: u64) -> bool
         ensures { result ≡ is_act action self.now }
     {
@@ -211,7 +212,7 @@ impl InstructionEntry {
             && self.value & self.mask == action
     }
 
-    // Whether the entry writes the input of an action to Value.
+    // Returns whether the entry writes the input of an action to Value.
     fn is_input(&self, action: u64) -> bool
         ensures { result ≡ is_input action self.now }
     {
@@ -221,7 +222,7 @@ impl InstructionEntry {
             && self.holds(input_bits(action))
     }
 
-    // Whether the entry writes something that EXECUTE_OPERATION ignores.
+    // Returns whether the entry writes something that EXECUTE_OPERATION ignores.
     fn is_free(&self, action: u64) -> bool
         ensures { result ≡ is_free action self.now }
     {
@@ -231,7 +232,7 @@ impl InstructionEntry {
             && !self.preserves
     }
 
-    // Whether the entry reads the answer of an action unchanged.
+    // Returns whether the entry reads the result of an action unchanged.
     fn reads_answer(&self, action: u64) -> bool
         ensures { result ≡ is_read action self.now.value self.now.instruction }
     {
@@ -242,7 +243,7 @@ impl InstructionEntry {
         }
     }
 
-    // Whether the entry reads the answer of an action from Value.
+    // Returns whether the entry reads the result of an action from Value.
     fn is_answer(&self, action: u64) -> bool
         ensures { result ≡ is_answer action self.now }
     {

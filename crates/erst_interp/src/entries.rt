@@ -60,7 +60,7 @@ pub struct InstructionEntry {
 }
 
 impl Instruction {
-    // The instruction of a number.
+    // Returns the instruction with this number.
     fn of(number: u8) -> Instruction
         ensures { result ≡ instruction_of number }
     {
@@ -89,7 +89,7 @@ impl Instruction {
     }
 }
 
-// The register of an address space, a bit offset and an address, if it is usable.
+// Returns the register at an address, if the address space and the bit offset are usable.
 fn register_at(space: u8, offset: u8, address: u64) -> Option<Reg>
     ensures { result ≡ register_at space offset address }
 {
@@ -103,7 +103,7 @@ fn register_at(space: u8, offset: u8, address: u64) -> Option<Reg>
     }
 }
 
-// The entry at the front of bytes.
+// Returns the entry at the front of bytes.
 pub(crate) fn entry_at(bytes: &[u8]) -> InstructionEntry
     requires { ENTRY_LENGTH ≤ length bytes.now }
     ensures { result ≡ entry_of bytes.now }

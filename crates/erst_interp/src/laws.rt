@@ -1,4 +1,4 @@
-//! What holds of every list of entries, and the limits in digits.
+//! The laws of every list of entries, and the limits as numbers.
 
 ghost use Rattle.std.specs.Prelude.{◌≡◌, ℕ, ◌<◌, ◌^◌, List};
 ghost use Rattle.erst_store.specs.Device.{Device};
@@ -35,7 +35,7 @@ pub fn lists_are_of_the_entries()
         → list_of action (lists_of entries) ≡ entries_for action entries }
 {}
 
-/// The limits have these digits.
+/// The numbers behind the names of the limits.
 pub fn table_limits()
     ensures fixed { ERST_FIXED_LENGTH ≡ 48 }
     ensures entry { ENTRY_LENGTH ≡ 32 }

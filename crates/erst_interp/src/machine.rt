@@ -23,9 +23,9 @@ pub(crate) struct Variables {
 pub(crate) enum Work {
     /// No known instruction.
     Unknown,
-    /// It uses no register.
+    /// The instruction uses no register.
     Computes,
-    /// It uses the entry's register.
+    /// The instruction uses the entry's register.
     Uses(Use),
 }
 
@@ -36,14 +36,14 @@ pub(crate) enum Use {
     Reads,
     /// The field is written.
     Writes,
-    /// The field is read, and another number written.
+    /// The field is read, and then another number is written.
     Changes,
     /// The field is an offset of bytes that are moved.
     Moves,
 }
 
 impl Instruction {
-    // The kind of the instruction.
+    // Returns the kind of the instruction.
     pub(crate) fn work(self) -> Work
         ensures { result ≡ work_of self }
     {
@@ -71,7 +71,7 @@ impl Instruction {
 }
 
 impl Variables {
-    // The variables of a run that begins with this input.
+    // Returns the variables at the start of a run with this input.
     pub(crate) fn new(input: u64) -> Variables
         ensures { result ≡ new_variables input }
     {
@@ -85,7 +85,7 @@ impl Variables {
         }
     }
 
-    // The variables before the next entry.
+    // Returns the variables before the next entry.
     pub(crate) fn next(mut self) -> Variables
         requires { self.index + 2 < 2 ^ 64 }
         ensures { result ≡ next self }
@@ -94,7 +94,7 @@ impl Variables {
         self
     }
 
-    // The variables after an instruction that uses no register.
+    // Returns the variables after an instruction that uses no register.
     pub(crate) fn computed(
         mut self,
         instruction: Instruction,
@@ -118,7 +118,7 @@ impl Variables {
         self
     }
 
-    // The variables after an instruction that read this number.
+    // Returns the variables after an instruction that read this number.
     pub(crate) fn taken(
         mut self,
         instruction: Instruction,
@@ -144,7 +144,7 @@ impl Variables {
         self
     }
 
-    // The number that an instruction writes.
+    // Returns the number that an instruction writes.
     pub(crate) fn given(self, instruction: Instruction, entry: &InstructionEntry) -> u64
         ensures { result ≡ given instruction entry.now self }
     {
@@ -157,7 +157,7 @@ impl Variables {
 }
 
 impl InstructionEntry {
-    // The number that an instruction writes after it read one.
+    // Returns the number that an instruction writes after it read one.
     pub(crate) fn changed(&self, instruction: Instruction, number: u64) -> u64
         ensures { result ≡ changed instruction self.now number }
     {
@@ -167,29 +167,28 @@ impl InstructionEntry {
         }
     }
 
-    // The number in the field of a register whose number this is.
+    // Returns the number in the entry's field, if the register has this number.
     pub(crate) fn field_of(&self, number: u64) -> u64
         ensures { result ≡ field_of self.now number }
     {
         shifted_down(number, self.offset) & self.mask
     }
 
-    // A number moved to where the field stands.
+    // Returns a number shifted to the position of the field.
     fn in_place(&self, number: u64) -> u64
         ensures { result ≡ in_place self.now number }
     {
         shifted_up(number, self.offset)
     }
 
-    // What is written into a register for a number in its field, all other bits being 0.
+    // Returns a register's number with this number in the field, and all other bits 0.
     pub(crate) fn alone(&self, number: u64) -> u64
         ensures { result ≡ alone self.now number }
     {
         self.in_place(number & self.mask)
     }
 
-    // What is written into a register for a number in its field, the other bits staying as they are
-    // in `before`.
+    // Returns a register's number with this number in the field, and all other bits as in `before`.
     pub(crate) fn with_field(&self, number: u64, before: u64) -> u64
         ensures { result ≡ with_field self.now number before }
     {
@@ -197,7 +196,7 @@ impl InstructionEntry {
     }
 }
 
-// A number shifted right by `bits`, maybe all.
+// Returns a number shifted right by `bits`, maybe by all.
 #[tactic(auto, using(crate::proofs::ShiftLemmas::gone_down))]
 fn shifted_down(number: u64, bits: u8) -> u64
     ensures { result ≡ number / 2 ^ bits }
@@ -205,7 +204,7 @@ fn shifted_down(number: u64, bits: u8) -> u64
     if bits < 64 { number >> bits } else { 0 }
 }
 
-// A number shifted left by `bits`, maybe all. What passes 64 bits is dropped.
+// Returns a number shifted left by `bits`, maybe by all. Bits beyond 64 are dropped.
 #[tactic(auto, using(crate::proofs::ShiftLemmas::gone_up))]
 fn shifted_up(number: u64, bits: u8) -> u64
     ensures { result ≡ number * 2 ^ bits % 2 ^ 64 }

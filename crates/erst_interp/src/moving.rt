@@ -10,7 +10,7 @@ use board_core::Board;
 use erst_store::RANGE_LENGTH;
 use erst_store::actions::RANGE_ADDRESS;
 
-// The offset in the range of `count` bytes from an address on, if all of them are inside.
+// Returns the offset in the range of `count` bytes from an address on, if all of them are inside.
 fn place_of(base: u64, offset: u64, count: u64) -> Option<u32>
     ensures { IsPlace (base + offset) count result }
 {
@@ -22,8 +22,8 @@ fn place_of(base: u64, offset: u64, count: u64) -> Option<u32>
     Some(place as u32)
 }
 
-// MOVE_DATA by this offset: var2 bytes are moved from the source base to the destination base, as
-// if all were read before any is written.
+// Does MOVE_DATA with this offset: moves var2 bytes from the source base to the destination base,
+// as if all were read before any is written.
 pub(crate) fn move_bytes<B: Board>(
     offset: u64,
     variables: Variables,

@@ -7,7 +7,7 @@ use board_core::Failed;
 use ras_base::NoMemory;
 use thiserror::Error;
 
-/// Why an ERST can't be read, the first that applies in this order.
+/// Why an ERST can't be read: the first reason that applies, in this order.
 #[derive(Clone, Copy, Debug, PartialEq, Eq, Error)]
 pub enum ErstTableRefused {
     /// 1: there are fewer than 48 bytes.
@@ -28,7 +28,7 @@ pub enum ErstTableRefused {
     /// 6: the entries that the table counts pass its length.
     #[error("the entries of the ERST pass its end")]
     Count,
-    /// Memory ran out. It has no number, since it is no fault of the table.
+    /// Memory ran out. This has no number, because it isn't a fault of the table.
     #[error("memory ran out")]
     NoMemory,
 }
@@ -66,7 +66,7 @@ pub enum RunRefused {
     /// A call of the board failed.
     #[error("an access to a register or to the range failed")]
     Register,
-    /// `MOST_TURNS` instructions were run, and the list goes on.
+    /// `MOST_TURNS` instructions were run, and the list continues.
     #[error("the list didn't end within its turns")]
     Fuel,
     /// The next entry has a number that no instruction has.

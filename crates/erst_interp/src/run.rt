@@ -57,7 +57,7 @@ impl Table {
     }
 }
 
-// One turn with an entry, from these variables on.
+// Runs one turn with an entry, from these variables on.
 fn turn<B: Board>(
     entry: &InstructionEntry,
     variables: Variables,

@@ -59,7 +59,7 @@ pub fn read_erst(alloc: Global, bytes: &[u8]) -> Result<Table, ErstTableRefused>
 }
 
 impl Table {
-    // The list of an action.
+    // Returns the list of an action.
     pub(crate) fn list(&self, action: u8) -> &[InstructionEntry]
         ensures { result.now ≡ list_of action self.now }
     {
@@ -67,7 +67,7 @@ impl Table {
     }
 }
 
-// The table at the front of bytes.
+// Returns the table at the front of bytes.
 #[tactic(auto, unfolding(crate::specs::Table::erst_table))]
 fn table_at(bytes: &[u8]) -> Result<&[u8], ErstTableRefused>
     ensures answer { ReadsTable (λ table. table.now) result (erst_table bytes.now) }
@@ -96,7 +96,7 @@ fn table_at(bytes: &[u8]) -> Result<&[u8], ErstTableRefused>
     Ok(table)
 }
 
-// An empty list for each action.
+// Returns an empty list for each action.
 fn empty_lists(alloc: Global) -> Result<Vec<Vec<InstructionEntry>>, NoMemory>
     ensures { IfOk result (λ lists. AreEmpty (map (λ v. v.items) lists.items)) }
 {
@@ -107,7 +107,7 @@ fn empty_lists(alloc: Global) -> Result<Vec<Vec<InstructionEntry>>, NoMemory>
     Ok(lists)
 }
 
-// Adds an entry to the list of its action.
+// Appends an entry to the list of its action.
 fn add(lists: &mut Vec<Vec<InstructionEntry>>, entry: InstructionEntry) -> Result<(), NoMemory>
     requires { length lists.old.items ≡ ACTIONS }
     ensures added { OnOk result (map (λ v. v.items) lists.new.items
@@ -118,7 +118,7 @@ fn add(lists: &mut Vec<Vec<InstructionEntry>>, entry: InstructionEntry) -> Resul
     Ok(())
 }
 
-// The lists of the first `count` entries of the bytes.
+// Returns the lists of the first `count` entries of the bytes.
 fn lists_at(alloc: Global, count: u32, bytes: &[u8]) -> Result<Vec<Vec<InstructionEntry>>, NoMemory>
     requires { ENTRY_LENGTH * count ≤ length bytes.now }
     ensures { IfOk result (λ lists.

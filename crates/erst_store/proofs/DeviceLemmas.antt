@@ -1,4 +1,4 @@
--- What the device's commands do, by the way they end.
+-- What the device's commands do, by their statuses.
 use Rattle.std.proofs.Common.{◌≡◌, ℕ, ◌+◌, ◌<◌, ◌≤◌, Bool, true, false, nat_eq, nat_lt, if◌then◌else◌, List, [], ◌∷◌, length, take, drop, None, Some, ◌||◌, refl, sym, ap, subst, ◌∙◌, arith, true≢false}
 use Rattle.std.proofs.lemmas.Bool.{eqb-true, lt-ltb, le-ltb}
 use Rattle.std.proofs.lemmas.List.{length-take-le, length-drop}
@@ -105,7 +105,7 @@ out_written d out =
 pub not_cleared : (d : Device) (store : List Stored) → nat_eq (length d.store) 0 ≡ false → holds d.id d.store ≡ false → store ≡ d.store → record d { store = store; status = NotFound } ≡ after_clear d
 not_cleared d store some other is = ap (λ (s : List Stored). record d { store = s; status = NotFound }) is ∙ sym (rw (some, other) refl)
 
--- a clear leaves all records except the one under the identifier
+-- A clear leaves all records except the one under the identifier.
 pub cleared-store : (d : Device) → (after_clear d).store ≡ without d.id d.store
 cleared-store d = by (nat_eq (length d.store) 0) (holds d.id d.store) refl refl
   where

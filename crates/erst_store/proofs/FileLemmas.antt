@@ -1,4 +1,4 @@
--- A store's file, of which a record's bytes are cut out.
+-- A store's file from which a record's bytes are removed.
 use Rattle.std.proofs.Common.{◌≡◌, ℕ, zero, suc, ◌+◌, ◌-◌, ◌≤◌, Bool, true, false, nat_eq, if◌then◌else◌, List, [], ◌∷◌, ◌++◌, length, take, drop, slice_get, Some, refl, sym, ap, ◌∙◌, arith, append_assoc, length-append}
 use Rattle.std.specs.Prelude.{codes}
 use Rattle.std.specs.List.{flat_map}
@@ -12,7 +12,7 @@ use Rattle.erst_store.specs.StoreFile.{LacksRecord, heading, record_bytes, store
 use Rattle.erst_store.specs.Steps.StoreLemmas.{without-at}
 use Rattle.erst_store.specs.Steps.View.{StandsAt}
 
--- the bytes of the records before a place, and of those after it
+-- the bytes of the records before an index, and of the records after it
 abbrev pub front : List Stored → ℕ → List ℕ
 front rs place = flat_map record_bytes (take place rs)
 
@@ -28,7 +28,7 @@ length-record_bytes r =
 length-heading : (count : ℕ) → length (heading count) ≡ 12
 length-heading count = omega (arith, length-append (codes "RASERST1") (u32_bytes count), length-u32_bytes count)
 
--- one record more before a place
+-- One more record before an index.
 pub front-more : (rs : List Stored) (i : ℕ) (bytes : List ℕ) → slice_get (contents rs) i ≡ Some bytes → length (front rs (suc i)) ≡ length (front rs i) + (12 + length bytes)
 front-more [] i bytes is = absurd cc
 front-more (r ∷ rs) zero bytes is =
@@ -52,7 +52,7 @@ parts id bytes (r ∷ rs) (suc place) there is =
     ∙ sym (append_assoc (record_bytes r) (front rs place ++ one) (back rs place))
     ∙ ap (λ (text : List ℕ). text ++ back rs place) (sym (append_assoc (record_bytes r) (front rs place) one))
 
--- without the record at a place
+-- The store without the record at an index.
 less : (id : ℕ) (rs : List Stored) (place : ℕ) → IsStore rs → StandsAt id rs place → flat_map record_bytes (without id rs) ≡ front rs place ++ back rs place
 less id rs place kept there =
     ap (flat_map record_bytes) (sym (without-at id rs place kept.distinct there))
@@ -65,7 +65,7 @@ one_less id rs place kept there =
 four : (a b c d : List ℕ) → a ++ (b ++ c ++ d) ≡ a ++ b ++ c ++ d
 four a b c d = sym (ap (λ (text : List ℕ). text ++ d) (append_assoc a b c) ∙ append_assoc a (b ++ c) d)
 
--- the file with the record and without it
+-- The file with the record and without it.
 pub lacks : (id : ℕ) (bytes : List ℕ) (rs : List Stored) (place : ℕ) → IsStore rs → StandsAt id rs place → slice_get (contents rs) place ≡ Some bytes
     → LacksRecord (record { id = id; bytes = bytes }) (store_bytes rs) (store_bytes (without id rs))
 lacks id bytes rs place kept there is = record {
@@ -81,7 +81,7 @@ lacks id bytes rs place kept there is = record {
       ∙ sym (append_assoc (heading (length (without id rs))) (front rs place) (back rs place));
 }
 
--- where a record stands whose bytes are found
+-- A record whose bytes are found is at an index.
 stands_under : (id : ℕ) (rs : List Stored) (bytes : List ℕ) → bytes_under id rs ≡ Some bytes → (place : ℕ) × StandsAt id rs place × (slice_get (contents rs) place ≡ Some bytes)
 stands_under id [] bytes is = absurd cc
 stands_under id (r ∷ rs) bytes is = by (nat_eq r.id id) refl is (stands_under id rs bytes)
@@ -101,7 +101,7 @@ lacks_under id bytes rs kept is =
 
 -- ---- the record is cut out in place
 
--- a list in which a part was written over
+-- a list with a part written over
 abbrev pub over : ℕ → ℕ → List ℕ → List ℕ → List ℕ
 over start width xs part = take start xs ++ (part ++ drop width (drop start xs))
 
@@ -109,7 +109,7 @@ pub length-over : (start width : ℕ) (xs part : List ℕ) → start + width ≤
 length-over start width xs part room long =
     omega (arith, room, long, length-append (take start xs) (part ++ drop width (drop start xs)), length-append part (drop width (drop start xs)), length-take-le start xs (omega (arith, room)), length-drop width (drop start xs), length-drop start xs)
 
--- a part that is turned round
+-- a rotated part
 abbrev pub rotated : ℕ → List ℕ → List ℕ
 rotated at part = drop at part ++ take at part
 
@@ -119,7 +119,7 @@ length-rotated at start width xs inside room =
     let long : length part ≡ width = length-take-le width (drop start xs) (omega (arith, room, length-drop start xs)) in
     omega (arith, inside, long, length-append (drop at part) (take at part), length-drop at part, length-take-le at part (omega (arith, long, inside)))
 
--- the bytes from a place on, of which some were turned to the front and left out
+-- The bytes from an offset on, after some were rotated to the front and dropped.
 pub turned : (start at count : ℕ) (xs : List ℕ) → start + (at + count) ≤ length xs
     → drop (start + count) (over start (at + count) xs (rotated at (take (at + count) (drop start xs)))) ≡ take at (drop start xs) ++ drop (at + count) (drop start xs)
 turned start at count xs room =
@@ -134,7 +134,7 @@ turned start at count xs room =
     ∙ drop_at (take start xs ++ gone) (kept ++ rest) (start + count) long
     ∙ ap (λ (text : List ℕ). text ++ rest) (take-take at (at + count) shown (omega arith))
 
--- the bytes from a place on, of which later ones were written over
+-- The bytes from an offset on, after later ones were written over.
 pub written : (start place width : ℕ) (xs part : List ℕ) → start + place ≤ length xs → drop start (over (start + place) width xs part) ≡ take place (drop start xs) ++ part ++ drop (place + width) (drop start xs)
 written start place width xs part room =
     let rest = drop width (drop (start + place) xs) in
@@ -144,7 +144,7 @@ written start place width xs part room =
     ∙ sym (append_assoc (take place (drop start xs)) part rest)
     ∙ ap (λ (text : List ℕ). take place (drop start xs) ++ part ++ text) same
 
--- the file of a store by its parts: the heading, the records before one, this one, and those after it
+-- The file of a store by its parts: the heading, the records before one, this one, and the records after it.
 module _ (id : ℕ) (bytes : List ℕ) (rs : List Stored) (place at count : ℕ) (kept : IsStore rs) (there : StandsAt id rs place) (is : slice_get (contents rs) place ≡ Some bytes) (starts : at ≡ 12 + length (front rs place)) (counts : count ≡ 12 + length bytes) where
   abbrev one : List ℕ
   one = record_bytes (record { id = id; bytes = bytes })
@@ -175,7 +175,7 @@ module _ (id : ℕ) (bytes : List ℕ) (rs : List Stored) (place at count : ℕ)
   pub cut_long : (old : List ℕ) → old ≡ store_bytes rs → 12 ≤ length (take at old ++ drop (at + count) old)
   cut_long old same = omega (arith, ap length (left old same), length-append head (front rs place ++ back rs place), length-heading (length rs))
 
-  -- the number of records is the one less
+  -- The number of records is one less.
   counted : (n : ℕ) (text : List ℕ) → take 8 (heading n ++ text) ++ u32_bytes (length rs - 1) ++ drop 12 (heading n ++ text) ≡ heading (length rs - 1) ++ text
   counted n text =
       ap (λ (magic : List ℕ). magic ++ u32_bytes (length rs - 1) ++ drop 12 (heading n ++ text))

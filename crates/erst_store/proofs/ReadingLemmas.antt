@@ -1,4 +1,4 @@
--- What is read is spelled so, and what is spelled so is read.
+-- A file that is read has this spelling, and a file with this spelling is read.
 use Rattle.std.proofs.Common.{◌≡◌, ℕ, zero, suc, ◌+◌, ◌-◌, ◌^◌, ◌<◌, ◌≤◌, Bool, true, false, cond, nat_eq, nat_lt, if◌then◌else◌, List, [], ◌∷◌, ◌++◌, length, take, drop, None, Some, ◌||◌, refl, sym, ap, subst, ◌∙◌, arith, append_assoc, add-one}
 use Rattle.std.specs.Prelude.{codes, slice_get, Result, Ok, Err, Option, map, not, ◌&&◌}
 use Rattle.std.specs.Option.{is_none}
@@ -84,7 +84,7 @@ u64_again n rest lt =
 
 -- ---- a record
 
--- a record was taken from the front, of an identifier of 64 bits and of bytes
+-- A record was read from the front: its identifier has 64 bits, and its bytes are below 256.
 abbrev TakesRecord : List ℕ → Stored × List ℕ → Type 0
 TakesRecord bytes x = Takes bytes (record_bytes x.0) x.1 × (x.0.id < 2 ^ 64) × AreBytes x.0.bytes
 
@@ -206,7 +206,7 @@ records_again before (r ∷ later) kept =
     ∙ records_again (before ++ r ∷ []) later (subst IsStore (sym moved) kept)
     ∙ ap (λ (rs : List Stored). let read : Result (List Stored) StoreRefused = Ok rs in read) moved
 
--- one record more, as a loop reads it
+-- One more record, as a loop reads it.
 pub goes_on : (count i : ℕ) (before new : List Stored) (bytes after : List ℕ) (r : Stored) (total : Result (List Stored) StoreRefused) → i < count → front_record bytes ≡ Ok (r, after) → with_next r before ≡ Ok new
     → records_at (count - i) before bytes ≡ total → records_at (count - (i + 1)) new after ≡ total
 unfolding records_at
@@ -285,18 +285,18 @@ is_read_back bytes (Err Malformed) records given kept is =
     let found : file_at bytes ≡ Ok records = ap file_at is ∙ file_again records kept in
     absurd cc
 
--- where the loop has ended with bytes left, or with none
+-- The loop has ended, with bytes left or without.
 pub is_left : (count i : ℕ) (before : List Stored) (bytes : List ℕ) (total : Result (List Stored) StoreRefused) → count ≤ i → nat_eq (length bytes) 0 ≡ false → records_at (count - i) before bytes ≡ total → total ≡ Err Malformed
 is_left count i before bytes total le left so_far = sym (is_done count i before bytes total le so_far) ∙ ap (λ b. if b then Ok before else Err Malformed) left
 
 pub is_all : (count i : ℕ) (before : List Stored) (bytes : List ℕ) (total : Result (List Stored) StoreRefused) → count ≤ i → nat_eq (length bytes) 0 ≡ true → records_at (count - i) before bytes ≡ total → total ≡ Ok before
 is_all count i before bytes total le none so_far = sym (is_done count i before bytes total le so_far) ∙ ap (λ b. if b then Ok before else Err Malformed) none
 
--- parts that were written one after the other
+-- Parts that were written one after the other.
 pub put_parts : (out a b c : List ℕ) → out ++ a ++ b ++ c ≡ out ++ (a ++ b ++ c)
 put_parts out a b c = ap (λ (front : List ℕ). front ++ c) (append_assoc out a b) ∙ append_assoc out (a ++ b) c
 
--- one record more, as a loop writes it
+-- One more record, as a loop writes it.
 next_suc : (rs : List Stored) (i id : ℕ) (bytes : List ℕ) → slice_get (ids rs) i ≡ Some id → slice_get (contents rs) i ≡ Some bytes
     → flat_map record_bytes (take (suc i) rs) ≡ flat_map record_bytes (take i rs) ++ record_bytes (record { id = id; bytes = bytes })
 next_suc [] i id bytes is_id is_bytes = absurd cc
@@ -320,7 +320,7 @@ next_bytes start rs i id bytes out new is_id is_bytes so_far pushed =
 pub heading-nil : (count : ℕ) → heading count ≡ heading count ++ flat_map record_bytes []
 heading-nil count = sym (append-nil (heading count))
 
--- a store's bytes after others, with none of its records yet, and with all
+-- A store's bytes after others, with none of its records yet, and with all.
 pub begun_after : (old : List ℕ) (count : ℕ) → (old ++ codes "RASERST1") ++ u32_bytes count ≡ (old ++ heading count) ++ flat_map record_bytes []
 begun_after old count =
     append_assoc old (codes "RASERST1") (u32_bytes count) ∙ sym (append-nil (old ++ heading count))

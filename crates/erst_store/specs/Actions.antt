@@ -1,5 +1,5 @@
--- The numbers of the device. Its actions are those of ACPI 6.5, section 18.5.1.1, "Serialization Actions". Where its
--- two registers and its range are is this project's own.
+-- The numbers of the device. Its actions are those of ACPI 6.5, section 18.5.1.1, "Serialization Actions". The
+-- addresses of its two registers and of its range are this project's own.
 use Rattle.std.specs.Prelude.{ℕ}
 
 abbrev pub begin_write_operation : ℕ

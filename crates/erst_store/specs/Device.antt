@@ -12,9 +12,9 @@ use Rattle.erst_store.specs.declared.device.CommandStatus.TheVariants.{Success, 
 use Rattle.erst_store.specs.Actions.{begin_write_operation, begin_read_operation, begin_clear_operation, end_operation, set_record_offset, execute_operation, check_busy_status, get_command_status, get_record_identifier, set_record_identifier, get_record_count, begin_dummy_write_operation, get_error_log_address_range, get_error_log_address_range_length, get_error_log_address_range_attributes, range_address, range_length, range_attributes}
 use Rattle.erst_store.specs.Store.{Stored, all_ones, is_reserved, ids, holds, bytes_under, with_record, without, is_full_for}
 
--- the store; the action and the value last written; the command begun, if any; the identifier and the offset set; the
--- status of the last command; how many busy answers are left; the index from which identifiers are listed; the bytes of
--- the error log address range; and how many busy answers a command costs
+-- the store; the action and the value last written; the command begun, if any; the identifier and the offset that were
+-- set; the status of the last command; how many busy answers are left; the index from which identifiers are listed;
+-- the bytes of the error log address range; and how many busy answers a command costs
 pub record Device : Type 0 where
   pub store : List Stored
   pub action : ℕ
@@ -110,7 +110,7 @@ length_place = 20
 abbrev pub id_place : ℕ
 id_place = 96
 
--- what the range has at the offset: a record's length, its identifier, and its bytes
+-- the length of the record in the range at the offset, and its identifier
 abbrev pub length_at : List ℕ → ℕ → ℕ
 length_at range offset = number_at (offset + length_place) 4 range
 
@@ -121,14 +121,14 @@ id_at range offset = number_at (offset + id_place) 8 range
 abbrev pub record_at : List ℕ → ℕ → List ℕ
 record_at range offset = take (length_at range offset) (drop offset range)
 
--- whether no whole record is in the range at the offset
+-- Whether no whole record is in the range at the offset.
 abbrev pub is_record_out : List ℕ → ℕ → Bool
 is_record_out range offset =
     nat_lt range_length (offset + header_length)
     || (nat_lt (length_at range offset) header_length
     || nat_lt range_length (offset + length_at range offset))
 
--- whether a record at the offset can't be written
+-- Whether a record at the offset can't be written.
 abbrev pub is_write_refused : Device → Bool
 is_write_refused d =
     is_record_out d.range d.offset
@@ -150,7 +150,7 @@ abbrev pub range_with_record : List ℕ → ℕ → List ℕ → List ℕ
 range_with_record range offset bytes =
     take offset range ++ bytes ++ replicate (range_length - (offset + length bytes)) 0
 
--- the device after a read, given the bytes of the record under the identifier, if there is one
+-- the device after a read, given the bytes of the record under the identifier, if any
 abbrev pub after_read_of : Device → Option (List ℕ) → Device
 after_read_of d None = record d { status = NotFound }
 after_read_of d (Some bytes) =
@@ -170,7 +170,7 @@ after_clear d =
     else (if holds d.id d.store then record d { store = without d.id d.store; cursor = 0; status = Success }
     else record d { status = NotFound })
 
--- the device after the command begun; without one, there is nothing to carry out
+-- The device after the command begun. Without a command, nothing is carried out.
 abbrev pub after_command : Option Command → Device → Device
 after_command (Some Write) d = after_write_command d
 after_command (Some Read) d = after_read d
@@ -184,11 +184,11 @@ after_command None d = record d { status = NotFound }
 abbrev pub busy_device : Device → Device
 busy_device d = record d { value = 0; busy = d.slow }
 
--- the command begun is carried out
+-- the device after EXECUTE_OPERATION carried out the command begun
 abbrev pub after_execute : Device → Device
 after_execute d = busy_device (after_command d.command d)
 
--- the answer is 1 while the device is busy, and each answer uses one up
+-- The result is 1 while the device is busy, and each such result uses up one busy answer.
 abbrev pub after_check : Device → Device
 after_check d = if nat_lt 0 d.busy then record d { value = 1; busy = d.busy - 1 } else record d { value = 0 }
 
@@ -201,7 +201,7 @@ after_id d None = record d { value = all_ones; cursor = 0 }
 abbrev pub after_listing : Device → Device
 after_listing d = after_id d (slice_get (ids d.store) d.cursor)
 
--- the actions that do something, each with what it does; 12 is reserved
+-- the actions that do something, each with its effect; 12 is reserved
 abbrev pub effects : List (ℕ × (Device → Device))
 effects =
     (begin_write_operation, λ d. record d { command = Some Write })
@@ -221,7 +221,7 @@ effects =
     ∷ (get_error_log_address_range_attributes, λ d. record d { value = range_attributes })
     ∷ []
 
--- the device after the action of this number, if it has a row; other actions do nothing
+-- The device after the action of this number, if it has a row. Other actions do nothing.
 abbrev pub effect_in : List (ℕ × (Device → Device)) → ℕ → Device → Device
 effect_in [] action d = d
 effect_in (row ∷ rows) action d = if nat_eq action row.0 then row.1 d else effect_in rows action d
@@ -232,7 +232,7 @@ act action d = record (effect_in effects action d) { action = action }
 
 -- ---- the calls of the board
 
--- a range after bytes were written from a place on
+-- a range after bytes were written from an offset on
 unfoldable pub range_with : ℕ → List ℕ → List ℕ → List ℕ
 range_with place bytes range = take place range ++ bytes ++ drop (place + length bytes) range
 

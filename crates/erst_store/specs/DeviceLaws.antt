@@ -1,4 +1,4 @@
--- What the device keeps, which actions change its store, and what a listing gives.
+-- Properties of every device, which actions change its store, and what a listing returns.
 use Rattle.std.specs.Prelude.{◌≡◌, ℕ, zero, suc, ◌-◌, ◌^◌, ◌+◌, ◌<◌, ◌⊎◌, List, [], ◌∷◌, length, Option, Some}
 use Rattle.ras_base.specs.LittleEndian.{AreBytes}
 use Rattle.erst_store.specs.declared.device.Command.{Command}
@@ -7,8 +7,8 @@ use Rattle.erst_store.specs.Store.{IsStore, all_ones}
 use Rattle.erst_store.specs.Actions.{execute_operation, get_record_identifier, range_length}
 use Rattle.erst_store.specs.Device.{Device, id_at, act}
 
--- A device as `Dev` keeps it: its store is a store, its range has its length and consists of bytes, and each of its
--- numbers has 64 bits.
+-- A device as `Dev` has it: its store is a store, its range has its length and its bytes are below 256, and each of
+-- its numbers has 64 bits.
 pub record IsDevice (d : Device) : Type 0 where
   pub store : IsStore d.store
   pub length : length d.range ≡ range_length
@@ -21,7 +21,7 @@ pub record IsDevice (d : Device) : Type 0 where
   pub cursor : d.cursor < 2 ^ 64
   pub slow : d.slow < 2 ^ 64
 
--- an action that may change the store: EXECUTE under a write or a clear
+-- An action may change the store: EXECUTE_OPERATION under a write or a clear.
 abbrev pub MayChange : ℕ → Device → Type 0
 MayChange action d = (action ≡ execute_operation) × ((d.command ≡ Some Write) ⊎ (d.command ≡ Some Clear))
 
@@ -41,10 +41,10 @@ abbrev pub after_listings : ℕ → Device → Device
 after_listings zero d = d
 after_listings (suc count) d = after_listings count (act get_record_identifier d)
 
--- how many GET_RECORD_IDENTIFIER it takes to come to the end of a listing, the all ones included
+-- how many GET_RECORD_IDENTIFIER it takes to reach the end of a listing, the all ones included
 abbrev pub left_to_list : Device → ℕ
 left_to_list d = length d.store - d.cursor + 1
 
--- a device whose listing has just ended: the next one starts from the first record
+-- A device whose listing has just ended. The next listing starts from the first record.
 abbrev pub listed_to_end : Device → Device
 listed_to_end d = record d { action = get_record_identifier; value = all_ones; cursor = 0 }

@@ -19,7 +19,7 @@ abbrev pub store_bytes : List Stored → List ℕ
 store_bytes records = heading (length records) ++ flat_map record_bytes records
 
 -- Two files differ by one record: the newer counts one record less and lacks the bytes of this record. All other bytes
--- stay as they are, in their order.
+-- are the same, in their order.
 pub record LacksRecord (r : Stored) (old new : List ℕ) : Type 0 where
   pub count : ℕ
   pub before : List ℕ
@@ -27,17 +27,17 @@ pub record LacksRecord (r : Stored) (old new : List ℕ) : Type 0 where
   pub old_is : old ≡ heading (count + 1) ++ before ++ record_bytes r ++ after
   pub new_is : new ≡ heading count ++ before ++ after
 
--- bytes that aren't a store file
+-- Bytes aren't a store file.
 abbrev pub IsNoStoreFile : List ℕ → Type 0
 IsNoStoreFile bytes = (records : List Stored) → IsStore records → ¬ (bytes ≡ store_bytes records)
 
--- A read returns the store whose bytes these are, or says that there is none, or runs out of memory.
+-- A read returns the store whose bytes these are, or reports that they aren't a store file, or runs out of memory.
 abbrev pub ReadsStore : List ℕ → Result (List Stored) StoreRefused → Type 0
 ReadsStore bytes (Ok records) = bytes ≡ store_bytes records
 ReadsStore bytes (Err Malformed) = IsNoStoreFile bytes
 ReadsStore bytes (Err NoMemory) = Unit {0}
 
--- What a read returns if the bytes are those of a store: this store, unless memory runs out.
+-- A read of a store's bytes returns this store, unless memory runs out.
 abbrev pub ReadsBack : List Stored → Result (List Stored) StoreRefused → Type 0
 ReadsBack records (Ok found) = found ≡ records
 ReadsBack records (Err Malformed) = ⊥

@@ -9,12 +9,12 @@ use Rattle.erst_store.specs.declared.reading.StoreRefused.{StoreRefused}
 use Rattle.erst_store.specs.declared.reading.StoreRefused.TheVariants.{Malformed, NoMemory}
 use Rattle.erst_store.specs.Store.{Stored, holds, refusal_of}
 
--- What a function returned is what reading gives, unless memory ran out.
+-- The error of a function is the error of reading, unless memory ran out.
 abbrev pub FailsStore : {Y : Type 0} → StoreRefused → Result Y StoreRefused → Type 0
 FailsStore Malformed read = read ≡ Err Malformed
 FailsStore NoMemory read = Unit {0}
 
--- a function that succeeds returns what reading gives, seen by view
+-- A function returns this view of what reading gives, unless memory runs out.
 abbrev pub GivesStore : {X Y : Type 0} → (X → Y) → Result X StoreRefused → Result Y StoreRefused → Type 0
 GivesStore view (Ok x) read = read ≡ Ok (view x)
 GivesStore view (Err e) read = FailsStore e read
@@ -31,7 +31,7 @@ front_record bytes = do
   n ← front_number 4 id.1
   if nat_lt (length n.1) n.0 then Err Malformed else Ok (record { id = id.0; bytes = take n.0 n.1 }, drop n.0 n.1)
 
--- whether a record may come after these
+-- Whether a record may come after these.
 abbrev pub may_follow : Stored → List Stored → Bool
 may_follow r before = not (holds r.id before) && is_none (refusal_of r.id r.bytes before)
 
@@ -39,7 +39,7 @@ may_follow r before = not (holds r.id before) && is_none (refusal_of r.id r.byte
 abbrev pub with_next : Stored → List Stored → Result (List Stored) StoreRefused
 with_next r before = if may_follow r before then Ok (before ++ r ∷ []) else Err Malformed
 
--- n records and nothing after them, after those that were read before
+-- n records and nothing after them, after the records that were read before
 unfoldable pub records_at : ℕ → List Stored → List ℕ → Result (List Stored) StoreRefused
 records_at zero before bytes = if nat_eq (length bytes) 0 then Ok before else Err Malformed
 records_at (suc count) before bytes = do

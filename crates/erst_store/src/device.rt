@@ -37,20 +37,20 @@ const NO_RECORD: u64 = u64::MAX;
 /// A command that EXECUTE carries out.
 #[derive(Clone, Copy, Debug, PartialEq, Eq)]
 pub enum Command {
-    /// The record in the range is put into the store.
+    /// Puts the record in the range into the store.
     Write,
-    /// A record is copied into the range.
+    /// Copies a record into the range.
     Read,
-    /// A record is removed.
+    /// Removes a record.
     Clear,
-    /// Nothing is done, with success.
+    /// Does nothing, with success.
     Dummy,
 }
 
-/// How the last command went (ACPI 6.5, 18.5.1.1).
+/// How the last command ended (ACPI 6.5, 18.5.1.1).
 #[derive(Clone, Copy, Debug, PartialEq, Eq)]
 pub enum CommandStatus {
-    /// 0: it was carried out.
+    /// 0: the command was carried out.
     Success,
     /// 1: the record doesn't fit into the range or the store, or it isn't a record.
     NotEnoughSpace,
@@ -61,7 +61,7 @@ pub enum CommandStatus {
 }
 
 impl CommandStatus {
-    // The number of a status (ACPI 6.5, 18.5.1.1).
+    // Returns the number of a status (ACPI 6.5, 18.5.1.1).
     fn number(self) -> u64
         ensures { result ≡ status_number self }
     {
@@ -160,7 +160,7 @@ impl Dev {
         })
     }
 
-    /// Writes a number to the Action register, and so does the action of that number (ACPI 6.5,
+    /// Writes a number to the Action register, which does the action of that number (ACPI 6.5,
     /// 18.5.1.1).
     ///
     /// `NoMemory`: only at EXECUTE_OPERATION under a write command; the device is then unchanged.
@@ -258,7 +258,7 @@ impl Dev {
         &self.store
     }
 
-    /// Returns the store behind the device, and gives up the device.
+    /// Consumes the device, and returns the store behind it.
     pub fn into_store(self) -> Store
         ensures { result ≡ self.store }
     {
@@ -306,7 +306,7 @@ impl Dev {
         }
     }
 
-    // Answers whether the device is busy, and uses up one busy answer.
+    // Sets Value to whether the device is busy, and uses up one busy answer.
     fn check_busy(&mut self)
         ensures { self.new ≡ after_check self.old }
     {
@@ -344,7 +344,7 @@ impl Dev {
         Ok(())
     }
 
-    // Notes how a command went, which makes the device busy.
+    // Records how a command ended, which makes the device busy.
     fn end_command(&mut self, status: CommandStatus)
         ensures { self.new ≡ record (busy_device (record self.old { status = status })) {
           action = execute_operation;
@@ -423,7 +423,7 @@ impl Dev {
     }
 }
 
-// Copies bytes into the range from a place on, and fills it with zeros after them.
+// Copies bytes into the range from an offset on, and fills it with zeros after them.
 fn fill_range(range: &mut [u8], start: usize, bytes: &[u8])
     requires range { length range.old ≡ range_length }
     requires room { start + length bytes.now ≤ range_length }
@@ -434,7 +434,8 @@ fn fill_range(range: &mut [u8], start: usize, bytes: &[u8])
     range[end..].fill(0);
 }
 
-// The identifier and the bytes of the record in the range at an offset, if a whole record is there.
+// Returns the identifier and the bytes of the record in the range at an offset, if a whole record
+// is there.
 #[tactic(auto, using(crate::proofs::DeviceLemmas::out_far))]
 fn record_in(range: &[u8], offset: u64) -> Option<(u64, &[u8])>
     requires { length range.now ≡ range_length }

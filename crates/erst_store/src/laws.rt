@@ -1,4 +1,4 @@
-//! What the device's actions and a store's file keep, in words that don't follow the code.
+//! Laws of the device's actions and of a store's file, stated without following the code.
 ghost use Rattle.std.specs.Prelude.{◌≡◌, ◌≢◌, ℕ, ◌+◌, ◌^◌, ◌<◌, ◌≤◌, ◌++◌, [], ◌∷◌, List, false, length, drop, None, Some, Ok};
 ghost use Rattle.ras_base.specs.LittleEndian.{AreBytes, number_at};
 ghost use Rattle.erst_store.specs.Actions.{execute_operation, check_busy_status, get_command_status, get_record_identifier, get_record_count, range_length};
@@ -19,11 +19,11 @@ pub fn action_laws()
     ensures one { (action : ℕ) (d : Device)
         → SameBut (id_changed d.command d) d.store (act action d).store }
 
-    // EXECUTE forgets the Value register.
+    // EXECUTE drops the Value register.
     ensures forgets { (value : ℕ) (d : Device)
         → act execute_operation (record d { value = value }) ≡ act execute_operation d }
 
-    // What the actions that return something put into Value.
+    // The actions that return something put it into Value.
     ensures busy { (d : Device) → (act check_busy_status d).value < 2 }
     ensures status { (d : Device) → (act get_command_status d).value < 2 ^ 8 }
     ensures id { (d : Device) → IsDevice d → (act get_record_identifier d).value < 2 ^ 64 }
@@ -62,21 +62,21 @@ pub fn file_laws()
     // Whatever bytes are read, the result is a store, which is empty if they aren't a store file.
     ensures store { (bytes : List ℕ) → AreBytes bytes → IsStore (store_at bytes) }
     // The file of a store without one of its records counts one record less and lacks that record's
-    // bytes. All other bytes stay as they are, in their order.
+    // bytes. All other bytes are the same, in their order.
     ensures less { (id : ℕ) (bytes : List ℕ) (records : List Stored) → IsStore records
         → bytes_under id records ≡ Some bytes
         → LacksRecord (record { id = id; bytes = bytes }) (store_bytes records)
         (store_bytes (without id records)) }
 {}
 
-/// The numbers that bound a store and its device.
+/// The numbers that limit a store and its device.
 pub fn numbers_in_digits()
     ensures records { MOST_RECORDS ≡ 1_024 }
     ensures bytes { MOST_BYTES ≡ 16_384 }
     ensures range { RANGE_LENGTH ≡ 16_384 }
 {}
 
-/// What is done to a device leaves a device.
+/// Every call on a device leaves a device.
 pub fn device_laws()
     ensures new { (store : List Stored) (slow : ℕ) → IsStore store → slow < 2 ^ 64
         → IsDevice (new_device store slow) }

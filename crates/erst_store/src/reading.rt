@@ -1,4 +1,4 @@
-//! The store file: a store as bytes, and bytes as a store.
+//! Converts a store to the bytes of its file, and back.
 ghost use Rattle.std.specs.Prelude.{◌≡◌, ◌≤◌, List, [], ◌++◌, length, IfOk, OnOk};
 ghost use Rattle.erst_store.specs.Store.{Stored, IsStore};
 ghost use Rattle.erst_store.specs.StoreFile.{record_bytes, store_bytes, ReadsStore, ReadsBack};
@@ -24,7 +24,7 @@ pub enum StoreRefused {
 // The first bytes of a store file.
 pub(crate) const MAGIC: &[u8; 8] = b"RASERST1";
 
-// How many bytes come before all records, and before the bytes of each.
+// How many bytes come before all records, and before the bytes of each record.
 pub(crate) const HEADING_LENGTH: usize = 12;
 
 pub(crate) const RECORD_HEADING_LENGTH: usize = 12;
@@ -95,7 +95,7 @@ impl Store {
     }
 }
 
-// Adds a record: its identifier, its length and its bytes.
+// Appends a record: its identifier, its length and its bytes.
 fn push_record(out: &mut Vec<u8>, id: u64, bytes: &[u8]) -> Result<(), NoMemory>
     requires { length bytes.now ≤ 16384 }
     ensures { OnOk result (out.new.items ≡ out.old.items ++ record_bytes
@@ -107,7 +107,7 @@ fn push_record(out: &mut Vec<u8>, id: u64, bytes: &[u8]) -> Result<(), NoMemory>
     Ok(())
 }
 
-// The number in the first 4 bytes, and the bytes after it.
+// Returns the number in the first 4 bytes, and the bytes after it.
 fn front_u32(bytes: &[u8]) -> Result<(u32, &[u8]), StoreRefused>
     ensures { GivesStore (λ x. (x.0, x.1.now)) result (front_number 4 bytes.now) }
 {
@@ -118,7 +118,7 @@ fn front_u32(bytes: &[u8]) -> Result<(u32, &[u8]), StoreRefused>
     Ok((u32_at(bytes, 0), rest))
 }
 
-// The number in the first 8 bytes, and the bytes after it.
+// Returns the number in the first 8 bytes, and the bytes after it.
 fn front_u64(bytes: &[u8]) -> Result<(u64, &[u8]), StoreRefused>
     ensures { GivesStore (λ x. (x.0, x.1.now)) result (front_number 8 bytes.now) }
 {
@@ -129,7 +129,7 @@ fn front_u64(bytes: &[u8]) -> Result<(u64, &[u8]), StoreRefused>
     Ok((u64_at(bytes, 0), rest))
 }
 
-// The number of records that a file states, and the bytes after it.
+// Returns the number of records that a file states, and the bytes after it.
 #[tactic(auto, unfolding(crate::specs::StoreReading::count_at))]
 fn count_of(bytes: &[u8]) -> Result<(u32, &[u8]), StoreRefused>
     ensures { GivesStore (λ x. (x.0, x.1.now)) result (count_at bytes.now) }
@@ -140,7 +140,7 @@ fn count_of(bytes: &[u8]) -> Result<(u32, &[u8]), StoreRefused>
     }
 }
 
-// The first record of these bytes, and the bytes after it.
+// Returns the first record of these bytes, and the bytes after it.
 #[tactic(auto, unfolding(crate::specs::StoreReading::front_record))]
 fn front_record(bytes: &[u8]) -> Result<(u64, &[u8], &[u8]), StoreRefused>
     ensures { GivesStore (λ x. (record { id = x.0; bytes = x.1.now }, x.2.now)) result (front_record bytes.now) }
@@ -155,7 +155,7 @@ fn front_record(bytes: &[u8]) -> Result<(u64, &[u8], &[u8]), StoreRefused>
     Ok((id, content, rest))
 }
 
-// The store of this many records, which take up all of these bytes.
+// Returns the store of this many records, which take up all of these bytes.
 fn records_of(alloc: Global, count: u32, bytes: &[u8]) -> Result<Store, StoreRefused>
     ensures { GivesStore (λ s. s) result (records_at count [] bytes.now) }
 {
@@ -172,7 +172,7 @@ fn records_of(alloc: Global, count: u32, bytes: &[u8]) -> Result<Store, StoreRef
     Ok(store)
 }
 
-// The store whose file these bytes are, all of them.
+// Returns the store whose file these bytes are, all of them.
 #[tactic(auto, unfolding(crate::specs::StoreReading::file_at))]
 fn read_all(alloc: Global, bytes: &[u8]) -> Result<Store, StoreRefused>
     ensures { GivesStore (λ s. s) result (file_at bytes.now) }

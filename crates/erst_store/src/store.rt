@@ -51,8 +51,8 @@ struct Record {
     bytes: Vec<u8>,
 }
 
-/// Error records, each under its own identifier, in the order in which their identifiers first
-/// came.
+/// Error records, each under its own identifier, in the order in which their identifiers were first
+/// stored.
 #[derive(Drop)]
 pub struct Store {
     alloc: Global,
@@ -157,7 +157,7 @@ impl Store {
         &self.records[i].bytes
     }
 
-    // The index of the record under an identifier.
+    // Returns the index of the record under an identifier.
     pub(crate) fn place(&self, id: u64) -> Option<usize>
         ensures place { Places id self.now result }
         ensures kept { IsStore self.now }
@@ -165,14 +165,14 @@ impl Store {
         place_of(&self.records, id)
     }
 
-    // Whether the store is empty.
+    // Returns whether the store is empty.
     pub(crate) fn is_empty(&self) -> bool
         ensures { result ≡ nat_eq (length self.now) 0 }
     {
         self.len() == 0
     }
 
-    // The bytes under an identifier.
+    // Returns the bytes under an identifier.
     pub(crate) fn find(&self, id: u64) -> Option<&[u8]>
         ensures { Finds id self.now (option_map (λ bytes. bytes.now) result) }
     {
@@ -199,7 +199,7 @@ impl Store {
         }
     }
 
-    // Removes the record at the place of its identifier.
+    // Removes the record at the index of its identifier.
     fn remove_at(&mut self, id: u64, place: usize)
         requires { StandsAt id self.old place }
         ensures rest { self.new ≡ without id self.old }
@@ -236,7 +236,7 @@ impl Store {
     }
 }
 
-// A copy of the records.
+// Returns a copy of the records.
 fn copies(alloc: Global, records: &[Record]) -> Result<Vec<Record>, NoMemory>
     ensures { IfOk result (λ copied. views copied.items ≡ views records.now) }
 {
@@ -251,7 +251,7 @@ fn copies(alloc: Global, records: &[Record]) -> Result<Vec<Record>, NoMemory>
     Ok(copied)
 }
 
-// The index of the record under an identifier.
+// Returns the index of the record under an identifier.
 fn place_of(records: &[Record], id: u64) -> Option<usize>
     ensures { result ≡ position (λ r. nat_eq r.id id) records.now }
 {

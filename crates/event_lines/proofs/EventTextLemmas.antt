@@ -1,18 +1,20 @@
 -- The text of an event is whole lines, and there is one.
-use Rattle.std.proofs.Common.{◌≡◌, ℕ, ◌+◌, Bool, true, false, List, [], ◌∷◌, ◌++◌, refl, Option, None, Some}
+use Rattle.std.proofs.Common.{◌≡◌, ℕ, ◌+◌, Bool, true, false, List, [], ◌∷◌, ◌++◌, refl, sym, ap, ◌∙◌, Option, None, Some}
 use Rattle.std.specs.Option.{option_map_or}
 use Rattle.block_lines.specs.Filter.{BlockProgress}
 use Rattle.block_lines.specs.Reports.{Reporting}
 use Rattle.block_lines.specs.Texts.{source_block_text, table_text, unread_report_line}
 use Rattle.block_lines.specs.Whole.{AreWholeLines}
 use Rattle.block_lines.proofs.WholeLemmas.{blocks_whole, ends, source_block_whole, source_line}
-use Rattle.event_lines.specs.Events.{is_there, tells_event}
-use Rattle.event_lines.specs.Filter.{event_block, event_text_by, memory_block, report_text_at, section_block_of, section_event_text}
+use Rattle.event_lines.specs.Driver.{any_event_of}
+use Rattle.event_lines.specs.Events.{is_there, tells_any, tells_event}
+use Rattle.event_lines.specs.Filter.{event_block, event_text_by, memory_block, section_block_of, section_event_text}
 use Rattle.event_lines.specs.Traced.{line_event_of}
 use Rattle.event_lines.specs.declared.filter.TheConstants.{TRACE_SOURCE}
 use Rattle.event_lines.specs.declared.traced.FoundSection.{FoundSection}
 use Rattle.event_lines.specs.declared.traced.LineEvent.{LineEvent}
 use Rattle.event_lines.specs.declared.traced.LineEvent.TheVariants.{Absent, Found, Memory, Section, Unread}
+use Rattle.event_lines.proofs.NameLemmas.{still_there}
 
 -- ---- whole lines
 
@@ -21,15 +23,12 @@ section_whole : (p : BlockProgress) (found : FoundSection) (made : Option (List 
 section_whole p found None = ends (unread_report_line (p.taken + 1))
 section_whole p found (Some block) = source_block_whole p.reports TRACE_SOURCE found.stamp block
 
-event_whole : (p : BlockProgress) (line : List ℕ) (event : LineEvent) → AreWholeLines (event_text_by p line event)
+pub event_whole : (p : BlockProgress) (line : List ℕ) (event : LineEvent) → AreWholeLines (event_text_by p line event)
 event_whole p line Absent = blocks_whole None p.reports (p.taken + 1) line
 event_whole p line Unread = ends (unread_report_line (p.taken + 1))
 event_whole p line (Found found) = source_block_whole p.reports TRACE_SOURCE found.stamp (event_block found.event)
 event_whole p line (Section found) = section_whole p found (section_block_of found line)
 event_whole p line (Memory found) = source_block_whole p.reports TRACE_SOURCE found.stamp (memory_block found.error)
-
-pub text_whole : (p : BlockProgress) (line : List ℕ) → AreWholeLines (report_text_at p line)
-text_whole p line = event_whole p line (line_event_of line)
 
 -- ---- a text
 
@@ -56,12 +55,24 @@ section_said : (p : BlockProgress) (found : FoundSection) (made : Option (List �
 section_said p found None = said_after (unread_report_line (p.taken + 1)) 10 []
 section_said p found (Some block) = block_said p.reports TRACE_SOURCE found.stamp block
 
-event_said : (p : BlockProgress) (line : List ℕ) (event : LineEvent) → is_there event ≡ true → IsSaid (event_text_by p line event)
+pub event_said : (p : BlockProgress) (line : List ℕ) (event : LineEvent) → is_there event ≡ true → IsSaid (event_text_by p line event)
 event_said p line Absent there = absurd cc
 event_said p line Unread there = said_after (unread_report_line (p.taken + 1)) 10 []
 event_said p line (Found found) there = block_said p.reports TRACE_SOURCE found.stamp (event_block found.event)
 event_said p line (Section found) there = section_said p found (section_block_of found line)
 event_said p line (Memory found) there = block_said p.reports TRACE_SOURCE found.stamp (memory_block found.error)
 
-pub text_said : (p : BlockProgress) (line : List ℕ) → tells_event line ≡ true → IsSaid (report_text_at p line)
-text_said p line there = event_said p line (line_event_of line) there
+-- ---- with the drivers' events
+
+is_event : (event : LineEvent) → ¬ (event ≡ Absent) → is_there event ≡ true
+is_event Absent some = absurd (some refl)
+is_event Unread some = refl
+is_event (Found found) some = refl
+is_event (Section found) some = refl
+is_event (Memory found) some = refl
+
+pub told_any : (drivers : Bool) (line : List ℕ) → tells_event line ≡ true → tells_any drivers line ≡ true
+told_any drivers line tells = is_event (any_event_of drivers line) (still_there drivers line some)
+  where
+    some : ¬ (line_event_of line ≡ Absent)
+    some absent = let wrong : false ≡ true = sym (ap is_there absent) ∙ tells in cc

@@ -7,20 +7,20 @@ use Rattle.block_lines.specs.Filter.{BlockProgress, block_answers, rest_after}
 use Rattle.block_lines.specs.LogLines.{report_log_line}
 use Rattle.block_lines.specs.Reports.{Reporting, reporting_after}
 use Rattle.block_lines.specs.Texts.{blocks_text_at}
-use Rattle.event_lines.specs.Filter.{after_by, after_event, after_line, report_answers, report_rest, report_text_at, section_block_of, event_text_by}
+use Rattle.event_lines.specs.Filter.{after_by, after_event, after_line, report_answers, report_rest, section_block_of, event_text_by}
 use Rattle.event_lines.specs.Traced.{line_event_of}
 use Rattle.event_lines.specs.declared.traced.LineEvent.{LineEvent}
 use Rattle.event_lines.specs.declared.traced.LineEvent.TheVariants.{Absent, Found, Memory, Section, Unread}
 
-pub absent_text : {A E : Type 0} (result : Result A E) (p : BlockProgress) (line old new : List ℕ) → line_event_of line ≡ Absent
-    → OnOk result (new ≡ old ++ blocks_text_at p.reports (p.taken + 1) (report_log_line line)) → OnOk result (new ≡ old ++ report_text_at p line)
-absent_text (Ok done) p line old new is told = told ∙ ap (λ (event : LineEvent). old ++ event_text_by p line event) (sym is)
-absent_text (Err why) p line old new is told = tt
+pub absent_text : {A E : Type 0} (result : Result A E) (p : BlockProgress) (line old new : List ℕ) (event : LineEvent) → event ≡ Absent
+    → OnOk result (new ≡ old ++ blocks_text_at p.reports (p.taken + 1) (report_log_line line)) → OnOk result (new ≡ old ++ event_text_by p line event)
+absent_text (Ok done) p line old new event is told = told ∙ ap (λ (event : LineEvent). old ++ event_text_by p line event) (sym is)
+absent_text (Err why) p line old new event is told = tt
 
-pub absent_after : {A E : Type 0} (result : Result A E) (p new : BlockProgress) (line : List ℕ) → line_event_of line ≡ Absent
-    → OnOk result (new ≡ record { reports = reporting_after p.reports (report_log_line line); taken = p.taken + 1 }) → OnOk result (new ≡ after_line p line)
-absent_after (Ok done) p new line is told = told ∙ ap (after_by p line) (sym is)
-absent_after (Err why) p new line is told = tt
+pub absent_after : {A E : Type 0} (result : Result A E) (p new : BlockProgress) (line : List ℕ) (event : LineEvent) → event ≡ Absent
+    → OnOk result (new ≡ record { reports = reporting_after p.reports (report_log_line line); taken = p.taken + 1 }) → OnOk result (new ≡ after_by p line event)
+absent_after (Ok done) p new line event is told = told ∙ ap (after_by p line) (sym is)
+absent_after (Err why) p new line event is told = tt
 
 abbrev progress : ℕ → Reporting → BlockProgress
 progress taken r = record { reports = r; taken = taken }

@@ -10,6 +10,7 @@ mod PlaceLemmas
 mod PlacedLemmas
 mod KindLemmas
 mod MemoryLemmas
+mod DriverLemmas
 mod ExtlogLemmas
 mod LineLemmas
 mod NameLemmas

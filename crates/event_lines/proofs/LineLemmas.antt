@@ -19,15 +19,19 @@ use Rattle.bank_lines.specs.declared.stamp.TheConstants.{MOST_SECONDS}
 use Rattle.bank_lines.proofs.NumeralLemmas.{lack_both, literal_lacks}
 use Rattle.bank_lines.proofs.TraceHeadLemmas.{NoDash, clock_lacks, clock_reaches, counts, front_plain, last_behind, last_is, named_front, none_in_timed, stamp_read}
 use Rattle.event_lines.specs.Aer.{aer_event_of}
+use Rattle.event_lines.specs.Driver.{any_event_of, driver_behind, driver_error_of, driver_event, event_or, named_or_absent}
+use Rattle.event_lines.specs.DriverKernel.{IsDriver, PrintedDriver, driver_line, error_of_driver, printed_driver}
 use Rattle.event_lines.specs.Kernel.{IsEvent, PrintedAer, aer_line, aer_text, device_text, event_head, event_of, flags_text, header_text, ras_before, severity_text}
 use Rattle.event_lines.specs.Memory.{extlog_error_of}
 use Rattle.event_lines.specs.MemoryKernel.{IsExtlog, IsMemory, PrintedExtlog, PrintedMemory, error_of_extlog, error_of_memory, extlog_line, memory_line, printed_extlog, printed_memory}
 use Rattle.event_lines.specs.SectionEvent.{section_bytes_of, section_head_of}
 use Rattle.event_lines.specs.SectionKernel.{IsSection, PrintedSection, head_of_section, printed_section, raw_text, section_line}
 use Rattle.event_lines.specs.Traced.{clock_event, clock_place, controller_event, event_behind, event_or_unread, found_event, found_memory, found_section, line_event_of, named_text, stamp_at}
+use Rattle.event_lines.specs.declared.traced.FoundMemory.{FoundMemory}
 use Rattle.event_lines.specs.declared.traced.LineEvent.{LineEvent}
 use Rattle.event_lines.specs.declared.traced.LineEvent.TheVariants.{Absent, Found, Memory, Section}
 use Rattle.event_lines.proofs.AerLemmas.{device_lacks_space, text_read}
+use Rattle.event_lines.proofs.DriverLemmas.{driver_error_read, not_firmware}
 use Rattle.event_lines.proofs.ExtlogLemmas.{extlog_text_read}
 use Rattle.event_lines.proofs.MemoryLemmas.{controller_read}
 use Rattle.event_lines.proofs.PlaceLemmas.{no_space}
@@ -198,6 +202,20 @@ module _ (tracer : Tracer) (front : List ℕ) (seconds micros spaces : ℕ) (is 
       ∙ ap (event_or_unread line) (clocked ∙ read)
       ∙ kept
 
+  -- a driver's event is found, if no other event is there
+  driven : driver_event line ≡ driver_behind (Some (1000000 * seconds + micros)) text
+  driven =
+      ap (λ (o : Option ℕ). option_map_or (λ place. driver_behind (stamp_at place line) (named_text place line)) o Absent) place_is
+      ∙ ap (λ (o : Option ℕ). driver_behind o (named_text (length timed) line)) stamp_is
+      ∙ ap (driver_behind (Some (1000000 * seconds + micros))) named_is
+
+  pub driver_at : (found : FoundMemory) → event_behind (Some (1000000 * seconds + micros)) text ≡ Absent
+      → driver_behind (Some (1000000 * seconds + micros)) text ≡ Memory found → any_event_of true whole ≡ Memory found
+  driver_at found none read =
+      ap (λ (text : List ℕ). event_or (clock_event text) (event_or (driver_event text) (named_or_absent text))) unnamed_is
+      ∙ ap (λ (event : LineEvent). event_or event (event_or (driver_event line) (named_or_absent line))) (clocked ∙ none)
+      ∙ ap (λ (event : LineEvent). event_or event (named_or_absent line)) (driven ∙ read)
+
 -- ---- PCI Express errors
 
 module _ (tracer : Tracer) (front : List ℕ) (seconds micros spaces more : ℕ) (p : PrintedAer)
@@ -296,3 +314,25 @@ module _ (tracer : Tracer) (front : List ℕ) (seconds micros spaces more : ℕ)
       (ap (λ (text : List ℕ). found_memory (Some (1000000 * seconds + micros)) (extlog_error_of text)) (all_passed more (printed_extlog p))
       ∙ ap (found_memory (Some (1000000 * seconds + micros))) (extlog_text_read p within))
       refl
+
+-- ---- memory errors that a driver decoded
+
+module _ (tracer : Tracer) (front : List ℕ) (seconds micros spaces more : ℕ) (p : PrintedDriver)
+    (is : IsFront front seconds micros) (within : IsDriver p) where
+  abbrev driver_named : List ℕ
+  driver_named = codes "mc_event: " ++ (replicate more 32 ++ printed_driver p)
+
+  driver_begins : (t : Tracer) → without_system (without_spaces (ras_before t ++ driver_named)) ≡ driver_named
+  driver_begins trace_pipe = refl
+  driver_begins trace_cmd = refl
+  driver_begins perf = refl
+
+  pub driver_read : any_event_of true (driver_line (event_head tracer front seconds micros spaces) more p)
+      ≡ Memory (record { stamp = 1000000 * seconds + micros; error = error_of_driver p })
+  driver_read =
+      let stamp : Option ℕ = Some (1000000 * seconds + micros) in
+      driver_at tracer front seconds micros spaces is (codes "mc_event: ") (replicate more 32 ++ printed_driver p)
+      (literal_lacks 45 (codes "mc_event: ") refl) (omega arith) driver_begins (record { stamp = 1000000 * seconds + micros; error = error_of_driver p })
+      (ap (controller_event stamp) (all_passed more (printed_driver p)) ∙ not_firmware p within stamp)
+      (ap (λ (text : List ℕ). found_memory stamp (driver_error_of text)) (all_passed more (printed_driver p))
+      ∙ ap (found_memory stamp) (driver_error_read p within))

@@ -54,7 +54,7 @@ negated : (b : Bool) → not b ≡ true → b ≡ false
 negated true is = absurd cc
 negated false is = refl
 
-abbrev mask_of_bits : ℕ → Option ℕ
+abbrev pub mask_of_bits : ℕ → Option ℕ
 mask_of_bits bits = if bits == 0 then None else Some (2 ^ 64 - 2 ^ bits)
 
 abbrev last_word : List ℕ
@@ -93,7 +93,7 @@ module _ (bits : ℕ) (small : bits < 32) where
   rest_fine : (masked && lacking) ≡ true
   rest_fine = and_right (is_word bits) (masked && lacking) fine
 
-  grain_read : grain_of (grain_text bits) ≡ Some (2 ^ bits)
+  pub grain_read : grain_of (grain_text bits) ≡ Some (2 ^ bits)
   grain_read = by (bits == 31) refl (and_left (is_word bits) (masked && lacking) fine)
     where
       by : (last : Bool) → (bits == 31) ≡ last
@@ -111,10 +111,10 @@ module _ (bits : ℕ) (small : bits < 32) where
           ∙ ap (λ (o : Option ℕ). read_then o (λ grain. provided (is_power_of_two grain) (Some grain))) read
           ∙ ap (λ (holds : Bool). provided holds (Some (2 ^ bits))) power
 
-  mask_read : grain_mask (2 ^ bits) ≡ mask_of_bits bits
+  pub mask_read : grain_mask (2 ^ bits) ≡ mask_of_bits bits
   mask_read = mask_is (grain_mask (2 ^ bits)) (mask_of_bits bits) (and_left masked lacking rest_fine)
 
-  grain_lacks : Lacks 32 (grain_text bits) × Lacks 40 (grain_text bits)
+  pub grain_lacks : Lacks 32 (grain_text bits) × Lacks 40 (grain_text bits)
   grain_lacks =
       let both : lacking ≡ true = and_right masked lacking rest_fine in (
         literal_lacks 32 (grain_text bits) (and_left (lacks_it 32 (grain_text bits)) (lacks_it 40 (grain_text bits)) both),
@@ -123,14 +123,14 @@ module _ (bits : ℕ) (small : bits < 32) where
 
 -- ---- the severity
 
-severity_read : (severity : ℕ) → severity < 4 → type_severity (severity_name severity) ≡ severity
+pub severity_read : (severity : ℕ) → severity < 4 → type_severity (severity_name severity) ≡ severity
 severity_read zero small = refl
 severity_read (suc zero) small = refl
 severity_read (suc (suc zero)) small = refl
 severity_read (suc (suc (suc zero))) small = refl
 severity_read (suc (suc (suc (suc n)))) small = absurd (omega arith)
 
-severity_lacks : (severity : ℕ) → severity < 4 → Lacks 32 (severity_name severity)
+pub severity_lacks : (severity : ℕ) → severity < 4 → Lacks 32 (severity_name severity)
 severity_lacks zero small = literal_lacks 32 (codes "Uncorrected") refl
 severity_lacks (suc zero) small = literal_lacks 32 (codes "Fatal") refl
 severity_lacks (suc (suc zero)) small = literal_lacks 32 (codes "Corrected") refl
@@ -139,11 +139,11 @@ severity_lacks (suc (suc (suc (suc n)))) small = absurd (omega arith)
 
 -- ---- the address
 
-address_small : (o : Option ℕ) → IfSome o (λ n. (0 < n) × (n < 2 ^ 64)) → unwrap_or o 0 < 2 ^ 64
+pub address_small : (o : Option ℕ) → IfSome o (λ n. (0 < n) × (n < 2 ^ 64)) → unwrap_or o 0 < 2 ^ 64
 address_small None is = omega arith
 address_small (Some n) is = is.1
 
-address_read : (o : Option ℕ) → IfSome o (λ n. (0 < n) × (n < 2 ^ 64)) → address_told (unwrap_or o 0) ≡ o
+pub address_read : (o : Option ℕ) → IfSome o (λ n. (0 < n) × (n < 2 ^ 64)) → address_told (unwrap_or o 0) ≡ o
 address_read None is = refl
 address_read (Some n) is =
     let above : 0 < n = is.0 in
@@ -165,7 +165,7 @@ number_none name (Some n) more lacks small none =
 
 -- ---- what is in the parentheses
 
-controller_at : (front controller : List ℕ) → behind_controller controller ≡ None
+pub controller_at : (front controller : List ℕ) → behind_controller controller ≡ None
     → controller_of ((front ++ (codes " (mc:" ++ controller)) ++ codes ")") ≡ Some controller
 controller_at front controller none =
     ap (λ (o : Option (List ℕ)). read_then o behind_controller) (last_cut 41 (front ++ (codes " (mc:" ++ controller)))
@@ -218,7 +218,7 @@ cut_event stamp text is = rw is refl
 
 -- ---- what is read, part by part
 
-controller_so : (text controller places told message digits word : List ℕ) (address grain severity : ℕ) (physical mask kind : Option ℕ) (location : ErrorLocation)
+pub controller_so : (text controller places told message digits word : List ℕ) (address grain severity : ℕ) (physical mask kind : Option ℕ) (location : ErrorLocation)
     → value_after (codes "1 ") text ≡ Some told → value_after (codes "error: ") (after 32 told) ≡ Some message
     → value_after (codes "address:0x") (up_to 32 (addresses_in controller)) ≡ Some digits → hexadecimal_of digits ≡ Some address
     → value_after (codes "grain:") (up_to 32 (after 32 (addresses_in controller))) ≡ Some word → grain_of word ≡ Some grain

@@ -1,18 +1,20 @@
 -- An event's name after a clock is never skipped, and the name of a process in columns says nothing.
 use Rattle.std.proofs.Common.{◌≡◌, ℕ, zero, suc, ◌<◌, ◌≤◌, ◌==◌, ◌&&◌, ◌||◌, Bool, true, false, List, [], ◌∷◌, ◌++◌, codes, drop, length, nat_eq, refl, sym, subst, ap, ◌∙◌, arith, append_assoc, Option, Some, None, if◌then◌else◌}
-use Rattle.std.specs.Prelude.{is_some, replicate, slice_index}
+use Rattle.std.specs.Prelude.{is_some, replicate, slice_index, unwrap_or}
 use Rattle.std.specs.Char.{is_digit}
 use Rattle.std.specs.List.{starts_with}
 use Rattle.std.specs.Option.{option_map_or, option_or}
+use Rattle.std.specs.Str.{bytes_eq}
 use Rattle.ras_script.proofs.LineAndWordLemmas.{split_between, split_lacking}
 use Rattle.ras_script.specs.SplittingLaws.{Lacks}
 use Rattle.bank_lines.specs.LogHeads.{mark_place}
-use Rattle.bank_lines.specs.Parts.{cut_at}
+use Rattle.bank_lines.specs.Parts.{cut_at, value_after}
 use Rattle.bank_lines.specs.Trace.{behind_name, is_count}
 use Rattle.bank_lines.specs.TraceHeads.{Tracer, clock, perf, trace_cmd, trace_pipe}
 use Rattle.bank_lines.specs.declared.stamp.TheConstants.{MOST_SECONDS}
 use Rattle.bank_lines.proofs.NumeralLemmas.{lack_both, literal_lacks}
 use Rattle.bank_lines.proofs.TraceHeadLemmas.{behind_columns, clock_lacks, counts, named_front}
+use Rattle.event_lines.specs.Driver.{any_event_of, driver_event, event_or, has_any_event, named_or_absent}
 use Rattle.event_lines.specs.Kernel.{EventKind, aer_kind, event_head, extlog_kind, kind_name, ras_before, section_kind}
 use Rattle.event_lines.specs.Memory.{behind_controller, firmware_mark}
 use Rattle.event_lines.specs.Traced.{clock_event, event_or_unread, has_event, has_name, shows_clock, is_event_name, is_firmware, line_event_of}
@@ -96,6 +98,21 @@ not_absent text Unread has is = let other : Unread ≡ Absent = is in cc
 not_absent text (Found found) has is = let other : Found found ≡ Absent = is in cc
 not_absent text (Section found) has is = let other : Section found ≡ Absent = is in cc
 not_absent text (Memory found) has is = let other : Memory found ≡ Absent = is in cc
+
+-- an event, or another, isn't absent if the other isn't
+either_there : (event other : LineEvent) → ¬ (other ≡ Absent) → ¬ (event_or event other ≡ Absent)
+either_there Absent other there is = there is
+either_there Unread other there is = let wrong : Unread ≡ Absent = is in cc
+either_there (Found found) other there is = let wrong : Found found ≡ Absent = is in cc
+either_there (Section found) other there is = let wrong : Section found ≡ Absent = is in cc
+either_there (Memory found) other there is = let wrong : Memory found ≡ Absent = is in cc
+
+named_there : (text : List ℕ) → has_any_event text ≡ true → ¬ (named_or_absent text ≡ Absent)
+named_there text has is = let wrong : Unread ≡ Absent = sym (ap (λ (b : Bool). if b then Unread else Absent) has) ∙ is in cc
+
+any_not_absent : (text : List ℕ) (event driver : LineEvent) → has_any_event text ≡ true → ¬ (event_or event (event_or driver (named_or_absent text)) ≡ Absent)
+any_not_absent text event driver has =
+    either_there event (event_or driver (named_or_absent text)) (either_there driver (named_or_absent text) (named_there text has))
 
 is_somewhere : (mark text : List ℕ) → Stands mark text → is_some (mark_place mark text) ≡ true
 is_somewhere mark text stands = ap is_some stands.is
@@ -184,6 +201,15 @@ module _ (tracer : Tracer) (front name text : List ℕ) (seconds micros spaces :
       (ap (λ (o : Option (List ℕ)). option_map_or (λ behind. is_some (mark_place firmware_mark behind)) o true) last
       ∙ some_is (mark_place firmware_mark inside) marked)
 
+  -- and whoever made it, if every driver's events are read
+  pub any_never_absent : is_event_name true whole_name ≡ true → ¬ (any_event_of true line ≡ Absent)
+  any_never_absent named =
+      let has : has_any_event unnamed ≡ true =
+      ap (λ (there : Bool). there && has_name true false (cut_at 32 unnamed)) (is_somewhere any_name unnamed any_there)
+      ∙ name_found true whole_name text joined named (behind_name front) seconds micros spaces most low in
+      λ is. any_not_absent unnamed (clock_event unnamed) (driver_event unnamed) has
+      (sym (ap (λ (text : List ℕ). event_or (clock_event text) (event_or (driver_event text) (named_or_absent text))) unnamed_is) ∙ is)
+
 -- ---- the events
 
 named_is : (kind : EventKind) (tracer : Tracer) (by_firmware : Bool) → is_event_name by_firmware (ras_before tracer ++ kind_name kind) ≡ true
@@ -234,3 +260,90 @@ pub names_say_nothing : (name other rest : List ℕ) → length name ≡ 16 → 
 names_say_nothing name other rest long other_long digit =
     ap (λ (text : List ℕ). event_or_unread text (clock_event text))
     (behind_columns name rest long digit ∙ sym (behind_columns other rest other_long digit))
+
+pub any_names_say_nothing : (drivers : Bool) (name other rest : List ℕ) → length name ≡ 16 → length other ≡ 16 → is_digit (slice_index rest 0) 10 ≡ true
+    → any_event_of drivers (name ++ 45 ∷ rest) ≡ any_event_of drivers (other ++ 45 ∷ rest)
+any_names_say_nothing false name other rest long other_long digit = names_say_nothing name other rest long other_long digit
+any_names_say_nothing true name other rest long other_long digit =
+    ap (λ (text : List ℕ). event_or (clock_event text) (event_or (driver_event text) (named_or_absent text)))
+    (behind_columns name rest long digit ∙ sym (behind_columns other rest other_long digit))
+
+-- ---- with the drivers' events
+
+pub driver_passed : (tracer : Tracer) (front text : List ℕ) (seconds micros spaces : ℕ) → seconds ≤ MOST_SECONDS → micros < 1000000
+    → ¬ (any_event_of true (event_head tracer front seconds micros spaces ++ (codes "mc_event:" ++ 32 ∷ text)) ≡ Absent)
+driver_passed tracer front text seconds micros spaces most low =
+    any_never_absent tracer front (codes "mc_event:") text seconds micros spaces most low
+    (literal_lacks 45 (codes "mc_event:") refl) (omega arith) (ras_joined tracer (codes "mc_event:") (literal_lacks 32 (codes "mc_event:") refl))
+    (record { place = 2; is = refl }) (controller_named tracer)
+
+-- a name that is found without the drivers' names is found with them
+or_more : (a b c d : Bool) → (a || (b || (c || false))) ≡ true → (a || (b || (c || d))) ≡ true
+or_more true b c d is = refl
+or_more false true c d is = refl
+or_more false false true d is = refl
+or_more false false false d is = absurd cc
+
+name_more : (word : List ℕ) → is_event_name false word ≡ true → is_event_name true word ≡ true
+name_more word is =
+    let name : List ℕ = unwrap_or (value_after (codes "ras:") word) word in
+    or_more (bytes_eq name (codes "aer_event:")) (bytes_eq name (codes "non_standard_event:")) (bytes_eq name (codes "extlog_mem_event:")) (bytes_eq name (codes "mc_event:")) is
+
+either_more : (first here more some all : Bool) → (here ≡ true → more ≡ true) → (some ≡ true → all ≡ true)
+    → ((first && here) || some) ≡ true → ((first && more) || all) ≡ true
+either_more false here more some all one other is = other is
+either_more true true more some all one other is = ap (λ (b : Bool). b || all) (one refl)
+either_more true false more some all one other is = ap (λ (b : Bool). more || b) (other is) ∙ or_true more
+
+all_named : (after : Bool) (words : List (List ℕ)) → has_name false after words ≡ true → has_name true after words ≡ true
+all_named after [] is = is
+all_named after (word ∷ words) is =
+    let next : Bool = shows_clock word || (after && (length word == 0)) in
+    either_more after (is_event_name false word) (is_event_name true word) (has_name false next words) (has_name true next words)
+    (name_more word) (all_named next words) is
+
+name_kept : (by_firmware : Bool) (words : List (List ℕ)) → has_name by_firmware false words ≡ true → has_name true false words ≡ true
+name_kept true words is = is
+name_kept false words is = all_named false words is
+
+event_kept : (text : List ℕ) → has_event text ≡ true → has_any_event text ≡ true
+event_kept text is = by (is_some (mark_place any_name text)) is
+  where
+    by : (there : Bool) → (there && has_name (is_firmware text) false (cut_at 32 text)) ≡ true → (there && has_name true false (cut_at 32 text)) ≡ true
+    by true is = name_kept (is_firmware text) (cut_at 32 text) is
+    by false is = absurd cc
+
+-- a line's event, given the event after its clock and whether its text has an event's name
+module _ (text : List ℕ) where
+  abbrev either : LineEvent → LineEvent
+  either event = event_or event (event_or (driver_event text) (named_or_absent text))
+
+  kept_there : (event : LineEvent) → ¬ (event_or_unread text event ≡ Absent) → ¬ (either event ≡ Absent)
+  kept_there Absent there = by (has_event text) refl there
+    where
+      by : (has : Bool) → has_event text ≡ has → ¬ ((if has then Unread else Absent) ≡ Absent) → ¬ (either Absent ≡ Absent)
+      by true has there = any_not_absent text Absent (driver_event text) (event_kept text has)
+      by false has there = absurd (there refl)
+  kept_there Unread there = there
+  kept_there (Found found) there = there
+  kept_there (Section found) there = there
+  kept_there (Memory found) there = there
+
+  kept_same : (event : LineEvent) → ¬ (event_or_unread text event ≡ Absent) → ¬ (event_or_unread text event ≡ Unread) → either event ≡ event_or_unread text event
+  kept_same Absent there read = by (has_event text) there read
+    where
+      by : (has : Bool) → ¬ ((if has then Unread else Absent) ≡ Absent) → ¬ ((if has then Unread else Absent) ≡ Unread) → either Absent ≡ (if has then Unread else Absent)
+      by true there read = absurd (read refl)
+      by false there read = absurd (there refl)
+  kept_same Unread there read = refl
+  kept_same (Found found) there read = refl
+  kept_same (Section found) there read = refl
+  kept_same (Memory found) there read = refl
+
+pub still_there : (drivers : Bool) (bytes : List ℕ) → ¬ (line_event_of bytes ≡ Absent) → ¬ (any_event_of drivers bytes ≡ Absent)
+still_there false bytes there = there
+still_there true bytes there = kept_there (behind_name bytes) (clock_event (behind_name bytes)) there
+
+pub still_same : (drivers : Bool) (bytes : List ℕ) → ¬ (line_event_of bytes ≡ Absent) → ¬ (line_event_of bytes ≡ Unread) → any_event_of drivers bytes ≡ line_event_of bytes
+still_same false bytes there read = refl
+still_same true bytes there read = kept_same (behind_name bytes) (clock_event (behind_name bytes)) there read

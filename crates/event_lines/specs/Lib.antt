@@ -4,9 +4,11 @@ pub mod PcieBytes
 pub mod SectionEvent
 pub mod Memory
 pub mod Traced
+pub mod Driver
 pub mod Filter
 pub mod Kernel
 pub mod SectionKernel
 pub mod MemoryKernel
+pub mod DriverKernel
 pub mod ReadBack
 pub mod Events

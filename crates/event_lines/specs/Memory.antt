@@ -70,13 +70,14 @@ whole_address_told address = if address == 2 ^ 64 - 1 then None else Some addres
 
 -- ---- `mc_event`
 
--- the severity of the whole report, by the kernel's name (`mc_event_error_type` of include/linux/edac.h); `Deferred`
--- and `Info` are 3
+-- The severity of the whole report, by the kernel's name (`mc_event_error_type` of include/linux/edac.h). A deferred
+-- error is uncorrectable, and its data isn't consumed yet (`enum hw_event_mc_err_type` there). `Info` is 3.
 abbrev pub type_severity : List ℕ → ℕ
 type_severity word =
     if bytes_eq word (codes "Corrected") then 2
     else if bytes_eq word (codes "Uncorrected") then 0
     else if bytes_eq word (codes "Fatal") then 1
+    else if bytes_eq word (codes "Deferred") then 0
     else 3
 
 -- the text after the first ` (mc:`

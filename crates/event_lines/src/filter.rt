@@ -3,16 +3,18 @@
 ghost use Rattle.std.specs.Prelude.{◌≡◌, ◌<◌, ◌≤◌, ◌++◌, IfOk, OnErr, OnOk};
 ghost use Rattle.std.specs.Option.{option_map};
 ghost use Rattle.bank_lines.specs.declared.log_line.TheConstants.{LAST_SECOND};
-ghost use Rattle.event_lines.specs.Filter.{after_event, after_line, event_text, memory_event_text, report_filter};
-ghost use Rattle.event_lines.specs.Filter.{after_by, event_text_by, report_text_at, reports_make, section_block_of};
+ghost use Rattle.event_lines.specs.Driver.{any_event_of};
+ghost use Rattle.event_lines.specs.Filter.{after_event, event_text, memory_event_text, report_filter};
+ghost use Rattle.event_lines.specs.Filter.{after_by, event_text_by, reports_make, section_block_of};
 ghost use Rattle.event_lines.specs.declared.traced.LineEvent.TheVariants.{Section};
 ghost use Rattle.line_filters.specs.declared.feeding.TheConstants.{MOST_INPUTS};
 ghost use Rattle.block_lines.specs.Reports.{no_reports, without_sources};
 ghost use Rattle.block_lines.specs.Texts.{rest_text};
 
+use crate::driver_event::any_event;
 use crate::pcie_bytes::{PCIE_TYPE, push_pcie_section};
 use crate::section_event::section_bytes;
-use crate::traced::{FoundEvent, FoundMemory, FoundSection, LineEvent, line_event};
+use crate::traced::{FoundEvent, FoundMemory, FoundSection, LineEvent};
 use apei_sources::read_block;
 use block_lines::{BlockFilter, push_error_block, push_section_block};
 use line_filters::LineFilter;
@@ -66,7 +68,8 @@ impl ReportFilter {
         self.log.begin_line(taken);
     }
 
-    /// Takes a line, and appends its text.
+    /// Takes a line, and appends its text. `drivers` says whether every driver's event of a memory
+    /// controller is a memory error, and not only the firmware's.
     ///
     /// # Errors
     ///
@@ -75,15 +78,17 @@ impl ReportFilter {
         &mut self,
         alloc: Global,
         line: &[u8],
+        drivers: bool,
         text: &mut Vec<u8>,
     ) -> Result<(), NoMemory>
         requires { self.old.taken < MOST_INPUTS }
         ensures text { OnOk result (text.new.items
-            ≡ text.old.items ++ report_text_at self.old line.now) }
-        ensures after { OnOk result (self.new ≡ after_line self.old line.now) }
+            ≡ text.old.items ++ event_text_by self.old line.now (any_event_of drivers line.now)) }
+        ensures after { OnOk result
+            (self.new ≡ after_by self.old line.now (any_event_of drivers line.now)) }
         ensures kept { OnErr result (self.new.taken ≡ self.old.taken) }
     {
-        match line_event(line) {
+        match any_event(line, drivers) {
             LineEvent::Absent => self.log.take_line(alloc, line, text),
             LineEvent::Unread => self.log.take_unread(text),
             LineEvent::Found(found) => self.take_event(alloc, found, text),
@@ -204,7 +209,7 @@ impl LineFilter for ReportFilter {
     ghost none = { λ _. refl };
 
     fn take(&mut self, alloc: Global, line: &[u8], text: &mut Vec<u8>) -> Result<(), LineRefused> {
-        match self.take_line(alloc, line, text) {
+        match self.take_line(alloc, line, false, text) {
             Ok(()) => Ok(()),
             Err(NoMemory) => Err(LineRefused::NoMemory),
         }

@@ -6,6 +6,8 @@
 #![tactic(auto)]
 
 mod aer;
+mod driver_event;
+mod driver_laws;
 mod filter;
 mod flags;
 mod laws;
@@ -16,6 +18,7 @@ mod section_event;
 mod traced;
 
 pub use aer::{AerDevice, AerEvent, AerSeverity, TlpHeader};
+pub use driver_laws::{driver_events_are_never_passed_over, driver_events_are_read};
 pub use filter::{ReportFilter, TRACE_SOURCE};
 pub use laws::{
     events_are_never_passed_over, logs_are_filtered_as_before, made_memory_blocks_are_read_back,

@@ -69,6 +69,9 @@ pub(crate) fn type_severity(word: &[u8]) -> u32
         0
     } else if word == b"Fatal".as_slice() {
         1
+    } else if word == b"Deferred".as_slice() {
+        // An uncorrectable error whose data isn't consumed yet.
+        0
     } else {
         3
     }

@@ -34,7 +34,7 @@ pub(crate) struct FoundSection {
     pub(crate) head: SectionHead,
 }
 
-/// A memory error that the firmware reported, and the time stamp of its line.
+/// A memory error that the firmware or a driver reported, and the time stamp of its line.
 #[derive(Clone, Copy, Debug, PartialEq, Eq)]
 pub(crate) struct FoundMemory {
     pub(crate) stamp: u64,
@@ -86,7 +86,7 @@ pub fn is_extlog(line: &[u8]) -> bool
 }
 
 // Returns the event after the first clock of a text.
-fn clock_event(text: &[u8]) -> LineEvent
+pub(crate) fn clock_event(text: &[u8]) -> LineEvent
     ensures { result ≡ clock_event text.now }
 {
     match clock_place(text) {
@@ -117,7 +117,7 @@ fn is_firmware(text: &[u8]) -> bool
 }
 
 // Returns whether a word of a text is the name of an event with a clock and spaces before it.
-fn has_name(by_firmware: bool, text: &[u8]) -> bool
+pub(crate) fn has_name(by_firmware: bool, text: &[u8]) -> bool
     ensures { result ≡ has_name by_firmware false (cut_at 32 text.now) }
 {
     let mut is_behind = false;
@@ -155,7 +155,7 @@ fn is_event_name(by_firmware: bool, word: &[u8]) -> bool
 
 // Returns the index of the first colon before a space, if the word before the colon is what a
 // tracer's clock shows.
-fn clock_place(line: &[u8]) -> Option<usize>
+pub(crate) fn clock_place(line: &[u8]) -> Option<usize>
     ensures place { result ≡ clock_place line.now }
     ensures within { IfSome result (λ place. place + 2 ≤ length line.now) }
 {
@@ -168,7 +168,7 @@ fn clock_place(line: &[u8]) -> Option<usize>
 }
 
 // Returns the time stamp that a clock with its colon at this index shows.
-fn stamp_at(place: usize, line: &[u8]) -> Option<u64>
+pub(crate) fn stamp_at(place: usize, line: &[u8]) -> Option<u64>
     requires { place + 2 ≤ length line.now }
     ensures { result ≡ stamp_at place line.now }
 {
@@ -176,7 +176,7 @@ fn stamp_at(place: usize, line: &[u8]) -> Option<u64>
 }
 
 // Returns the text after a clock with its colon at this index, from the event's name on.
-fn named_text(place: usize, line: &[u8]) -> &[u8]
+pub(crate) fn named_text(place: usize, line: &[u8]) -> &[u8]
     requires { place + 2 ≤ length line.now }
     ensures { result.now ≡ named_text place line.now }
 {
@@ -251,7 +251,7 @@ fn found_section(stamp: Option<u64>, head: Option<SectionHead>) -> LineEvent
 }
 
 // Returns a memory error with its time stamp, if both were read.
-fn found_memory(stamp: Option<u64>, error: Option<MemoryError>) -> LineEvent
+pub(crate) fn found_memory(stamp: Option<u64>, error: Option<MemoryError>) -> LineEvent
     ensures { result ≡ found_memory stamp error }
 {
     match (stamp, error) {

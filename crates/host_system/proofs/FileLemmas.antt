@@ -1,4 +1,4 @@
--- What a call of one of a board's files comes to, where a system tells.
+-- What a call on one of a board's files leads to, over a modelled system.
 use Rattle.std.proofs.Common.{◌≡◌, ℕ, List, Some, refl, ap, sym, ◌∙◌, subst, inl, inr, ◌⊎◌, OnOk}
 use Rattle.std.specs.Prelude.{Option, None, IfSome, IsSome, Result, Ok, Err, OnErr}
 use Rattle.std.specs.Option.{option_map}
@@ -62,7 +62,7 @@ keeps_then file x y z first second = record {
   other = record { named = λ is. second.other.named (first.other.named is); held = λ is. second.other.held (first.other.held is); usable = λ is. second.other.usable (first.other.usable is); openable = λ is. second.other.openable (first.other.openable is) };
 }
 
--- a change of one file alone
+-- A change of one file only.
 pub record IsOf (file : FileNo) (change : FolderChange) : Type 0 where
   pub keeps : (f : Folder) → KeepsOthersIn file f (folder_after change f)
   pub during : (f : Folder) (left : Stopped) → During change f left → MayLeaveFolder f left ⊎ MayLeaveFolder (folder_after change f) left
@@ -146,7 +146,7 @@ none_then file a b c told keeps stops last = record {
 pub none_after : (file : FileNo) (a b c : Option FolderPast) → SeesNone file a b → SeesNone file b c → SeesNone file a c
 none_after file a b c first last = none_then file a b c first.told first.keeps first.stops last
 
--- a change of which nothing is seen
+-- A change that a board doesn't see.
 none_change : (file : FileNo) (change : FolderChange) → IsOf file change → (past : FolderPast) → seen_as (here_in (folder_after change (folder_of past))) ≡ seen_now past
     → ((left : Stopped) → MayLeaveFolder (folder_after change (folder_of past)) left → AfterFolder (folder_of past) Same left)
     → SeesNone file (Some past) (Some (changed_by change past))
@@ -158,7 +158,7 @@ same_before folder left may = none_before Same (λ l. refl) folder left may
 names_none : (file : FileNo) (past : FolderPast) → SeesNone file (Some past) (Some (changed_by synced_names past))
 names_none file past = none_change file synced_names (of_names file) past refl (λ left may. same_before (folder_of past) left (names_before (folder_of past) left may))
 
--- how a run has a file isn't seen
+-- A board doesn't see how a run has a file open.
 seen_used : (file : FileNo) (how : FileUse) (folder : Folder) → seen_as (here_in (change_name (Journal file) (used how) folder)) ≡ seen_as (here_in folder)
 seen_used Zero how folder = refl
 seen_used One how folder = refl

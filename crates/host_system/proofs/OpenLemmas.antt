@@ -1,4 +1,4 @@
--- What the opening of both files comes to.
+-- What the opening of both files leads to.
 use Rattle.std.proofs.Common.{◌≡◌, refl, ap, sym, ◌∙◌, subst, OnOk}
 use Rattle.std.specs.Prelude.{Option, IfSome, Result, Ok, Err, OnErr}
 use Rattle.board_core.specs.Clock.{Passes}
@@ -13,7 +13,7 @@ use Rattle.host_system.specs.View.{HasWholeStore, IsDurable, clock_over}
 use Rattle.host_system.proofs.FileLemmas.{did_by, may_by, told_then, weaker, names_end}
 use Rattle.host_system.proofs.UseLemmas.{named_goes}
 
--- a board sees the same, and both files may be opened again
+-- A board sees the same, and both files may be opened again.
 pub record BothKept (old new : Option FolderPast) : Type 0 where
   pub told : IfTold SeesSame old new
   pub store : IfTold KeepsStore old new
@@ -28,7 +28,7 @@ both_then a b c first last = record {
   openable = last.openable;
 }
 
--- one of them is opened
+-- One of the files is opened.
 
 both_openable : (file : FileNo) (x y : FolderPast) → KeepsOthers file x y → AreOpenable x → IsOpenable file y → AreOpenable y
 both_openable Zero x y keeps was this = record { zero = this; one = keeps.other.openable was.one }
@@ -42,7 +42,7 @@ one_opened file old new was told keeps stops this = record {
   openable = may_by (KeepsOthers file) (λ (o n : Option FolderPast). IfSome o AreOpenable → IfSome n (IsOpenable file) → IfSome n AreOpenable) (λ w t. tt) (both_openable file) old new keeps was this;
 }
 
--- their names are brought to the disk
+-- The names of the files are made durable.
 
 named_openable : (file : FileNo) (old new : Option FolderPast) → IfSome old AreOpenable → IfTold (KeepsOthers Zero) old new → IfTold (KeepsOthers One) old new → IfSome new (IsOpenable file)
 named_openable file old new was zero one = may_by (KeepsOthers Zero) (λ (o n : Option FolderPast). IfSome o AreOpenable → IfTold (KeepsOthers One) o n → IfSome n (IsOpenable file)) (λ w k. tt) (kept file) old new zero was one
@@ -56,7 +56,7 @@ both_named result old new was ok err =
     one_opened Zero old new was (names_end Zero result old new ok err).told (names_end Zero result old new ok err).keeps (names_end Zero result old new ok err).stops
     (named_openable Zero old new was (names_end Zero result old new ok err).keeps (names_end One result old new ok err).keeps)
 
--- both are opened, and then their names are brought to the disk
+-- Both files are opened, and then their names are made durable.
 pub both_opened : {T E : Type 0} (result : Result T E) (a b c d : Option FolderPast) → IfSome a AreOpenable
     → IfTold SeesSame a b → IfTold (KeepsOthers Zero) a b → Passes Same (clock_over a) (clock_over b) → IfSome b (IsOpenable Zero)
     → IfTold SeesSame b c → IfTold (KeepsOthers One) b c → Passes Same (clock_over b) (clock_over c) → IfSome c (IsOpenable One)
@@ -69,7 +69,7 @@ both_opened result a b c d was told0 keeps0 stops0 zero told1 keeps1 stops1 one 
 still_held : (old new : Option FolderPast) → IfTold (KeepsOthers One) old new → IfSome old (IsHeld Zero) → IfSome new (IsHeld Zero)
 still_held old new keeps was = may_by (KeepsOthers One) (λ (o n : Option FolderPast). IfSome o (IsHeld Zero) → IfSome n (IsHeld Zero)) (λ w. tt) (λ x y kept held. kept.other.held held) old new keeps was
 
--- the names of all files are on the disk
+-- The names of all files are durable.
 
 whole_settles : (entry : NameEntry) → IsDurable entry.now → IsSettled (settled_name entry)
 whole_settles entry whole = (refl, whole)

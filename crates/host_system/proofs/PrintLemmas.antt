@@ -1,4 +1,4 @@
--- What a print comes to, where a system tells.
+-- What a print leads to, over a modelled system.
 use Rattle.std.proofs.Common.{append_assoc, append-nil, ◌++◌, ◌≡◌, ℕ, [], List, Some, refl, ap, sym, ◌∙◌, subst, OnOk}
 use Rattle.std.specs.Prelude.{Option, Result, Ok, Err, OnErr}
 use Rattle.board_core.specs.Clock.{untold, Passes, Leads}
@@ -44,7 +44,7 @@ part_seen piece part missing past splits = record {
   rest = printed_seen part past;
 }
 
--- however the print ended
+-- However the print ended.
 
 pub print_told : {T E : Type 0} (piece : List ℕ) (result : Result T E) (old new : Option FolderPast) → OnOk result (Did (printed piece) old new) → OnOk result (IfTold (SeesPrinted piece) old new)
 print_told piece (Ok x) old new ok = did_by (printed piece) (IfTold (SeesPrinted piece)) refl (λ past. printed_seen piece past) old new ok

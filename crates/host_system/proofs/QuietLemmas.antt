@@ -1,4 +1,4 @@
--- Changes of `rasd.new`, and what they come to where a system tells.
+-- Changes of `rasd.new`, and what they lead to over a modelled system.
 use Rattle.std.proofs.Common.{◌≡◌, ℕ, ◌+◌, ◌++◌, [], List, length, take, drop, append-nil, Some, refl, ap, sym, ◌∙◌, subst, inl, inr, ◌⊎◌, arith}
 use Rattle.std.specs.Prelude.{Option, None, IfSome, IsSome, Result, Ok, Err, OnOk, OnErr}
 use Rattle.std.specs.Option.{option_map}
@@ -31,7 +31,7 @@ quiet_then a b c first second = record {
   stops = passes_then Same Same Same (clock_over a) (clock_over b) (clock_over c) (λ x y is. is) (λ x y z first second. second ∙ first) first.stops second.stops;
 }
 
--- a change of `rasd.new` alone
+-- A change of `rasd.new` only.
 pub record IsOfNew (change : FolderChange) : Type 0 where
   pub step : NameEntry → NameEntry
   pub is : (f : Folder) → folder_after change f ≡ record f { new = step f.new }
@@ -99,7 +99,7 @@ new_made old new is = told_after (HasNew empty_file) (made New) old new is (λ p
 new_holds : (file : FolderFile) (past : FolderPast) → HasNew file past → HasFile New past
 new_holds file past new = subst (λ (now : Option FolderFile). IsSome (option_map (λ (f : FolderFile). f.bytes) now)) (sym new.is) refl
 
--- what may be asked of it
+-- When `rasd.new` may be used.
 pub record NewServes (told : Option FolderPast) : Type 0 where
   pub there : IfSome told (HasFile New)
   pub is_open : IfSome told (IsOpen New)
@@ -173,7 +173,7 @@ passes_moved : (bytes : List ℕ) (a b c : Option FolderPast) → Quiet a b → 
 passes_moved bytes a b c quiet new renames =
     passes_then Same (Step bytes) (Step bytes) (clock_over a) (clock_over b) (clock_over c) (λ x y is. subst (λ (l : Left). Step bytes x l) (sym is) (stays bytes x)) (same_then bytes) quiet.stops (passes_renamed bytes b c new renames)
 
--- it failed before the folder was synced
+-- The replacement failed before the folder was synced.
 pub record EndsBadly (bytes : List ℕ) (old new : Option FolderPast) : Type 0 where
   pub is : IfTold (MayHaveMoved bytes) old new
   pub stops : Passes (Step bytes) (clock_over old) (clock_over new)
@@ -193,7 +193,7 @@ badly_may bytes a (Some y) None quiet new may = absurd may
 badly_may bytes a (Some y) (Some z) quiet new (inl same) = subst (λ (p : FolderPast). EndsBadly bytes a (Some p)) (sym same) (badly_quiet bytes a (Some y) quiet)
 badly_may bytes a (Some y) (Some z) quiet new (inr did) = badly_moved bytes a (Some y) (Some z) quiet new (ap Some did)
 
--- it went well
+-- The replacement succeeded.
 pub record EndsWell (bytes : List ℕ) (old new : Option FolderPast) : Type 0 where
   pub is : IfTold (IsReplaced bytes) old new
   pub stops : Passes (Step bytes) (clock_over old) (clock_over new)

@@ -1,4 +1,4 @@
--- What a board over a system sees after its store was saved, by what it saw before.
+-- What a board over a system sees after its store was replaced, by what it saw before.
 use Rattle.std.proofs.Common.{◌≡◌, ℕ, [], List, Some, refl, ap, sym, ◌∙◌, subst, inl, inr, ◌⊎◌}
 use Rattle.std.specs.Option.{option_map}
 use Rattle.std.specs.Prelude.{true, false, Option, IfSome, IsSome, Result, Ok, Err, OnOk, OnErr}
@@ -25,7 +25,7 @@ parts folder old store zero one stored out =
     ∙ (ap (λ (s : List Stored). record (seen_as (here_in folder)) { file0 = bytes_or (bytes_now old.zero); file1 = bytes_or (bytes_now old.one); store = s }) stored
     ∙ ap (λ (o : List ℕ). record (with_store store (seen_as (here_in old))) { out = o }) out))
 
--- nothing is seen of it
+-- A board sees nothing of a change.
 
 nothing_usable : (x y : FolderPast) → SeesNothing x y → KeepsUsable x y
 nothing_usable x y is = λ was. record {
@@ -40,7 +40,7 @@ nothing_file One x y is = keeps_file One (folder_of x) (folder_of y) is.one
 nothing_seen : (x y : FolderPast) → SeesNothing x y → SeesSame x y
 nothing_seen x y is = parts (folder_of y) (folder_of x) (store_in (bytes_now (folder_of x).store)) (ap bytes_now is.zero) (ap bytes_now is.one) (ap (λ (e : NameEntry). store_in (bytes_now e)) is.store) is.out
 
--- the store's file is the new one
+-- The store's file is the new one.
 
 now_whole : (bytes : List ℕ) (now : Option FolderFile) → now ≡ Some (settled_file_of bytes) → IsDurable now
 now_whole bytes now is = subst IsDurable (sym is) refl
@@ -59,7 +59,7 @@ moved_seen : (bytes : List ℕ) (x y : FolderPast) → HasMoved bytes x y → Se
 moved_seen bytes x y is =
     parts (folder_of y) (folder_of x) (store_in (Some bytes)) (ap bytes_now is.zero) (ap bytes_now is.one) (ap (λ (now : Option FolderFile). store_in (option_map (λ (f : FolderFile). f.bytes) now)) is.store) is.out
 
--- and so it is on the disk
+-- The store's file is durable.
 
 named_file : (file : FileNo) (x y : Folder) → entry_named (Journal file) y ≡ settled_name (entry_named (Journal file) x) → KeepsFileIn file x y
 named_file file x y entry = record {

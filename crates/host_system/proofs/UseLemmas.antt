@@ -19,7 +19,7 @@ locked_lost e = cc
 pub kept_same : (P : FolderPast → Type 0) (old new : Option FolderPast) → new ≡ old → IfSome old P → IfSome new P
 kept_same P old new is was = subst (λ (o : Option FolderPast). IfSome o P) (sym is) was
 
--- what holds of a folder after a change, by what holds before it
+-- A property of a folder after a change, by a property before it.
 pub after_did : (change : FolderChange) (P Q : Folder → Type 0) → ((f : Folder) → P f → Q (folder_after change f)) → (old new : Option FolderPast) → Did change old new → IfSome old (λ p. P (folder_of p)) → IfSome new (λ p. Q (folder_of p))
 after_did change P Q goes old new is was =
     did_by change (λ (o n : Option FolderPast). IfSome o (λ p. P (folder_of p)) → IfSome n (λ p. Q (folder_of p))) (λ w. tt)
@@ -37,7 +37,7 @@ whatever (Some past) = tt
 abbrev HasFileIn : FileNo → Folder → Type 0
 HasFileIn file folder = IsSome (bytes_now (entry_named (Journal file) folder))
 
--- a file that is there and open, but not locked
+-- A file exists and is open, but isn't locked.
 pub record IsOpenIn (file : FileNo) (folder : Folder) : Type 0 where
   pub there : HasFileIn file folder
   pub is : (entry_named (Journal file) folder).how ≡ opened

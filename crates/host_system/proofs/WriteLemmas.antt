@@ -1,4 +1,4 @@
--- What a sync and a write of a board's file come to.
+-- What a sync and a write of a board's file lead to.
 use Rattle.std.proofs.Common.{length-append, length-take, drop, ◌+◌, ◌++◌, ◌≡◌, ℕ, ◌≤◌, [], List, length, take, Some, refl, ap, sym, ◌∙◌, subst, inl, inr, arith, OnOk}
 use Rattle.std.specs.Prelude.{Option, None, IfSome, IsSome, Result, Ok, Err, OnErr}
 use Rattle.std.specs.Option.{option_map}
@@ -26,12 +26,12 @@ use Rattle.host_system.proofs.UseLemmas.{after_did}
 not_there : IsSome {T = List ℕ} None → ⊥
 not_there e = cc
 
--- the bytes under a name are those that a board sees
+-- The bytes of a name's file are the bytes that a board sees.
 pub bytes_seen : (file : FileNo) (p : FolderPast) → file_bytes (Journal file) p ≡ file_in file (seen_now p)
 bytes_seen Zero p = refl
 bytes_seen One p = refl
 
--- a sync
+-- A sync.
 
 synced_there : (now : Option FolderFile) → IsSome (option_map (λ (f : FolderFile). f.bytes) now) → IsSome (option_map (λ (f : FolderFile). f.bytes) (option_map after_syncing now))
 synced_there None there = absurd (not_there there)
@@ -71,7 +71,7 @@ pub is_synced_end : {T E : Type 0} (file : FileNo) (result : Result T E) (old ne
 is_synced_end file (Ok x) old new was ok = did_by (synced (Journal file)) (λ (o n : Option FolderPast). IfSome o (IsUsable file) → IsSyncedAt file o n) (λ w. tt) (λ past w. left_synced file past w.named) old new ok was
 is_synced_end file (Err e) old new was ok = ok
 
--- a sync of a file that is only read
+-- A sync of a file that is only read.
 
 readable_goes : (file : FileNo) (f : Folder) → IsReadableIn file f → IsReadableIn file (folder_after (synced (Journal file)) f)
 readable_goes Zero f was = record { named = was.named; openable = was.openable }
@@ -85,7 +85,7 @@ pub seen_synced_end : {T E : Type 0} (file : FileNo) (result : Result T E) (old 
 seen_synced_end file (Ok x) old new was ok = did_by (synced (Journal file)) (λ (o n : Option FolderPast). IfSome o (IsReadable file) → IsSyncedAt file o n) (λ w. tt) (λ past w. left_synced file past w.named) old new ok was
 seen_synced_end file (Err e) old new was ok = ok
 
--- a write
+-- A write.
 
 wrote_there : (place count : ℕ) (bytes : List ℕ) (now : Option FolderFile) → IsSome (option_map (λ (f : FolderFile). f.bytes) now) → IsSome (option_map (λ (f : FolderFile). f.bytes) (option_map (after_writing place count bytes) now))
 wrote_there place count bytes None there = absurd (not_there there)
@@ -109,7 +109,7 @@ seen_written : (file : FileNo) (place count : ℕ) (bytes : List ℕ) (past : Fo
     → seen_now (changed_by (wrote (Journal file) place count bytes) past) ≡ with_file_in file (overlay place (take count bytes) (file_in file (seen_now past))) (seen_now past)
 seen_written file place count bytes past was = ap (λ (f : Folder). seen_as (here_in f)) (folder_of-more (wrote (Journal file) place count bytes) past) ∙ seen_wrote file place count bytes (folder_of past) was
 
--- a usable file, and a place in it
+-- A usable file, and an offset in it.
 abbrev IsWithin : FileNo → ℕ → FolderPast → Type 0
 IsWithin file place p = IsUsable file p × (place ≤ length (file_in file (seen_now p)))
 
@@ -181,7 +181,7 @@ wrote_usable file place bytes (Ok x) old new was ok err = after_did (wrote (Jour
 wrote_usable file place bytes (Err e) old new was ok err =
     may_by (MayWrite (Journal file) place (length bytes)) (λ (o n : Option FolderPast). IfSome o (IsUsable file) → IfSome n (IsUsable file)) (λ w. tt) (λ x y done w. usable_may file place (length bytes) x y done w) old new err was
 
--- however the write ended
+-- However the write ended.
 
 pub wrote_told : {T E : Type 0} (file : FileNo) (place : ℕ) (bytes : List ℕ) (result : Result T E) (old new : Option FolderPast) → IfSome old (IsUsable file) → IfSome old (λ p. place ≤ length (file_in file (seen_now p))) → OnOk result (Did (wrote (Journal file) place (length bytes) bytes) old new) → OnOk result (IfTold (SeesWritten file place bytes) old new)
 wrote_told file place bytes (Ok x) old new was within ok = (wrote_did file place bytes old new was within ok).told
@@ -191,7 +191,7 @@ pub wrote_failed : {T E : Type 0} (file : FileNo) (place : ℕ) (bytes : List �
 wrote_failed file place bytes (Ok x) old new was within err = err
 wrote_failed file place bytes (Err e) old new was within err = (wrote_may file place (length bytes) old new was within err).told
 
--- what a write leaves as it was, and what a stop during it leaves
+-- What a write leaves unchanged, and what a crash during it leaves.
 pub wrote_keeps : {T E : Type 0} (file : FileNo) (place : ℕ) (bytes : List ℕ) (result : Result T E) (old new : Option FolderPast) → IfSome old (IsUsable file) → IfSome old (λ p. place ≤ length (file_in file (seen_now p))) → OnOk result (Did (wrote (Journal file) place (length bytes) bytes) old new) → OnErr result (IfTold (MayWrite (Journal file) place (length bytes)) old new) → IfTold (KeepsOthers file) old new
 wrote_keeps file place bytes (Ok x) old new was within ok err = (wrote_did file place bytes old new was within ok).keeps
 wrote_keeps file place bytes (Err e) old new was within ok err = (wrote_may file place (length bytes) old new was within err).keeps

@@ -1,4 +1,4 @@
--- The files of a board over a system: when a file may be used, and what a call leaves as it was.
+-- The files of a board over a system: when a file may be used, and what a call leaves unchanged.
 use Rattle.std.specs.Prelude.{◌≡◌, [], List, IsSome}
 use Rattle.erst_store.specs.Store.{Stored}
 use Rattle.board_core.specs.Stop.{Left}
@@ -18,7 +18,7 @@ pub record IsUsableAs (entry : NameEntry) : Type 0 where
 abbrev pub IsUsableIn : FileNo → Folder → Type 0
 IsUsableIn file folder = IsUsableAs (entry_named (Journal file) folder)
 
--- no sync of the file failed
+-- No sync of the file failed.
 abbrev pub IsOpenableIn : FileNo → Folder → Type 0
 IsOpenableIn file folder = (entry_named (Journal file) folder).how ≡ lost → ⊥
 

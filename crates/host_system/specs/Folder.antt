@@ -8,21 +8,21 @@ use Rattle.board_core.specs.declared.board.FileNo.TheVariants.{Zero, One}
 use Rattle.host_system.specs.declared.system.FileName.{FileName}
 use Rattle.host_system.specs.declared.system.FileName.TheVariants.{Journal, Store, New}
 
--- a file: its bytes as a read returns them, and what the disk has of it
+-- A file: its bytes as a read returns them, and what the disk has of it.
 pub record FolderFile : Type 0 where
   pub bytes : List ℕ
   pub disk : DiskFile
 
--- How a run has the file of a name: not open; open; open and locked; lost, because a sync of it failed and
--- its bytes may not be relied on.
+-- How a run has a file: not open; open; open and locked; or lost, because a sync of it failed and its bytes may not be
+-- relied on.
 pub data FileUse : Type 0 where
   shut : FileUse
   opened : FileUse
   locked : FileUse
   lost : FileUse
 
--- what a name refers to now; what else it may refer to on the disk: everything it has referred to since the
--- folder was synced; and how a run has its file
+-- What a name refers to now; what else it may refer to on the disk, which is everything it has referred to since the
+-- folder was synced; and how a run has its file.
 pub record NameEntry : Type 0 where
   pub now : Option FolderFile
   pub others : List (Option DiskFile)
@@ -42,7 +42,7 @@ entry_named (Journal One) folder = folder.one
 entry_named Store folder = folder.store
 entry_named New folder = folder.new
 
--- the folder with one name changed so
+-- the folder with this change to one name
 abbrev pub change_name : FileName → (NameEntry → NameEntry) → Folder → Folder
 change_name (Journal Zero) step folder = record folder { zero = step folder.zero }
 change_name (Journal One) step folder = record folder { one = step folder.one }
@@ -63,7 +63,7 @@ after_writing place count bytes file = record {
 abbrev pub settled_file_of : List ℕ → FolderFile
 settled_file_of bytes = record { bytes = bytes; disk = settled_file bytes }
 
--- a name whose present file, if it has one, changed so
+-- A name after this change to its present file, if it has one.
 abbrev pub with_now : (FolderFile → FolderFile) → NameEntry → NameEntry
 with_now step entry = record entry { now = option_map step entry.now }
 
@@ -71,11 +71,11 @@ with_now step entry = record entry { now = option_map step entry.now }
 abbrev pub on_disk : Option FolderFile → Option DiskFile
 on_disk file = option_map (λ f. f.disk) file
 
--- a name that now refers to another file, which a run has so, or to no file
+-- A name that now refers to another file, or to no file, and how a run has that file.
 abbrev pub renewed : Option FolderFile → FileUse → NameEntry → NameEntry
 renewed file how entry = record { now = file; others = on_disk entry.now ∷ entry.others; how = how }
 
--- a name whose file a run now has so
+-- a name, with how a run now has its file
 abbrev pub used : FileUse → NameEntry → NameEntry
 used how entry = record entry { how = how }
 
@@ -123,7 +123,7 @@ folder_after_all (change ∷ changes) folder = folder_after_all changes (folder_
 
 -- ---- what a crash leaves
 
--- what a crash left: the bytes of each file that exists, and the output
+-- what a crash leaves: the bytes of each file that exists, and the output
 pub record Stopped : Type 0 where
   pub zero : Option (List ℕ)
   pub one : Option (List ℕ)
@@ -131,7 +131,7 @@ pub record Stopped : Type 0 where
   pub new : Option (List ℕ)
   pub out : List ℕ
 
--- A crash may leave this of a file that may be missing.
+-- A crash may leave this of a file, which may be missing.
 abbrev pub MayLeaveOne : Option DiskFile → Option (List ℕ) → Type 0
 MayLeaveOne None None = Unit {0}
 MayLeaveOne (Some file) (Some bytes) = MayLeaveFile file bytes
@@ -142,8 +142,8 @@ abbrev pub MayLeaveAny : List (Option DiskFile) → Option (List ℕ) → Type 0
 MayLeaveAny [] left = ⊥
 MayLeaveAny (file ∷ files) left = MayLeaveOne file left ⊎ MayLeaveAny files left
 
--- A crash may leave under a name what the name refers to, or has referred to since the folder was synced: of
--- that file, any bytes that the disk may leave of it.
+-- A crash may leave under a name the file that the name refers to, or has referred to since the folder was synced,
+-- with any bytes that the disk may leave of it.
 abbrev pub MayLeaveName : NameEntry → Option (List ℕ) → Type 0
 MayLeaveName entry left = MayLeaveAny (on_disk entry.now ∷ entry.others) left
 
@@ -155,18 +155,18 @@ pub record MayLeaveFolder (folder : Folder) (left : Stopped) : Type 0 where
   pub new : MayLeaveName folder.new left.new
   pub out : left.out ≡ folder.out
 
--- A crash during a change leaves what a crash before it may leave or what a crash after it may leave; of a
--- piece that is printed, any beginning.
+-- A crash during a change leaves what a crash before it or after it may leave. A crash during a print leaves any
+-- beginning of the piece.
 abbrev pub During : FolderChange → Folder → Stopped → Type 0
 During (printed piece) folder left =
     (part : List ℕ) × (missing : List ℕ) × (part ++ missing ≡ piece) × MayLeaveFolder (folder_after (printed part) folder) left
 During change folder left = MayLeaveFolder folder left ⊎ MayLeaveFolder (folder_after change folder) left
 
--- a name whose file is durable, with these bytes, or is missing, and isn't open
+-- A name that isn't open, whose file is durable with these bytes, or is missing.
 abbrev pub entry_from : Option (List ℕ) → NameEntry
 entry_from bytes = record { now = option_map settled_file_of bytes; others = []; how = shut }
 
--- the folder after the machine starts over these files: all of them is durable, and none is open
+-- The folder after the machine starts over these files: all of them are durable, and none is open.
 abbrev pub settled_folder : Stopped → Folder
 settled_folder start = record {
   zero = entry_from start.zero;

@@ -17,7 +17,7 @@ changed_by change past = record past { changes = past.changes ++ change ∷ [] }
 abbrev pub folder_of : FolderPast → Folder
 folder_of past = folder_after_all past.changes (settled_folder past.first)
 
--- What a crash may leave from the point on that comes after t changes.
+-- What a crash may leave after the first t changes, or later.
 abbrev pub MayLeaveFolderSince : Folder → List FolderChange → ℕ → Stopped → Type 0
 MayLeaveFolderSince folder [] zero left = MayLeaveFolder folder left
 MayLeaveFolderSince folder [] (suc t) left = ⊥
@@ -29,15 +29,15 @@ abbrev pub AllAre : (FolderChange → Type 0) → List FolderChange → Type 0
 AllAre Is [] = Unit {0}
 AllAre Is (change ∷ changes) = Is change × AllAre Is changes
 
--- The past goes on by changes that all have this property.
+-- The past continues with changes that all have this property.
 pub record GoesOnBy (Is : FolderChange → Type 0) (old new : FolderPast) : Type 0 where
   pub more : List FolderChange
   pub first : new.first ≡ old.first
   pub changes : new.changes ≡ old.changes ++ more
   pub each : AllAre Is more
 
--- A change prints a piece, or it syncs a journal file or the folder's names, or fails to. No file is opened, made,
--- locked, written, removed or renamed.
+-- A change prints a piece, or syncs a journal file or the folder's names, or records that such a sync failed. No file
+-- is opened, made, locked, written, removed or renamed.
 abbrev pub PrintsOrSyncs : FolderChange → Type 0
 PrintsOrSyncs (synced (Journal file)) = Unit {0}
 PrintsOrSyncs (loses (Journal file)) = Unit {0}
@@ -51,7 +51,7 @@ PrintsOrSyncs change = ⊥
 abbrev pub Did : FolderChange → Option FolderPast → Option FolderPast → Type 0
 Did change old new = new ≡ option_map (changed_by change) old
 
--- The pasts of a system before and after a call are related so, if the system is modelled.
+-- This relates the pasts of a system before and after a call, if the system is modelled.
 abbrev pub IfTold : (FolderPast → FolderPast → Type 0) → Option FolderPast → Option FolderPast → Type 0
 IfTold P None new = new ≡ None
 IfTold P (Some old) None = ⊥
@@ -78,15 +78,15 @@ HasFile name past = IsSome (bytes_named name past)
 abbrev pub IsMissing : FileName → FolderPast → Type 0
 IsMissing name past = bytes_named name past ≡ None
 
--- A call that failed has made the change or not.
+-- A failed call has made the change or not.
 abbrev pub MayDo : FolderChange → FolderPast → FolderPast → Type 0
 MayDo change old new = (new ≡ old) ⊎ (new ≡ changed_by change old)
 
--- a write that failed
+-- a failed write
 abbrev pub MayWrite : FileName → ℕ → ℕ → FolderPast → FolderPast → Type 0
 MayWrite name place count old new = (bytes : List ℕ) × MayDo (wrote name place count bytes) old new
 
--- a print that failed
+-- a failed print
 abbrev pub MayPrint : List ℕ → FolderPast → FolderPast → Type 0
 MayPrint piece old new = (part : List ℕ) × (missing : List ℕ) × (part ++ missing ≡ piece) × (new ≡ changed_by (printed part) old)
 
@@ -97,7 +97,7 @@ use_of name past = (entry_named name (folder_of past)).how
 abbrev pub IsOpen : FileName → FolderPast → Type 0
 IsOpen name past = (use_of name past ≡ opened) ⊎ (use_of name past ≡ locked)
 
--- no sync of the file failed
+-- No sync of the file failed.
 abbrev pub IsNotLost : FileName → FolderPast → Type 0
 IsNotLost name past = use_of name past ≡ lost → ⊥
 

@@ -9,7 +9,7 @@ use Rattle.host_system.specs.FolderPast.{FolderPast, IfTold, bytes_named}
 use Rattle.host_system.specs.View.{HasUsableStore, clock_over, seen_now, store_in}
 use Rattle.host_system.specs.declared.system.FileName.TheVariants.{Store}
 
--- A board sees the store of these bytes, and everything else as before.
+-- A board sees the store of these bytes, and everything else unchanged.
 abbrev pub SeesStore : List ℕ → FolderPast → FolderPast → Type 0
 SeesStore bytes old new = seen_now new ≡ with_store (store_in (Some bytes)) (seen_now old)
 
@@ -19,23 +19,23 @@ pub record HasReplaced (bytes : List ℕ) (old new : FolderPast) : Type 0 where
   pub seen : SeesStore bytes old new
   pub settled : HasSettledStore new
 
--- Bytes of the store's file that aren't a store's stay as they are.
+-- A store file whose bytes aren't a store isn't changed.
 abbrev pub SparesNoStore : FolderPast → FolderPast → Type 0
 SparesNoStore old new = (bytes : List ℕ) → bytes_named Store old ≡ Some bytes → IsNoStoreFile bytes → bytes_named Store new ≡ Some bytes
 
--- If the store's file might be used, it still may.
+-- If the store's file was usable, it still is.
 abbrev pub KeepsUsable : FolderPast → FolderPast → Type 0
 KeepsUsable old new = HasUsableStore old → HasUsableStore new
 
 -- The store's file was replaced by a file of these bytes, or that failed.
 pub record Replaces {T E : Type 0} (bytes : List ℕ) (result : Result T E) (old new : Option FolderPast) : Type 0 where
-  -- If the store's file might be used, it still may.
+  -- If the store's file was usable, it still is.
   pub usable : IfTold KeepsUsable old new
   -- The journal's files are as usable as they were.
   pub files : (file : FileNo) → IfTold (KeepsFile file) old new
   -- On `Ok` the file is the new one, and is durable.
   pub ok : OnOk result (IfTold (HasReplaced bytes) old new)
-  -- On `Err` the file is the old one or the new one. Which of them the disk has isn't known.
+  -- On `Err` the file is the old one or the new one. It isn't known which of them the disk has.
   pub err : OnErr result (IfTold (λ x y. SeesSame x y ⊎ SeesStore bytes x y) old new)
-  -- A crash during the call or now leaves what a crash before might have left, or that with the new store.
+  -- A crash during the call or now leaves what a crash before might have left, maybe with the new store.
   pub stops : Passes (InStore (Becomes (store_in (Some bytes)))) (clock_over old) (clock_over new)

@@ -19,7 +19,7 @@ abbrev pub store_in : Option (List ℕ) → List Stored
 store_in None = []
 store_in (Some bytes) = result_unwrap_or (file_at bytes) []
 
--- The file has the bytes of this store. Without a file the store is empty.
+-- The file has the bytes of this store. If the file is missing the store is empty.
 abbrev pub IsFileOf : List Stored → Option (List ℕ) → Type 0
 IsFileOf store None = store ≡ []
 IsFileOf store (Some bytes) = bytes ≡ store_bytes store
@@ -48,7 +48,7 @@ clock_over (Some past) = record { now = length past.changes; may_leave_since = L
 abbrev pub seen_now : FolderPast → Left
 seen_now past = seen_as (here_in (folder_of past))
 
--- what the model of a board over a system says
+-- the model of a board over a system
 abbrev pub told_over : Option FolderPast → Option Left
 told_over past = option_map seen_now past
 
@@ -63,7 +63,7 @@ IsDurable (Some file) = file.disk.written ≡ []
 abbrev pub HasWholeStore : FolderPast → Type 0
 HasWholeStore past = IsDurable (folder_of past).store.now
 
--- The record store's file may be used: all its bytes are durable, and each of them is a byte.
+-- The record store's file is usable: all its bytes are durable, and each is below 256.
 pub record HasUsableStore (past : FolderPast) : Type 0 where
   pub whole : HasWholeStore past
   pub bytes : AreBytes (file_bytes Store past)
@@ -75,8 +75,8 @@ MayBeRead (Journal file) past = IsNotLost (Journal file) past
 MayBeRead Store past = HasWholeStore past
 MayBeRead New past = IsNotLost New past
 
--- A folder that a board may begin over: no sync of a journal file failed, and the record store's file is
--- durable and consists of bytes. Names may not be durable, for example after a run was killed.
+-- A board may begin over a folder: no sync of a journal file failed, and the record store's file is durable and its
+-- bytes are below 256. Names may not be durable, for example after a run was killed.
 pub record MayBegin (past : FolderPast) : Type 0 where
   pub zero : IsNotLost (Journal Zero) past
   pub one : IsNotLost (Journal One) past

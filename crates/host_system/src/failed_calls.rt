@@ -1,4 +1,4 @@
-//! Counting the failed calls of a kernel, for clauses alone.
+//! Counts the failed calls of a kernel, for clauses only.
 ghost use Rattle.std.specs.Prelude.{◌≡◌, ◌+◌, Bool, IsErr};
 ghost use Rattle.host_system.specs.Kernel.{failed_any, failed_make, failed_names, failed_read, failed_sync};
 
@@ -6,8 +6,8 @@ use crate::kernel::{Held, Refusal};
 use crate::notes::Notes;
 use std::marker::Model;
 
-/// How many calls of a kernel have failed. Each method returns the call's answer. Allocates nothing:
-/// only contracts can read the count.
+/// How many calls of a kernel have failed. Each method returns the call's result. Allocates
+/// nothing: only contracts can read the count.
 #[derive(Drop)]
 pub struct FailedCalls {
     notes: Notes,
@@ -31,14 +31,14 @@ impl FailedCalls {
         }
     }
 
-    /// Counts one more.
+    /// Counts one more failed call.
     pub fn count_one(&mut self)
         ensures { self.new ≡ self.old + 1 }
     {
         self.notes.note(&[], &[]);
     }
 
-    /// Counts a call that failed.
+    /// Counts a call if it failed.
     pub fn count<T>(&mut self, answer: Result<T, Refusal>) -> Result<T, Refusal>
         ensures same { result ≡ answer }
         ensures count { self.new ≡ self.old + failed_any answer }

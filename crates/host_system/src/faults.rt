@@ -1,10 +1,10 @@
-//! Counting the calls that failed.
+//! Counts the calls that failed.
 ghost use Rattle.std.specs.Prelude.{◌≡◌, Ok, IfOk, OnErr, IsErr};
 ghost use Rattle.board_core.specs.Cause.{HasCause};
 
 use board_core::Failed;
 
-/// Returns the answer, with any error as `Failed`, and raises the count if the answer is an error.
+/// Returns the result, with any error as `Failed`, and raises the count if the result is an error.
 /// A count stays at 2^64 - 1.
 pub fn counted<T, E: Drop>(answer: Result<T, E>, faults: &mut u64) -> Result<T, Failed>
     ensures ok { IfOk answer (λ value. result ≡ Ok value) }

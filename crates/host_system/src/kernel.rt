@@ -1,4 +1,4 @@
-//! The calls of the operating system, one a method.
+//! The calls of the operating system, one for each method.
 ghost use Rattle.std.specs.Prelude.{◌≡◌, ◌≢◌, ℕ, ◌+◌, ◌<◌, ◌≤◌, Bool, true, false, List, length, take, drop, Option, Some, IfOk, IfErr, OnOk, OnErr, IfSome};
 ghost use Rattle.std.specs.Option.{option_map};
 ghost use Rattle.board_core.specs.Takes.{Takes};
@@ -85,14 +85,14 @@ pub enum Refusal {
     NotOpen,
     /// A signal interrupted the call.
     Interrupted,
-    /// Anything else, also a check of the caller's.
+    /// Anything else, also a check of the caller.
     Other,
 }
 
-/// A note for the model alone: how the process has its files.
+/// A note that only the model uses: how the process has its files.
 #[derive(Clone, Copy)]
 pub enum Note {
-    /// The file of this name, which was locked, counts as locked.
+    /// The file of this name, which was locked before, counts as locked.
     Locked(FileName),
     /// The bytes of this name's file aren't relied on any more.
     Lost(FileName),
@@ -104,15 +104,16 @@ pub enum Note {
 
 /// The calls of the operating system on the working folder and on standard output.
 ///
-/// A kernel may be modelled, as a system may be: its clauses then say what a call did to the folder,
-/// provided that its four names refer to regular files that nobody else changes, those of the
-/// journal maybe through symlinks. A call that takes `&self` changes nothing that clauses speak of.
+/// A kernel may be modelled, as a system may be: its clauses then say what a call did to the
+/// folder, provided that its four names refer to regular files that nobody else changes, the
+/// journal's maybe through symlinks. A call that takes `&self` changes nothing that clauses speak
+/// of.
 pub trait Kernel {
     /// What was done to the folder and the output, if the kernel is modelled.
     ghost told: { Self → Option FolderPast };
 
-    /// The change that the last calls have prepared: a file is open and not kept yet, or locked and
-    /// not noted as locked yet, or the names may count as synced. Any change ends it.
+    /// The change that the last calls have prepared: a file is open and not kept yet; or a file is
+    /// locked and not noted as locked yet; or the names may count as synced. Any change ends it.
     ghost prepared: { Self → Option FolderChange };
 
     /// How the file that was opened last is open.
@@ -121,7 +122,7 @@ pub trait Kernel {
     /// Whether the process keeps a file.
     ghost keeps: { Self → Bool };
 
-    /// How many calls have failed. Each call says of which failures it is counted.
+    /// How many calls have failed. Each call says which failures it counts.
     ghost fails: { Self → ℕ };
 
     /// Whether the folder of this name's file is the working folder, or is kept.
@@ -134,7 +135,7 @@ pub trait Kernel {
     /// Returns whether a file is kept as this name's. No call is made.
     fn is_kept(&self, name: FileName) -> bool;
 
-    /// Returns what is found of what a name itself refers to, or `None` if it refers to nothing.
+    /// Returns what a name itself refers to, or `None` if it refers to nothing.
     fn lstat(&mut self, place: Place) -> Result<Option<FoundFile>, Refusal>
         ensures found { IfOk result (λ found. IfSome (told self.old) (IsFoundItself place found)) }
         ensures reaches { IfOk result (λ found. IsThere place found (reaches self.new)) }
@@ -142,7 +143,7 @@ pub trait Kernel {
             (prepared self.new) }
         ensures cause { fails self.new ≡ fails self.old + failed_any result };
 
-    /// Returns what is found of the file that a name refers to, through any symlink, or `None` if
+    /// Returns what was found of the file that a name refers to, through any symlink, or `None` if
     /// there is no such file.
     fn stat(&mut self, place: Place) -> Result<Option<FoundFile>, Refusal>
         ensures found { IfOk result (λ found. IfSome (told self.old) (IsFoundAt place found)) }
@@ -150,7 +151,7 @@ pub trait Kernel {
             (prepared self.new) }
         ensures cause { fails self.new ≡ fails self.old + failed_any result };
 
-    /// Returns what is found of an open file. A file that is kept is the name's present one.
+    /// Returns what was found of an open file. A kept file is the name's present file.
     fn fstat(&mut self, held: Held) -> Result<FoundFile, Refusal>
         requires { IsHeldBy held (told self.old) (prepared self.old) }
         ensures found { IfOk result (λ m. IfSome (told self.old)
@@ -173,7 +174,8 @@ pub trait Kernel {
         ensures way { OnOk result (way self.new ≡ way self.old) }
         ensures cause { fails self.new ≡ fails self.old + failed_any result };
 
-    /// Opens the file of a name. It isn't kept yet. One that is opened to read it can't be kept.
+    /// Opens the file of a name. It isn't kept yet. A file that is opened only to be read can't be
+    /// kept.
     fn open(&mut self, name: FileName, how: Way) -> Result<(), Refusal>
         ensures told { told self.new ≡ told self.old }
         ensures prepared { OnOk result (IsPrepared (opens name) (told self.old)
@@ -181,7 +183,7 @@ pub trait Kernel {
         ensures way { OnOk result (IsOpenAs how (told self.old) (way self.new)) }
         ensures cause { fails self.new ≡ fails self.old + failed_any result };
 
-    /// Keeps the file that was opened as the name's, in the place of any other. No call is made.
+    /// Keeps the opened file as the name's file, instead of any other. No call is made.
     fn keep(&mut self, name: FileName)
         requires prepared { IsPrepared (opens name) (told self.old) (prepared self.old) }
         requires way { IsOpenAs Write (told self.old) (way self.old) }
@@ -315,8 +317,8 @@ pub trait Kernel {
         ensures cause { fails self.new ≡ fails self.old + failed_any result };
 
     /// Makes the names durable, by an fsync of the working folder and of each folder that is kept.
-    /// After an error a later sync makes them durable, or none succeeds any more: so it is where the
-    /// file system has a log, which it then gives up.
+    /// After an error a later sync makes them durable, or no later sync succeeds, because a file
+    /// system with a log gives up the log.
     fn fsync_folders(&mut self) -> Result<(), Refusal>
         ensures told { OnOk result (Did synced_names (told self.old) (told self.new)) }
         ensures failed { OnErr result (told self.new ≡ told self.old) }
@@ -340,8 +342,8 @@ pub trait KernelInput {
     /// How many reads have failed. A read that a signal interrupted doesn't count.
     ghost fails: { Self → ℕ };
 
-    /// Reads the next bytes into the front of `buf` and returns their number, 0 at the end. A read
-    /// that fails takes nothing.
+    /// Reads the next bytes into the front of `buf` and returns their number, 0 at the end. A
+    /// failed read takes no bytes.
     fn read(&mut self, buf: &mut [u8]) -> Result<usize, Refusal>
         requires { 0 < length buf.old }
         ensures within { IfOk result (λ n. n ≤ length buf.old) }

@@ -4,7 +4,8 @@ ghost use Rattle.std.specs.Borrow.{ftrue};
 
 use std::marker::{Model, PhantomData};
 
-/// The notes of calls, each as numbers and bytes. Allocates nothing: only contracts can read notes.
+/// The notes of calls, each as numbers and bytes. Allocates nothing, because only contracts read
+/// notes.
 #[derive(Drop)]
 pub struct Notes {
     marker: PhantomData<u8>,

@@ -12,7 +12,7 @@ use board_core::Failed;
 /// Replaces the record store's file by a file of these bytes.
 ///
 /// A crash at any point leaves a store that a crash before might have left, or the store of these
-/// bytes, and everything else as it was. After `Ok` the file has these bytes and is durable.
+/// bytes, and everything else unchanged. After `Ok` the file has these bytes and is durable.
 ///
 /// # Errors
 ///
@@ -40,7 +40,7 @@ fn write_new<S: System>(bytes: &[u8], system: &mut S) -> Result<(), Failed>
     system.sync(FileName::New)
 }
 
-// Removes the file that a crash left under the name `rasd.new`, if there is one.
+// Removes the file that a crash left under the name `rasd.new`, if the file exists.
 fn clear_new<S: System>(system: &mut S) -> Result<(), Failed>
     ensures quiet { Quiet (S.told system.old) (S.told system.new) }
     ensures missing { OnOk result (IfSome (S.told system.new) (IsMissing FileName.New)) }

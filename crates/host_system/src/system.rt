@@ -24,9 +24,8 @@ pub enum FileName {
 /// The system calls on the working folder and on standard output.
 ///
 /// A system may be modelled: its contracts then say what was done to the folder, provided that its
-/// four names refer to regular files that nobody else changes. The real system isn't modelled. Of
-/// every system, modelled or not, they say that a call returns `Failed` only if it raised the count
-/// of faults.
+/// four names refer to regular files that nobody else changes. The real system isn't modelled. For
+/// every system, modelled or not, a call returns `Failed` only if it raised the count of faults.
 pub trait System {
     /// What was done to the folder and the output, if the system is modelled.
     ghost told: { Self → Option FolderPast };
@@ -76,7 +75,7 @@ pub trait System {
         ensures cause { HasCause (faults self.old) (faults self.new) result };
 
     /// Fills the buffer with the bytes of an open file from the offset `place` on. Requires that
-    /// the file has so many bytes there.
+    /// the file has that many bytes there.
     fn read_at(&mut self, name: FileName, place: u64, buf: &mut [u8]) -> Result<(), Failed>
         requires open { IfSome (told self.old) (IsOpen name) }
         requires within { IfSome (told self.old)
@@ -87,8 +86,8 @@ pub trait System {
         ensures cause { HasCause (faults self.old) (faults self.new) result };
 
     /// Writes bytes at the offset `place`. Requires a file that is open, is locked if it is a
-    /// journal file, isn't the record store's, and is at least so long. After `Failed` any part may
-    /// be written.
+    /// journal file, isn't the record store's, and isn't shorter than `place`. After `Failed` any
+    /// part may be written.
     fn write_at(&mut self, name: FileName, place: u64, bytes: &[u8]) -> Result<(), Failed>
         requires there { IfSome (told self.old) (HasFile name) }
         requires open { IfSome (told self.old) (MayBeWritten name) }
@@ -137,7 +136,7 @@ pub trait System {
             (told self.new)) }
         ensures cause { HasCause (faults self.old) (faults self.new) result };
 
-    /// Makes the folder's names durable. After `Failed` they aren't more durable than before.
+    /// Makes the folder's names durable. After `Failed` they are as durable as before.
     fn sync_names(&mut self) -> Result<(), Failed>
         ensures told { OnOk result (Did synced_names (told self.old) (told self.new)) }
         ensures failed { OnErr result (told self.new ≡ told self.old) }
@@ -160,7 +159,7 @@ pub trait Input {
     ghost faults: { Self → ℕ };
 
     /// Reads the next bytes into the front of `buf` and returns their number, 0 at the end.
-    /// Requires that `buf` isn't empty. A read that fails takes nothing.
+    /// Requires that `buf` isn't empty. A failed read takes no bytes.
     fn read(&mut self, buf: &mut [u8]) -> Result<usize, Failed>
         requires { 0 < length buf.old }
         ensures within { IfOk result (λ n. n ≤ length buf.old) }

@@ -89,7 +89,7 @@ abbrev spell_end : Version → ℕ → List ℕ
 spell_end One floor = cond (eqb floor 0) [] (u64_bytes floor)
 spell_end Two floor = []
 
--- a floor that stands at the end, where this one stood at the front
+-- A floor is at the end, given the floor at the front.
 abbrev EndsAt : Version → ℕ → ℕ → Type 0
 EndsAt One front floor = Fits8 floor
 EndsAt Two front floor = floor ≡ front
@@ -390,7 +390,7 @@ checkpoint_is_read version a bytes is = parts_make version bytes a (checkpoint_p
 
 -- ---- the account that holds what is read
 
--- an account that holds what stands behind the numbers at the front
+-- An account with the parts after the numbers at the front is read.
 pub holds_make : (version : Version) (bytes : List ℕ) (f : CheckpointFront) (rest : List ℕ) (a : State) → front_at version bytes ≡ Ok (f, rest) → Holds version f.1.1.1 rest a
     → a ≡ with_rows_of (account_with f.0 f.1.0 f.1.1.0) a → IsAccount a → checkpoint_in version bytes ≡ Ok a
 holds_make version bytes f rest a read holds rows account =
@@ -440,7 +440,7 @@ held version bytes a p = record {
   floor_is = p.floor_is;
 }
 
--- what is read of a whole checkpoint is held and taken behind its front
+-- The parts of a whole checkpoint are read after its front, and an account can have them.
 pub holds_of : (version : Version) (bytes : List ℕ) (f : CheckpointFront) (rest : List ℕ) (a : State) → front_at version bytes ≡ Ok (f, rest) → checkpoint_in version bytes ≡ Ok a → Holds version f.1.1.1 rest a × AreTaken a
 holds_of version bytes f rest a read e =
     let p = parts_of version bytes a e in

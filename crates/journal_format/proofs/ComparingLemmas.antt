@@ -1,4 +1,4 @@
--- Bytes beside the checkpoint of an account.
+-- Bytes compared with the checkpoint of an account.
 use Rattle.std.proofs.Common.{◌≡◌, ◌≢◌, ◌∙◌, ℕ, List, ◌++◌, length, Option, None, Some, refl, sym, ap, append_assoc, append-nil}
 use Rattle.std.specs.List.{flat_map}
 use Rattle.std.specs.Option.{MatchOption}
@@ -47,7 +47,7 @@ pub rows_are : (a : State) (bytes behind rest : List ℕ) → bytes ≡ first_pa
 rows_are a bytes behind rest one two whole =
     append_cancel_left (name_part a) rest (row_part a) (sym two ∙ append_cancel_left (first_part a) behind (name_part a ++ row_part a) (sym one ∙ (whole ∙ whole_is a)))
 
--- a test that decides what something else comes to
+-- A test that decides one statement also decides an equivalent one.
 pub tells : (r : Bool) (A B : Type 0) → Decides r A → (A → B) → (B → A) → (IsTrue r → B) × (B → IsTrue r)
 tells r A B decides to from = ((λ yes. to (decides.0 yes)), (λ b. decides.1 (from b)))
 

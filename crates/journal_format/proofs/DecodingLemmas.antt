@@ -1,4 +1,4 @@
--- Rows that are put into an account as they are read.
+-- Rows that are added to an account as they are read.
 use Rattle.std.proofs.Common.{◌≡◌, ℕ, suc, ◌+◌, ◌-◌, ◌<◌, Bool, true, false, nat_eq, sum, List, [], ◌∷◌, ◌++◌, length, Result, Ok, Err, refl, sym, ap, subst, ◌∙◌, arith, length-append}
 use Rattle.std.specs.List.{list_any, IsDistinct, AllByRecursion}
 use Rattle.ras_facts.specs.declared.name.Name.{Name}
@@ -26,7 +26,7 @@ use Rattle.ras_account.specs.Rows.{with_name, with_module, with_page}
 use Rattle.entry_format.proofs.CodecLemmas.{Reads, bind_ok, ok_is}
 use Rattle.entry_format.proofs.LoopLemmas.{with_front}
 
--- no whole list is read whose next row is refused behind those before it
+-- A list isn't read if a row of it is rejected after the rows before it.
 pub refused_amid : {A : Type 0} (r : Reader A) (Sound : List A → Type 0) (held : List A) (count i : ℕ) (bytes : List ℕ) (total : Result (List A × List ℕ) EntryRefused) → i < count
     → ((x : A) (later : List A) (rest : List ℕ) → r bytes ≡ Ok (x, rest) → Sound (held ++ x ∷ later) → ⊥)
     → with_front held (many_at r (count - i) bytes) ≡ total → (xs : List A) (rest : List ℕ) → total ≡ Ok (xs, rest) → Sound xs → ⊥
@@ -45,16 +45,16 @@ refused_amid {A} r Sound held count i bytes total lt refused so_far xs rest all 
     let list : held ++ p.0.0 ≡ xs = ap (λ (x : List A × List ℕ). x.0) (ok_is whole (xs, rest) p.2) in
     refused q.0.0 o.0.0 q.0.1 q.1 (subst Sound (sym (ap (λ (ys : List A). held ++ ys) tail ∙ list)) sound)
 
--- what isn't read is none
+-- Bytes that can't be read have no value.
 pub unread : {B : Type 0} (total : Result B EntryRefused) (refused : EntryRefused) (y : B) → FailsUnlessMemory refused total → refused ≡ Bad → total ≡ Ok y → ⊥
 unread total NoMemory y fails is all = absurd cc
 unread total Bad y fails is all = let wrong = sym fails ∙ all in absurd cc
 
--- no whole list is read where none of its rows stands there
+-- A list isn't read if one of its rows can't be read.
 pub unread_amid : {A : Type 0} (total : Result (List A × List ℕ) EntryRefused) (refused : EntryRefused) (xs : List A) (rest : List ℕ) → FailsUnlessMemory refused total → refused ≡ Bad → total ≡ Ok (xs, rest) → ⊥
 unread_amid total refused xs rest fails is all = unread total refused (xs, rest) fails is all
 
--- a row that was read twice
+-- Reading a row twice gives the same row.
 pub same_row : {A : Type 0} (read : Result (A × List ℕ) EntryRefused) (x y : A) (rest after : List ℕ) → read ≡ Ok (x, rest) → read ≡ Ok (y, after) → y ≡ x
 same_row {A} read x y rest after one other =
     let p : A × List ℕ = (y, after) in
@@ -66,7 +66,7 @@ apart : {K : Type 0} (same : K → K → Bool) (x : K) (xs : List K) (y : K) (ys
 apart same x [] y ys v = v.0
 apart same x (z ∷ xs) y ys v = apart same x xs y ys v.1
 
--- a key that is among those before it stands twice
+-- A key that is among the keys before it is there twice.
 pub repeated_key : {K : Type 0} (same : K → K → Bool) → ((x y : K) → same x y ≡ same y x) → (held : List K) (x : K) (later : List K) → IsDistinct same (held ++ x ∷ later) → list_any (same x) held ≡ false
 unfolding IsDistinct
 repeated_key same flips [] x later once = refl
@@ -76,7 +76,7 @@ repeated_key same flips (y ∷ held) x later once =
 
 -- ---- what a list that is sound leaves out
 
--- no name that is there, and none where the list is full
+-- A name that is already there is rejected, and so is any name if the list is full.
 pub name_repeated : (held : List Name) (name : Name) (later : List Name) → is_among held name ≡ true → AreNames (held ++ name ∷ later) → ⊥
 name_repeated held name later there are = let not_there = repeated_key same_name same_name-laws.symm held name later are.once in cc
 
@@ -91,7 +91,7 @@ name_put start now new name before put =
     let all : new ≡ record start { names = now.names ++ name ∷ [] } = put ∙ ap (λ (a : State). with_name a name) before in
     all ∙ ap (λ (names : List Name). record start { names = names }) (sym (ap (λ (a : State). a.names) all))
 
--- a label that has a row, and a row that brings too much weight
+-- A label that has a row is rejected, and so is a row that brings too much weight.
 pub module_repeated : (held : List (Bytes × Module)) (row : Bytes × Module) (later : List (Bytes × Module)) → list_any (same_label row.0) (keys_of held) ≡ true → AreModules (held ++ row ∷ later) → ⊥
 module_repeated held row later there are =
     let once : IsDistinct same_label (keys_of held ++ row.0 ∷ keys_of later) = subst (IsDistinct same_label) (map-append (λ (r : Bytes × Module). r.0) held (row ∷ later)) are.once in
@@ -113,7 +113,7 @@ module_put start now new row before put =
     let all : new ≡ with (now.modules ++ row ∷ []) (now.total + sum row.1.sums) = put ∙ ap (λ (a : State). with_module a row) before in
     all ∙ ap (λ modules. with modules (now.total + sum row.1.sums)) (sym (ap (λ (a : State). a.modules) all)) ∙ ap (λ total. with new.modules total) (sym (ap (λ (a : State). a.total) all))
 
--- a page that has a row
+-- A page that has a row is rejected.
 pub page_repeated : (held : List (ℕ × PageRow)) (row : ℕ × PageRow) (later : List (ℕ × PageRow)) → list_any (nat_eq row.0) (keys_of held) ≡ true → ArePages (held ++ row ∷ later) → ⊥
 page_repeated held row later there are =
     let once : IsDistinct nat_eq (keys_of held ++ row.0 ∷ keys_of later) = subst (IsDistinct nat_eq) (map-append (λ (r : ℕ × PageRow). r.0) held (row ∷ later)) are.once in
@@ -143,7 +143,7 @@ unfolding list_at
 unlisted r bytes NoMemory fails = tt
 unlisted r bytes Bad fails = ap (λ n. n >>= λ m. many_at r m.0 m.1) fails
 
--- what holds of all that is read holds of what was returned
+-- A property of every value that can be read is a property of the returned value.
 pub read_is : {X A : Type 0} (r : Reader A) (s : A → List ℕ) (V : A → Type 0) (P : X → Type 0) → Reads r s V → (view : X → A × List ℕ) → ((x : X) → V (view x).0 → P x)
     → (bytes : List ℕ) (result : Result X EntryRefused) → AreBytes bytes → ReadsUnlessMemory view result (r bytes) → IfOk result P
 read_is r s V P reads view to bytes (Ok x) fits given = to x (reads.takes bytes (view x).0 (view x).1 fits given).1

@@ -1,4 +1,4 @@
--- A link at the front of bytes.
+-- A link at the start of bytes.
 use Rattle.std.proofs.Common.{◌≡◌, ℕ, ◌+◌, ◌<◌, ◌≤◌, ◌^◌, Bool, true, false, ltb, List, [], ◌++◌, length, take, drop, All, refl, sym, ap, subst, ◌∙◌, append_assoc, append-nil, arith, length-append}
 use Rattle.std.proofs.lemmas.Bool.{le-ltb, lt-ltb, ltb-true, ltb-false}
 use Rattle.std.proofs.lemmas.List.{take_at, drop_at, append_cancel_left}
@@ -14,7 +14,7 @@ use Rattle.journal_format.specs.declared.link.TheConstants.{MOST_LINK_ENTRIES, M
 use Rattle.journal_format.specs.Links.{payload_bytes, link_bytes, IsPayload, CanLink, link_length, ends_early, payload_in}
 use Rattle.journal_format.proofs.PayloadLemmas.{same_payload}
 
--- what a link at the front of bytes tells
+-- the length and the payload of a link at the start of bytes
 pub record IsWhole (entries : List Entry) (bytes : List ℕ) : Type 0 where
   pub early : ends_early bytes ≡ false
   pub length_is : link_length bytes ≡ length (link_bytes entries)

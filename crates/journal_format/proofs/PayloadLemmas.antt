@@ -35,7 +35,7 @@ count_read : Reads link_count_at u32_bytes IsCount
 unfolding link_count_at
 count_read = made_read (if_passes is_link_count) (λ n. n) u32_at u32_bytes (λ n. n < 2 ^ 32) IsCount count_makes u32_read
 
--- so many entries of a version as a link has
+-- Entries of a version, as many as a link may have.
 abbrev pub AreLinked : Version → List Entry → Type 0
 AreLinked version entries = IsCount (length entries) × AllByRecursion (IsEntryOf version) entries
 
@@ -64,7 +64,7 @@ payload_read version = record { takes = payload_takes version; again = payload_a
 pub linked : (version : Version) (es : List Entry) (bytes : List ℕ) → IsPayload version es bytes → AreLinked version es
 linked version es bytes is = ((is.some, is.few), recursion_from_All (IsEntryOf version) es is.each)
 
--- bytes are read as a payload exactly where they are one
+-- A payload is read as its entries.
 pub payload_is_read : (version : Version) (es : List Entry) (bytes : List ℕ) → IsPayload version es bytes → payload_of version bytes ≡ Some es
 unfolding payload_of
 payload_is_read version es bytes is =
@@ -76,7 +76,7 @@ payload_found version es bytes fits e =
     let t = whole_takes (payload_at version) payload_bytes (AreLinked version) (payload_read version) bytes es fits (found_is (whole_at (payload_at version) bytes) es e) in
     record { some = t.1.0.0; few = t.1.0.1; each = All-from_recursion (IsEntryOf version) es t.1.1; spelled = t.0 }
 
--- bytes are at most one payload
+-- Bytes are at most one payload.
 pub one_payload : (version : Version) (ds es : List Entry) (x y : List ℕ) → AreLinked version ds → AreLinked version es → payload_bytes ds ++ x ≡ payload_bytes es ++ y → (ds ≡ es) × (x ≡ y)
 one_payload version ds es x y v w e =
     let one = sym (payload_again version ds x v) ∙ ap (payload_at version) e ∙ payload_again version es y w in
@@ -89,7 +89,7 @@ one_payload version ds es x y v w e =
 abbrev pub Read : Type 0
 Read = Result (Vec Entry) EntryRefused
 
--- what is counted and listed is a payload
+-- A number and that many entries are a payload.
 pub list_is_payload : (version : Version) (bytes : List ℕ) (n : ℕ) (rest : List ℕ) (r : Read) → AreBytes bytes → link_count_at bytes ≡ Ok (n, rest)
     → IfOk r (λ v. AreEntriesOf version v.items rest) → IfOk r (λ v. length v.items ≡ n) → IfOk r (λ v. IsPayload version v.items bytes)
 unfolding payload_bytes
@@ -105,7 +105,7 @@ list_is_payload version bytes n rest (Ok v) fits counted found len =
       spelled = t.0 ∙ ap (λ (w : List ℕ). u32_bytes n ++ w) found.spelled ∙ ap (λ (k : ℕ). u32_bytes k ++ entries_bytes v.items) (sym len);
     }
 
--- the count of a payload is read
+-- The number of a payload's entries is read.
 counted : (version : Version) (bytes : List ℕ) (es : List Entry) → IsPayload version es bytes → link_count_at bytes ≡ Ok (length es, entries_bytes es)
 unfolding payload_bytes
 counted version bytes es is = ap link_count_at is.spelled ∙ count_read.again (length es) (entries_bytes es) (is.some, is.few)
@@ -118,12 +118,12 @@ payload_is_listed version bytes n rest r read listed es is enough =
     let same = ok_is here (length es, entries_bytes es) (sym read ∙ counted version bytes es is) in
     listed es (record { each = is.each; spelled = ap (λ (p : ℕ × List ℕ). p.1) same }) (sym (ap (λ (p : ℕ × List ℕ). p.0) same)) enough
 
--- no payload is refused for its count
+-- No payload is rejected for its number of entries.
 pub payload_is_counted : (version : Version) (bytes : List ℕ) (es : List Entry) (refused : EntryRefused) → IsPayload version es bytes → RefusesExactly refused (link_count_at bytes) → ⊥
 payload_is_counted version bytes es NoMemory is refused = refused
 payload_is_counted version bytes es Bad is refused = let wrong = sym refused ∙ counted version bytes es is in absurd cc
 
--- the payload of a link alone
+-- Bytes are the payload of at most one list of entries.
 pub same_payload : (version : Version) (ds es : List Entry) (bytes : List ℕ) → IsPayload version ds bytes → IsPayload version es bytes → ds ≡ es
 same_payload version ds es bytes one other =
     let found : Option (List Entry) = payload_of version bytes in

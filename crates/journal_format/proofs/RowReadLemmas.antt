@@ -126,7 +126,7 @@ page_state_read =
 
 -- ---- what is known of a module's replacement
 
--- none asks to replace a module without a bucket
+-- No module without a bucket is to be replaced.
 abbrev pub IsReplacement : Replacement → Type 0
 IsReplacement p = IfSome p.0 IsBucket × (p.0 ≡ None → p.1 ≡ false)
 
@@ -172,7 +172,7 @@ flag_again (Some bucket, replace) rest v =
     let both = both_read bucket_at replace_at bucket_bytes (λ replace. replace_byte replace ∷ []) IsBucket Any bucket_read replace_read in
     rw (both.again (bucket, replace) rest (v.0, tt)) refl
 
--- how a version spells it, and what it can tell
+-- A version's spelling of a replacement, and which replacements the version can spell.
 abbrev pub spell_replacement : Version → Replacement → List ℕ
 spell_replacement One p = []
 spell_replacement Two p = replacement_bytes p.0 p.1
@@ -249,7 +249,7 @@ IsLabel label = is_label_or_none label ≡ true
 abbrev AreModuleFields : Version → ModuleFields → Type 0
 AreModuleFields version p = IsLabel p.0 × (((length p.1.0 ≡ CLASS_COUNT) × AllByRecursion Fits8 p.1.0) × TellsReplacement version p.1.1)
 
--- a row of a module that a version can tell, with sums that fit their fields
+-- A row of a module that a version can spell, with sums that fit their fields.
 pub record IsToldModule (version : Version) (row : Bytes × Module) : Type 0 where
   pub is_row : IsModuleRow row
   pub sums : AllByRecursion Fits8 row.1.sums

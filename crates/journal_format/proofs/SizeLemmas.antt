@@ -9,7 +9,7 @@ use Rattle.entry_format.specs.declared.version.Version.TheVariants.{Two}
 use Rattle.entry_format.specs.Spelling.{name_bytes, limit_bytes}
 use Rattle.journal_format.specs.Checkpoints.{bucket_bytes, module_bytes, page_row_bytes, front_bytes, end_bytes, checkpoint_bytes}
 
--- numbers of 8 bytes
+-- Each number has 8 bytes.
 pub numbers_size : (numbers : List ℕ) → length (flat_map u64_bytes numbers) ≡ 8 * length numbers
 numbers_size [] = refl
 numbers_size (n ∷ numbers) = omega (arith, length-append (u64_bytes n) (flat_map u64_bytes numbers), length-u64_bytes n, numbers_size numbers)

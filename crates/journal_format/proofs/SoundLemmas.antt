@@ -1,4 +1,4 @@
--- What the test of an account that was read comes to.
+-- What the test of an account that was read means.
 use Rattle.std.proofs.Common.{◌≡◌, ℕ, ◌^◌, ◌<◌, ◌≤◌, Bool, true, false, not, ◌&&◌, leb, nat_eq, List, [], ◌∷◌, length, sum, refl, ap, arith}
 use Rattle.std.specs.List.{list_all, IsDistinct, AllByRecursion}
 use Rattle.std.specs.Map.{keys_of}

@@ -13,7 +13,7 @@ none_left x y [] true is e = (refl, ok_is x y e)
 none_left x y (b ∷ rest) true is e = let none = eqb-true _ _ is in absurd (omega (arith, none))
 none_left x y rest false is e = absurd cc
 
--- what was read to the end is spelled by all of the bytes
+-- A value that was read to the end is spelled by all of the bytes.
 pub whole_takes : {A : Type 0} (read : Reader A) (spell : A → List ℕ) (V : A → Type 0) → Reads read spell V
     → (bytes : List ℕ) (x : A) → AreBytes bytes → whole_at read bytes ≡ Ok x → (bytes ≡ spell x) × V x
 whole_takes {A} read spell V reads bytes x fits e =
@@ -28,7 +28,7 @@ pub whole_again : {A : Type 0} (read : Reader A) (spell : A → List ℕ) (V : A
 whole_again read spell V reads x v =
     rw (ap read (sym (append-nil (spell x))) ∙ reads.again x [] v) refl
 
--- what was found was read
+-- A value that was found was read.
 pub found_is : {A : Type 0} (read : Result A EntryRefused) (x : A) → found_in read ≡ Some x → read ≡ Ok x
 found_is {A} (Ok y) x e = let same : y ≡ x = cc in ap (λ (z : A). Ok z) same
 found_is (Err refused) x e = absurd cc

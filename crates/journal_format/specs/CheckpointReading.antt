@@ -1,5 +1,5 @@
--- The account that a checkpoint spells, read from left to right. A law says that it is the account whose checkpoint the
--- bytes are.
+-- The account that a checkpoint spells, read from left to right. By a law it is the account whose checkpoint the bytes
+-- are.
 use Rattle.std.specs.Prelude.{ℕ, Bool, true, false, not, nat_eq, nat_le, ◌==◌, ◌&&◌, if◌then◌else◌, Option, None, Some, is_some, List, [], ◌∷◌, length, Result, Ok, Err}
 use Rattle.std.specs.List.{list_all}
 use Rattle.std.specs.Map.{keys_of}
@@ -25,7 +25,7 @@ use Rattle.entry_format.specs.declared.refused.EntryRefused.TheVariants.{Bad}
 use Rattle.entry_format.specs.Reading.{Reader, both_at, some_or_bad, made_at, if_passes, many_at, whole_at, by_kind, byte_at, u64_at, name_at, label_at, limit_at, page_number_at}
 use Rattle.journal_format.specs.PayloadReading.{found_in}
 
--- rows of one sort after their number
+-- rows of one kind after their number
 unfoldable pub list_at : {A : Type 0} → Reader A → Reader (List A)
 list_at read bytes = do
   count ← u64_at bytes
@@ -33,7 +33,7 @@ list_at read bytes = do
 
 -- ---- the numbers at the front
 
--- the two limits, the number of entries, and the floor if it is at the front
+-- The numbers at the front: the two limits, the number of entries, and the floor if it is there.
 abbrev pub CheckpointFront : Type 0
 CheckpointFront = Limit × (Limit × (ℕ × ℕ))
 
@@ -51,7 +51,7 @@ bucket_at =
     made_at (λ p. if nat_le p.0 MOST_COUNT then Some (record { count = p.0; stamp = p.1 }) else None)
     (both_at u64_at u64_at)
 
--- a module's bucket, and whether it is to be replaced
+-- a module's bucket, and whether the module is to be replaced
 abbrev pub Replacement : Type 0
 Replacement = Option Bucket × Bool
 
@@ -80,7 +80,7 @@ unfoldable pub replacement_at : Version → Reader Replacement
 replacement_at One bytes = no_replacement_at bytes
 replacement_at Two bytes = by_kind replacement_of_flag bytes
 
--- a module's row; a row without a label has no bucket
+-- A module's row. A row without a label has no bucket.
 abbrev pub module_of : Bytes × (List ℕ × Replacement) → Option (Bytes × Module)
 module_of p =
     if not ((length p.0 == 0) && is_some p.1.1.0)
@@ -118,13 +118,13 @@ floor_in Two floor (byte ∷ bytes) = Err Bad
 
 -- ---- the whole
 
--- whether no key of a list comes twice
+-- Whether no key is twice in a list.
 abbrev pub are_once : {K : Type 0} → (K → K → Bool) → List K → Bool
 are_once same [] = true
 are_once same (x ∷ xs) = list_all (λ y. not (same x y)) xs && are_once same xs
 
--- whether names, labels and pages come once each, no name's boot is retired, and the numbers are
--- within what an account counts
+-- Whether no name, label or page is there twice, no name's boot is retired, and the numbers are within an account's
+-- limits.
 abbrev pub is_sound : State → Bool
 is_sound a =
     (nat_le (length a.names) MOST_NAMES && nat_le a.total MOST_TOTAL)
@@ -145,7 +145,7 @@ state_with front names modules pages floor = record {
   pages = pages;
 }
 
--- what the bytes of a whole checkpoint spell
+-- the account that the bytes of a whole checkpoint spell
 unfoldable pub checkpoint_in : Version → List ℕ → Result State EntryRefused
 checkpoint_in version bytes = do
   front ← front_at version bytes
@@ -155,6 +155,6 @@ checkpoint_in version bytes = do
   floor ← floor_in version front.0.1.1.1 pages.1
   some_or_bad (if_passes is_sound (state_with front.0 names.0 modules.0 pages.0 floor))
 
--- the account whose checkpoint the bytes are, if they are one
+-- The account whose checkpoint the bytes are, or None if they aren't a checkpoint.
 unfoldable pub checkpoint_of : Version → List ℕ → Option State
 checkpoint_of version bytes = found_in (checkpoint_in version bytes)

@@ -26,7 +26,7 @@ state_number Hard = 2
 abbrev pub replace_byte : Bool → ℕ
 replace_byte replace = if replace then 1 else 0
 
--- rows of one sort: how many there are, and each in order
+-- rows of one kind: how many there are, and each in order
 abbrev pub list_bytes : {A : Type 0} → (A → List ℕ) → List A → List ℕ
 list_bytes spell rows = u64_bytes (length rows) ++ flat_map spell rows
 
@@ -34,13 +34,13 @@ list_bytes spell rows = u64_bytes (length rows) ++ flat_map spell rows
 unfoldable pub bucket_bytes : Bucket → List ℕ
 bucket_bytes bucket = u64_bytes bucket.count ++ u64_bytes bucket.stamp
 
--- a module's replacement: whether it has a bucket (1 byte) and, if it has one, the bucket, and whether it is to be
--- replaced (1)
+-- A module's replacement: whether it has a bucket (1 byte) and, if so, the bucket, and whether the module is to be
+-- replaced (1).
 unfoldable pub replacement_bytes : Option Bucket → Bool → List ℕ
 replacement_bytes None replace = 0 ∷ []
 replacement_bytes (Some bucket) replace = 1 ∷ bucket_bytes bucket ++ replace_byte replace ∷ []
 
--- a module's replacement in a version: version 1 has none
+-- A module's replacement in a version. Version 1 has no replacements.
 abbrev pub replacement_part : Version → Module → List ℕ
 replacement_part One counted = []
 replacement_part Two counted = replacement_bytes counted.bucket counted.replace
@@ -60,7 +60,7 @@ unfoldable pub front_bytes : Version → State → List ℕ
 front_bytes One a = limit_bytes a.limit ++ u64_bytes a.entries
 front_bytes Two a = limit_bytes a.limit ++ limit_bytes a.module_limit ++ u64_bytes a.entries ++ u64_bytes a.floor
 
--- the end of version 1: the floor, if it isn't 0
+-- the end of a checkpoint in version 1: the floor, if it isn't 0
 unfoldable pub end_bytes : Version → State → List ℕ
 end_bytes One a = if a.floor == 0 then [] else u64_bytes a.floor
 end_bytes Two a = []
@@ -71,17 +71,18 @@ checkpoint_bytes version a =
     front_bytes version a ++ list_bytes name_bytes a.names ++ list_bytes (module_bytes version) a.modules
     ++ list_bytes page_row_bytes a.pages ++ end_bytes version a
 
--- what a checkpoint of version 1 can spell: no limit for modules but the first one, and no bucket of a module
+-- A checkpoint of version 1 can spell this account: the limit for modules is the first limit, and no module has a
+-- bucket.
 pub record HasNoBuckets (a : State) : Type 0 where
   pub limit : a.module_limit ≡ FIRST_MODULE_LIMIT
   pub modules : All (λ row. row.1.bucket ≡ None) a.modules
 
--- a checkpoint of this version can spell this account
+-- A checkpoint of this version can spell this account.
 abbrev pub CanTell : Version → State → Type 0
 CanTell One a = HasNoBuckets a
 CanTell Two a = Unit {0}
 
--- the bytes are the checkpoint of this account in this version, which can spell it
+-- The bytes are the checkpoint of this account in this version, which can spell it.
 pub record IsCheckpoint (version : Version) (a : State) (bytes : List ℕ) : Type 0 where
   pub account : IsAccount a
   pub told : CanTell version a

@@ -1,4 +1,4 @@
--- How a link of the journal is spelled: entries that are stored or lost together. Each number of several bytes begins
+-- How a link of the journal is spelled. Its entries are stored or lost together. Each number of several bytes begins
 -- with its low byte.
 use Rattle.std.specs.Prelude.{◌≡◌, ℕ, ◌+◌, ◌<◌, ◌≤◌, ◌^◌, Bool, nat_lt, List, ◌++◌, length, take, drop, All}
 use Rattle.ras_base.specs.LittleEndian.{u32_bytes, number_at}
@@ -16,26 +16,26 @@ payload_bytes entries = u32_bytes (length entries) ++ entries_bytes entries
 unfoldable pub link_bytes : List Entry → List ℕ
 link_bytes entries = u32_bytes (length (payload_bytes entries)) ++ payload_bytes entries
 
--- the bytes are the payload of these entries, which a link of this version can have
+-- The bytes are the payload of these entries, which a link of this version can have.
 pub record IsPayload (version : Version) (entries : List Entry) (bytes : List ℕ) : Type 0 where
   pub some : 1 ≤ length entries
   pub few : length entries ≤ MOST_LINK_ENTRIES
   pub each : All (IsEntryOf version) entries
   pub spelled : bytes ≡ payload_bytes entries
 
--- entries of a version that a link can hold: the length of their payload fits its field
+-- A link of this version can have these entries: the length of their payload fits its field.
 pub record CanLink (version : Version) (entries : List Entry) : Type 0 where
   pub payload : IsPayload version entries (payload_bytes entries)
   pub fits : length (payload_bytes entries) < 2 ^ 32
 
--- how long a link at the front of bytes is, by the length of its payload
+-- the length of a link at the start of these bytes, by the length of its payload
 abbrev pub link_length : List ℕ → ℕ
 link_length bytes = 4 + number_at 0 4 bytes
 
--- whether bytes end before the link at their front does
+-- Whether bytes end before the link at their start does.
 abbrev pub ends_early : List ℕ → Bool
 ends_early bytes = nat_lt (length bytes) (link_length bytes)
 
--- the payload of the link at the front of bytes
+-- the payload of the link at the start of these bytes
 abbrev pub payload_in : List ℕ → List ℕ
 payload_in bytes = take (number_at 0 4 bytes) (drop 4 bytes)

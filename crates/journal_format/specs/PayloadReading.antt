@@ -1,5 +1,5 @@
--- The entries that a payload spells, read from left to right. A law says that they are the entries whose payload the
--- bytes are.
+-- The entries that a payload spells, read from left to right. By a law they are the entries whose payload the bytes
+-- are.
 use Rattle.std.specs.Prelude.{ℕ, List, Option, None, Some, Result, Ok, Err, Bool, nat_le, ◌&&◌}
 use Rattle.ras_base.specs.Chaining.{◌>>=◌}
 use Rattle.ras_facts.specs.declared.entry.Entry.{Entry}
@@ -8,12 +8,12 @@ use Rattle.entry_format.specs.declared.refused.EntryRefused.{EntryRefused}
 use Rattle.entry_format.specs.Reading.{Reader, made_at, if_passes, many_at, whole_at, u32_at, entry_at}
 use Rattle.journal_format.specs.declared.link.TheConstants.{MOST_LINK_ENTRIES}
 
--- what was read, if something was
+-- the value that was read, if it could be read
 abbrev pub found_in : {A : Type 0} → Result A EntryRefused → Option A
 found_in (Ok x) = Some x
 found_in (Err refused) = None
 
--- whether a link can have this number of entries
+-- Whether a link can have this number of entries.
 abbrev pub is_link_count : ℕ → Bool
 is_link_count count = nat_le 1 count && nat_le count MOST_LINK_ENTRIES
 
@@ -26,6 +26,6 @@ payload_at version bytes = do
   count ← link_count_at bytes
   many_at (entry_at version) count.0 count.1
 
--- the entries whose payload the bytes are, if they are one
+-- The entries whose payload the bytes are, or None if they aren't a payload.
 unfoldable pub payload_of : Version → List ℕ → Option (List Entry)
 payload_of version bytes = found_in (whole_at (payload_at version) bytes)

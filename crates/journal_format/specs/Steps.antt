@@ -1,3 +1,3 @@
--- What only proofs use: no public clause refers to it.
+-- Definitions that only proofs use.
 pub mod Fronts
 pub mod Decoding

@@ -1,4 +1,4 @@
-//! Whether bytes are the checkpoint of a given account.
+//! Compares bytes with the checkpoint of a given account.
 ghost use Rattle.std.specs.Prelude.{◌≡◌, ◌≢◌, ◌↔◌, ◌++◌, ℕ, List, IsTrue, IfOk, IfSome, None};
 ghost use Rattle.std.specs.List.{flat_map};
 ghost use Rattle.entry_format.specs.declared.version.Version.TheVariants.{Two};
@@ -11,7 +11,7 @@ use ras_base::NoMemory;
 use ras_base::little_endian::push_u64;
 use std::alloc::Global;
 
-// The bytes after a piece at their front, or `None` if they don't begin with it.
+// Returns the bytes after a piece, or `None` if they don't begin with the piece.
 fn after<'a>(piece: &[u8], bytes: &'a [u8]) -> Option<&'a [u8]>
     ensures some { IfSome result (λ rest. bytes.now ≡ piece.now ++ rest.now) }
     ensures none { result ≡ None → (rest : List ℕ) → bytes.now ≢ piece.now ++ rest }
@@ -19,7 +19,7 @@ fn after<'a>(piece: &[u8], bytes: &'a [u8]) -> Option<&'a [u8]>
     bytes.strip_prefix(piece)
 }
 
-// The bytes after the names of an account at their front, or `None` if they don't begin with them.
+// Returns the bytes after the names of an account, or `None` if they don't begin with them.
 fn after_names<'a>(account: &Account, bytes: &'a [u8]) -> Option<&'a [u8]>
     ensures some { IfSome result (λ rest. bytes.now
         ≡ flat_map name_bytes account.now.state.names ++ rest.now) }
@@ -29,8 +29,8 @@ fn after_names<'a>(account: &Account, bytes: &'a [u8]) -> Option<&'a [u8]>
     after(account.spelled_names(), bytes)
 }
 
-/// Returns whether bytes are the checkpoint of this account in version 2. No second account is made
-/// of them.
+/// Returns whether bytes are the checkpoint of this account in version 2. Builds no second account
+/// from them.
 ///
 /// `NoMemory`: only if memory runs out.
 pub fn is_checkpoint_of(alloc: Global, account: &Account, bytes: &[u8]) -> Result<bool, NoMemory>

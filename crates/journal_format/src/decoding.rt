@@ -1,4 +1,4 @@
-//! Checkpoints as accounts.
+//! Converts checkpoints to accounts.
 ghost use Rattle.std.specs.Prelude.{◌≡◌, ◌≢◌, ◌≤◌, ◌∷◌, ◌++◌, ℕ, List, [], IfOk, OnOk, IsOkAnd, Ok, Err};
 ghost use Rattle.dimm_topology.specs.Labels.{Bytes};
 ghost use Rattle.page_policy.specs.declared.rows.PageRow.{PageRow};
@@ -37,8 +37,8 @@ fn make_room(account: &mut Rebuilt, count: u64, bytes: &[u8]) -> Result<(), NoMe
     account.make_room_for_names(count.min(most) as usize)
 }
 
-// Adds a name to an account that has no floor. `Bad` is returned if and only if the name is there
-// or the account is full.
+// Adds a name to an account that has no floor. `Bad` is returned if and only if the account has the
+// name or the account is full.
 fn put_name(account: &mut Rebuilt, name: Name) -> Result<(), EntryRefused>
     requires floor { account.old.floor ≡ 0 }
     ensures ok { OnOk result (account.new ≡ with_name account.old name) }
@@ -99,8 +99,8 @@ fn put_module(account: &mut Rebuilt, row: ModuleRow) -> Result<(), EntryRefused>
     }
 }
 
-// Adds the rows of modules at the front of the bytes to an account that has none. Returns the bytes
-// after them.
+// Adds the rows of modules at the front of the bytes to an account without rows of modules. Returns
+// the bytes after them.
 fn modules_at<'a>(
     alloc: Global,
     version: Version,
@@ -154,8 +154,8 @@ fn put_page(
     }
 }
 
-// Adds the rows of pages at the front of the bytes to an account that has none. Returns the bytes
-// after them.
+// Adds the rows of pages at the front of the bytes to an account without rows of pages. Returns the
+// bytes after them.
 fn pages_at<'a>(account: &mut Rebuilt, bytes: &'a [u8]) -> Result<&'a [u8], EntryRefused>
     requires { account.old.pages ≡ [] }
     ensures read { IfOk result (λ rest. list_at page_row_at bytes.now
@@ -182,7 +182,7 @@ fn pages_at<'a>(account: &mut Rebuilt, bytes: &'a [u8]) -> Result<&'a [u8], Entr
     Ok(rest)
 }
 
-// The account with these numbers at its front, filled from the bytes after them.
+// Returns the account with these numbers at its front, filled from the bytes after them.
 fn filled(
     alloc: Global,
     version: Version,
@@ -206,8 +206,8 @@ fn filled(
 }
 
 // Reads the names, modules, pages and floor from the bytes after a checkpoint's front into an
-// account that has none of them yet. The account is borrowed, so that the caller drops it in one
-// place, whatever is refused here.
+// account without any of these. The account is borrowed, so that the caller drops it in one place,
+// whatever is refused here.
 fn fill(
     alloc: Global,
     version: Version,
@@ -235,7 +235,7 @@ fn fill(
     }
 }
 
-// The account whose checkpoint the bytes are, as it is read.
+// Returns the account whose checkpoint the bytes are.
 fn account_at(alloc: Global, version: Version, bytes: &[u8]) -> Result<Account, EntryRefused>
     ensures waiting { IfOk result (λ account. account.waiting ≡ nothing) }
     ensures found { IfOk result (λ account. checkpoint_in version bytes.now ≡ Ok account.state) }
@@ -249,8 +249,8 @@ fn account_at(alloc: Global, version: Version, bytes: &[u8]) -> Result<Account, 
     }
 }
 
-/// Returns the account whose checkpoint the bytes are, in the given version. Nothing waits in it.
-/// Each byte is read once.
+/// Returns the account whose checkpoint the bytes are, in the given version. No memory is reserved
+/// in it. Each byte is read once.
 ///
 /// `Bad`: if and only if the bytes aren't exactly a checkpoint of that version. `NoMemory`: only if
 /// memory runs out.
@@ -259,11 +259,11 @@ pub fn read_checkpoint(
     version: Version,
     bytes: &[u8],
 ) -> Result<Account, CheckpointRefused>
-    // The account that is read is the one whose checkpoint the bytes are.
+    // The returned account is the account whose checkpoint the bytes are.
     ensures found { IfOk result (λ account. IsCheckpoint version account.state bytes.now) }
     ensures waiting { IfOk result (λ account. account.waiting ≡ nothing) }
 
-    // Bytes that are refused aren't a checkpoint, and a checkpoint is read, unless memory runs out.
+    // Rejected bytes aren't a checkpoint, and a checkpoint is read, unless memory runs out.
     ensures bad { result ≡ Err CheckpointRefused.Bad → (a : State)
         → ¬ IsCheckpoint version a bytes.now }
     ensures account { (a : State) → IsCheckpoint version a bytes.now

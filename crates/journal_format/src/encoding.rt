@@ -1,4 +1,4 @@
-//! Accounts as checkpoints.
+//! Converts accounts to checkpoints.
 ghost use Rattle.std.specs.Prelude.{◌≡◌, ◌<◌, ◌^◌, ◌++◌, length, OnOk};
 ghost use Rattle.std.specs.List.{flat_map};
 ghost use Rattle.entry_format.specs.declared.version.Version.TheVariants.{Two};
@@ -12,7 +12,7 @@ use ras_account::Account;
 use ras_base::NoMemory;
 use ras_base::little_endian::push_u64;
 
-// Adds the numbers at the front.
+// Appends the numbers at the front.
 #[tactic(auto, unfolding(crate::specs::Checkpoints::front_bytes))]
 pub(crate) fn push_front(bytes: &mut Vec<u8>, account: &Account) -> Result<(), NoMemory>
     ensures { OnOk result (bytes.new.items ≡ bytes.old.items ++ front_bytes Two account.now.state) }
@@ -23,7 +23,7 @@ pub(crate) fn push_front(bytes: &mut Vec<u8>, account: &Account) -> Result<(), N
     push_u64(bytes, account.floor())
 }
 
-// Adds the names.
+// Appends the names.
 fn push_names(bytes: &mut Vec<u8>, account: &Account) -> Result<(), NoMemory>
     ensures { OnOk result (bytes.new.items
         ≡ bytes.old.items ++ list_bytes name_bytes account.now.state.names) }
@@ -34,7 +34,7 @@ fn push_names(bytes: &mut Vec<u8>, account: &Account) -> Result<(), NoMemory>
     Ok(())
 }
 
-// Adds the rows of modules.
+// Appends the rows of modules.
 pub(crate) fn push_modules(bytes: &mut Vec<u8>, account: &Account) -> Result<(), NoMemory>
     ensures { OnOk result (bytes.new.items
         ≡ bytes.old.items ++ list_bytes (module_bytes Two) account.now.state.modules) }
@@ -47,7 +47,7 @@ pub(crate) fn push_modules(bytes: &mut Vec<u8>, account: &Account) -> Result<(),
     Ok(())
 }
 
-// Adds the rows of pages.
+// Appends the rows of pages.
 pub(crate) fn push_pages(bytes: &mut Vec<u8>, account: &Account) -> Result<(), NoMemory>
     ensures { OnOk result (bytes.new.items
         ≡ bytes.old.items ++ list_bytes page_row_bytes account.now.state.pages) }
@@ -62,8 +62,8 @@ pub(crate) fn push_pages(bytes: &mut Vec<u8>, account: &Account) -> Result<(), N
     Ok(())
 }
 
-// The contracts of these calls say that an account is one, and that its numbers of rows fit their
-// fields.
+// Does nothing. By the contracts of its calls, `account` is a valid account and its numbers of rows
+// fit their fields.
 pub(crate) fn tell_account(account: &Account)
     ensures account { IsAccount account.now.state }
     ensures modules { length account.now.state.modules < 2 ^ 64 }

@@ -1,4 +1,4 @@
-//! What holds of the format itself.
+//! The laws of the format itself.
 ghost use Rattle.std.specs.Prelude.{◌≡◌, ◌↔◌, ◌≤◌, ◌<◌, ◌^◌, ◌++◌, ℕ, List, Some, All, IsTrue, length};
 ghost use Rattle.std.specs.Bool.{IsFalse};
 ghost use Rattle.ras_base.specs.LittleEndian.{AreBytes};
@@ -16,7 +16,7 @@ use crate::{CHECKPOINT_PLACE, MOST_LINK_ENTRIES, MOST_PAYLOAD};
 use entry_format::Version;
 use ras_facts::Entry;
 
-/// What holds of links.
+/// The laws of links.
 pub fn link_laws()
     // The entries read from a payload are the entries whose payload the bytes are.
     ensures payload { (version : Version) (entries : List Entry) (bytes : List ℕ) → AreBytes bytes
@@ -25,7 +25,7 @@ pub fn link_laws()
         → IsPayload version entries bytes
         → payload_of version bytes ≡ Some entries }
 
-    // A link gives its length and its payload, whatever follows it.
+    // Whatever follows a link, its length and its payload are read.
     ensures whole { (version : Version) (entries : List Entry) (rest : List ℕ)
         → CanLink version entries → IsFalse (ends_early (link_bytes entries ++ rest)) }
     ensures length { (version : Version) (entries : List Entry) (rest : List ℕ)
@@ -43,13 +43,13 @@ pub fn link_laws()
         → CanLink version ds → CanLink version es
         → link_bytes ds ++ x ≡ link_bytes es ++ y → (ds ≡ es) × (x ≡ y) }
 
-    // The entries from which a link is made can be linked.
+    // Entries that are converted to a link can be a link.
     ensures made { (entries : List Entry) → 1 ≤ length entries → length entries ≤ MOST_LINK_ENTRIES
         → All IsValidEntry entries
         → length (payload_bytes entries) ≤ MOST_PAYLOAD → CanLink Version.Two entries }
 {}
 
-/// What holds of checkpoints.
+/// The laws of checkpoints.
 pub fn checkpoint_laws()
     // The account read from bytes is the account whose checkpoint they are.
     ensures account { (version : Version) (a : State) (bytes : List ℕ) → AreBytes bytes
@@ -57,7 +57,8 @@ pub fn checkpoint_laws()
     ensures account_read { (version : Version) (a : State) (bytes : List ℕ)
         → IsCheckpoint version a bytes → checkpoint_of version bytes ≡ Some a }
 
-    // A checkpoint can be read in one way only, and every account has a checkpoint in version 2.
+    // Bytes are the checkpoint of at most one account, and every account has a checkpoint in
+    // version 2.
     ensures one_reading { (version : Version) (a b : State) (bytes : List ℕ)
         → IsCheckpoint version a bytes → IsCheckpoint version b bytes → a ≡ b }
     ensures spelled { (a : State) → IsAccount a → length a.modules < 2 ^ 64
@@ -68,7 +69,7 @@ pub fn checkpoint_laws()
         → InBothVersions (checkpoint_bytes Version.One a) (checkpoint_bytes Version.Two a) a }
 {}
 
-/// The numbers that the definitions cite by name have these digits.
+/// The numbers behind the names that the definitions use.
 pub fn numbers_in_digits()
     ensures entries { MOST_LINK_ENTRIES ≡ 2_000 }
     ensures payload { MOST_PAYLOAD ≡ 67_108_864 }

@@ -7,14 +7,14 @@ use std::marker::Model;
 /// The most entries of a link.
 pub const MOST_LINK_ENTRIES: usize = 2_000;
 
-/// The most bytes of the payload of a link that is made here.
+/// The most bytes of the payload of a link that is written.
 pub const MOST_PAYLOAD: usize = 67_108_864;
 
 /// The byte of a closed gate.
 const CLOSED_GATE: u8 = 0;
 
-/// The bytes of a link. A byte 00 is kept after them, so that a link and the closed gate after it
-/// are one piece; contracts see only the bytes of the link.
+/// The bytes of a link. A byte 00 is stored after them, so that the link and the closed gate after
+/// it are one piece; contracts see only the bytes of the link.
 #[derive(Drop)]
 pub struct Link {
     bytes_and_gate: Vec<u8>,
@@ -31,7 +31,7 @@ impl Model for Link {
 }
 
 impl Link {
-    // The link of these bytes. It allocates memory if they fill their vector.
+    // Returns the link of these bytes. Allocates memory if they fill their vector.
     pub(crate) fn of_bytes(bytes: Vec<u8>) -> Result<Link, NoMemory>
         ensures { IfOk result (λ link. link ≡ bytes.items) }
     {

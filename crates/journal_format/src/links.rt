@@ -109,7 +109,7 @@ fn link_count_at(bytes: &[u8]) -> Result<(u32, &[u8]), EntryRefused>
     }
 }
 
-// The entries whose payload the bytes are.
+// Returns the entries whose payload the bytes are.
 fn read_payload(alloc: Global, version: Version, bytes: &[u8]) -> Result<Vec<Entry>, EntryRefused>
     ensures found { IfOk result (λ read. IsPayload version read.items bytes.now) }
     ensures entries { (entries : List Entry) → IsPayload version entries bytes.now
@@ -133,11 +133,11 @@ pub fn read_link(
     version: Version,
     bytes: &[u8],
 ) -> Result<(Vec<Entry>, usize), LinkRefused>
-    // The entries that are read are those of the link at the front of the bytes.
+    // The entries that are read are the entries of the link at the start of the bytes.
     ensures found { IfOk result (λ read. IsPayload version read.0.items (payload_in bytes.now)) }
     ensures length { IfOk result (λ read. read.1 ≡ link_length bytes.now) }
 
-    // Bytes are refused because they are cut or their payload is invalid, unless memory runs out.
+    // Bytes are rejected because they are cut or their payload is invalid, unless memory runs out.
     ensures cut { (result ≡ Err LinkRefused.Cut) ↔ IsTrue (ends_early bytes.now) }
     ensures bad { result ≡ Err LinkRefused.Bad → (entries : List Entry)
         → ¬ IsPayload version entries (payload_in bytes.now) }

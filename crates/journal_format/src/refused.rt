@@ -6,13 +6,13 @@ ghost use Rattle.journal_format.specs.declared.refused.CheckpointRefused.TheVari
 use ras_base::NoMemory;
 use thiserror::Error;
 
-/// Why bytes were not read as a link.
+/// Why bytes can't be read as a link.
 #[derive(Clone, Copy, Debug, PartialEq, Eq, Drop, Error)]
 pub enum LinkRefused {
-    /// They end before the link does.
+    /// The bytes end before the link does.
     #[error("the link is cut")]
     Cut,
-    /// Its payload isn't a list of entries.
+    /// The link's payload isn't a list of entries.
     #[error("the payload of the link is no list of entries")]
     Bad,
     /// Memory ran out.
@@ -28,10 +28,10 @@ impl From<NoMemory> for LinkRefused {
     }
 }
 
-/// Why bytes were not read as a checkpoint.
+/// Why bytes can't be read as a checkpoint.
 #[derive(Clone, Copy, Debug, PartialEq, Eq, Drop, Error)]
 pub enum CheckpointRefused {
-    /// They aren't a checkpoint, or more than one.
+    /// The bytes aren't a checkpoint, or are more than one.
     #[error("the bytes are no checkpoint")]
     Bad,
     /// Memory ran out.

@@ -1,5 +1,6 @@
-//! The parts of a checkpoint from bytes, each at the front. `Bad` is returned if and only if the
-//! bytes don't begin with the part; only the row of a module allocates memory, for its label.
+//! Reads the parts of a checkpoint from bytes, each at their start. `Bad` is returned if and only
+//! if the bytes don't begin with the part; only the row of a module allocates memory, for its
+//! label.
 ghost use Rattle.std.specs.Prelude.{◌≡◌, ◌≤◌, IfOk};
 ghost use Rattle.page_policy.specs.Buckets.{IsLimit, most_count};
 ghost use Rattle.ras_facts.specs.Valid.{IsPage};
@@ -25,7 +26,7 @@ pub(crate) struct CheckpointFront {
     pub(crate) floor: u64,
 }
 
-// A bucket.
+// Returns a bucket, and the bytes after it.
 #[tactic(auto, unfolding(crate::specs::CheckpointReading::bucket_at))]
 fn bucket_at(bytes: &[u8]) -> Result<(Bucket, &[u8]), EntryRefused>
     ensures { ReadsExactly (λ x. (x.0, x.1.now)) result (bucket_at bytes.now) }
@@ -42,7 +43,7 @@ fn bucket_at(bytes: &[u8]) -> Result<(Bucket, &[u8]), EntryRefused>
     Ok((bucket, rest))
 }
 
-// Whether a module is to be replaced.
+// Returns whether a module is to be replaced, and the bytes after that.
 #[tactic(auto, unfolding(crate::specs::CheckpointReading::replace_at, crate::specs::CheckpointReading::replace_of))]
 fn replace_at(bytes: &[u8]) -> Result<(bool, &[u8]), EntryRefused>
     ensures { ReadsExactly (λ x. (x.0, x.1.now)) result (replace_at bytes.now) }
@@ -92,7 +93,7 @@ fn sums_at(bytes: &[u8]) -> Result<([u64; CLASS_COUNT], &[u8]), EntryRefused>
     Ok((sums, rest))
 }
 
-// The row of a module, as it is read.
+// Returns the row of a module, and the bytes after it.
 #[tactic(auto, unfolding(crate::specs::CheckpointReading::module_at))]
 fn read_module(
     alloc: Global,
@@ -131,7 +132,7 @@ pub(crate) fn module_at(
     read_module(alloc, version, bytes)
 }
 
-// The state of a page.
+// Returns the state of a page, and the bytes after it.
 #[tactic(auto, unfolding(crate::specs::CheckpointReading::page_state_at, crate::specs::CheckpointReading::page_state_of))]
 fn page_state_at(bytes: &[u8]) -> Result<(PageState, &[u8]), EntryRefused>
     ensures { ReadsExactly (λ x. (x.0, x.1.now)) result (page_state_at bytes.now) }
@@ -145,7 +146,7 @@ fn page_state_at(bytes: &[u8]) -> Result<(PageState, &[u8]), EntryRefused>
     }
 }
 
-// The row of a page, as it is read.
+// Returns the row of a page, and the bytes after it.
 #[tactic(auto, unfolding(crate::specs::CheckpointReading::page_row_at))]
 fn read_page_row(bytes: &[u8]) -> Result<((u64, Bucket, PageState), &[u8]), EntryRefused>
     ensures { ReadsExactly (λ x. ((x.0.0, record { bucket = x.0.1; state = x.0.2 }), x.1.now)) result
@@ -179,7 +180,7 @@ fn entry_count_at(bytes: &[u8]) -> Result<(u64, &[u8]), EntryRefused>
     Ok((entries, rest))
 }
 
-// The numbers at the front, as they are read.
+// Returns the numbers at the front, and the bytes after them.
 #[tactic(auto, unfolding(crate::specs::CheckpointReading::front_at))]
 fn read_front(version: Version, bytes: &[u8]) -> Result<(CheckpointFront, &[u8]), EntryRefused>
     ensures { ReadsExactly (λ x. (front_of x.0, x.1.now)) result (front_at version bytes.now) }

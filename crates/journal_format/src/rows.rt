@@ -1,4 +1,4 @@
-//! The rows of a checkpoint as bytes.
+//! Appends the rows of a checkpoint as bytes.
 ghost use Rattle.std.specs.Prelude.{◌≡◌, ◌≤◌, ◌++◌, length, OnOk};
 ghost use Rattle.std.specs.List.{flat_map};
 ghost use Rattle.ras_base.specs.LittleEndian.{u64_bytes};
@@ -23,7 +23,7 @@ fn state_number(state: PageState) -> u8
     }
 }
 
-// Adds a bucket.
+// Appends a bucket.
 #[tactic(auto, unfolding(crate::specs::Checkpoints::bucket_bytes))]
 fn push_bucket(bytes: &mut Vec<u8>, bucket: Bucket) -> Result<(), NoMemory>
     ensures { OnOk result (bytes.new.items ≡ bytes.old.items ++ bucket_bytes bucket) }
@@ -32,7 +32,7 @@ fn push_bucket(bytes: &mut Vec<u8>, bucket: Bucket) -> Result<(), NoMemory>
     push_u64(bytes, bucket.stamp)
 }
 
-// Adds a module's replacement: its bucket, and whether it is to be replaced.
+// Appends a module's replacement: its bucket, and whether it is to be replaced.
 #[tactic(auto, unfolding(crate::specs::Checkpoints::replacement_bytes))]
 fn push_replacement(
     bytes: &mut Vec<u8>,
@@ -55,7 +55,7 @@ fn push_replacement(
     }
 }
 
-// Adds sums in order.
+// Appends sums in order.
 fn push_sums(bytes: &mut Vec<u8>, sums: &[u64]) -> Result<(), NoMemory>
     ensures { OnOk result (bytes.new.items ≡ bytes.old.items ++ flat_map u64_bytes sums.now) }
 {

@@ -1,4 +1,4 @@
--- The samples of errors that the account of a history has are what is counted in the history.
+-- The error samples of the account of a history are the counts of the history.
 use Rattle.std.proofs.Common.{◌≡◌, ℕ, zero, suc, ◌<◌, Bool, true, false, ◌||◌, List, [], ◌∷◌, map, length, get_or, Contains, refl, ap, sym, subst, ◌∙◌, ◌↔◌, ⊎_elim, arith}
 use Rattle.std.specs.List.{flat_map, list_any}
 use Rattle.std.proofs.lemmas.List.Elements.{Contains-append_cases, Contains-append_left, Contains-append_right}

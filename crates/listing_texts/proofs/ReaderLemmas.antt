@@ -1,4 +1,4 @@
--- What the reader of metrics makes of the parts of a text.
+-- What the parser of metrics makes of the parts of a text.
 use Rattle.std.proofs.Common.{◌≡◌, ℕ, ◌<◌, ◌≤◌, ◌^◌, Bool, true, false, ◌&&◌, ◌||◌, not, List, [], ◌∷◌, ◌++◌, map, fold, length, codes, decimal, Some, refl, ap, sym, ◌∙◌, append-nil, append_assoc, eqb-true, le-leb, arith, ◌==◌}
 use Rattle.std.specs.List.{flat_map, join_with_byte, list_all}
 use Rattle.std.specs.Str.Parse.{AllDigits, digits_value}
@@ -9,14 +9,14 @@ use Rattle.dimm_topology.specs.Labels.{Bytes}
 use Rattle.listing_texts.specs.Metrics.{Sample, escape, labels_text, pair_text, sample_text}
 use Rattle.listing_texts.specs.MetricsReader.{IsSample, Named, Place, Reader, begin, behind_backslash, behind_value, in_label, in_name, in_number, in_value, is_in_line, is_name, is_name_sign, read_byte, read_samples, samples_at, with_label, with_line}
 
--- a reader, and what it becomes
+-- a parser at this place, with these samples
 abbrev pub at : List Sample → Place → Reader
 at samples place = record { samples = samples; place = place }
 
 abbrev pub after : Reader → List ℕ → Reader
 after reader text = fold read_byte reader text
 
--- one text after the other
+-- One text after the other.
 pub then_reads : (a b c : Reader) (xs ys : List ℕ) → after a xs ≡ b → after b ys ≡ c → after a (xs ++ ys) ≡ c
 then_reads a b c xs ys first second = fold-append read_byte a xs ys ∙ ap (λ r. after r ys) first ∙ second
 
@@ -26,7 +26,7 @@ both false b is = absurd cc
 
 -- ---- names
 
--- a sign of a name is none of these
+-- A sign of a name differs from signs that can't be in a name.
 no_sign : (s n : ℕ) → is_name_sign s ≡ true → is_name_sign n ≡ false → (s == n) ≡ false
 no_sign s n is none = by (s == n) refl
   where
@@ -54,7 +54,7 @@ label_read done named front (s ∷ name) is =
     ap (λ r. after r name) (label_step done named front s parts.0) ∙ label_read done named (front ++ s ∷ []) name parts.1
     ∙ ap (λ n. at done (in_label named n)) (append_assoc front (s ∷ []) name)
 
--- the first sign of a line that begins with a name
+-- The first sign of a line that begins with a name.
 first_step : (done : List Sample) (s : ℕ) → is_name_sign s ≡ true → read_byte (at done begin) s ≡ at done (in_name (s ∷ []))
 first_step done s is = rw (no_sign s 10 is refl, no_sign s 35 is refl, is) refl
 
@@ -78,7 +78,7 @@ back_step : (done : List Sample) (named : Named) (label front : Bytes) (s : ℕ)
     → read_byte (at done (behind_backslash named label front)) s ≡ at done (in_value named label (front ++ s ∷ []))
 back_step done named label front s feed is = rw (feed, is) refl
 
--- a byte of a value, as it is printed
+-- A byte of a value, as it is printed.
 sign_read : (done : List Sample) (named : Named) (label front : Bytes) (s : ℕ) → (s == 10) ≡ false → after (at done (in_value named label front)) (escape s) ≡ at done (in_value named label (front ++ s ∷ []))
 sign_read done named label front s feed = by (s == 34) (s == 92) refl refl
   where
@@ -96,7 +96,7 @@ value_read done named label front (s ∷ value) is =
 
 -- ---- labels
 
--- the labels that are read after some
+-- the name with these labels after its own
 abbrev pub with_labels : Named → List (Bytes × Bytes) → Named
 with_labels named pairs = record named { labels = named.labels ++ pairs }
 
@@ -160,7 +160,7 @@ line_end : (done : List Sample) (named : Named) (digits : Bytes) → 0 < length 
 line_end done named [] some = absurd (omega arith)
 line_end done named (digit ∷ digits) some = refl
 
--- the number of a sample and its line feed
+-- The number of a sample and its line feed.
 pub number_read : (done : List Sample) (named : Named) (number : ℕ) → number < 2 ^ 64
     → after (at done (in_number named [])) (decimal number ++ 10 ∷ []) ≡ at (done ++ record { name = named.name; labels = named.labels; number = number } ∷ []) begin
 number_read done named number small =
@@ -181,6 +181,6 @@ sample_read done sample is =
     (then_reads _ (at done (in_number (record { name = sample.name; labels = sample.labels }) [])) _ (labels_text sample.labels ++ codes " ") (decimal sample.number ++ 10 ∷ [])
     (labels_read done sample.name sample.labels is.labels) (number_read done (record { name = sample.name; labels = sample.labels }) sample.number is.number))
 
--- a sample alone
+-- A single sample.
 pub line_read : (sample : Sample) → IsSample sample → read_samples (sample_text sample) ≡ Some (sample ∷ [])
 line_read sample is = ap samples_at (sample_read [] sample is)

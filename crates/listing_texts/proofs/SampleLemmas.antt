@@ -1,4 +1,4 @@
--- The samples of an account can each be printed as a line, whatever the labels of its modules are.
+-- Each sample of an account can be printed as a line, whatever the labels of its modules are.
 use Rattle.std.proofs.Common.{◌≡◌, ℕ, ◌<◌, ◌≤◌, ◌^◌, Bool, true, false, ◌&&◌, not, nat_eq, nat_le, List, [], ◌∷◌, ◌++◌, map, length, codes, Option, Some, None, IfSome, refl, ap, sym, ◌∙◌, append-nil, append_assoc, eqb-true, leb-true, arith, ◌==◌, IsTrue, sum}
 use Rattle.std.specs.List.{AllByRecursion, flat_map, list_all, list_any, zip}
 use Rattle.std.specs.Map.{keys_of}

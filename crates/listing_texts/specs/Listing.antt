@@ -44,7 +44,7 @@ abbrev pub bucket_line : Bytes × Module → Bucket → List ℕ
 bucket_line row bucket = line_with (
     codes "module label=" ++ label_text row.0 ++ codes " state=" ++ replace_text row.1.replace ++ bucket_text bucket)
 
--- the line of a module's bucket; a module without a bucket has no line
+-- The line of a module's bucket. A module without a bucket has no line.
 abbrev pub module_row_line : Bytes × Module → List ℕ
 module_row_line row = option_map_or (bucket_line row) row.1.bucket []
 

@@ -21,7 +21,7 @@ use Rattle.listing_texts.specs.declared.metrics.Metric.TheVariants.{ErrorsTotal,
 use Rattle.ras_texts.specs.declared.version.TheConstants.{VERSION}
 use Rattle.ras_texts.specs.Text.{class_text, label_text, state_text}
 
--- a sample: its metric's name, its labels with their values, and its number
+-- A sample: its metric's name, its labels with their values, and its number.
 pub record Sample : Type 0 where
   pub name : Bytes
   pub labels : List (Bytes × Bytes)
@@ -37,7 +37,7 @@ escape sign = if sign == 34 || sign == 92 then 92 ∷ sign ∷ [] else sign ∷ 
 abbrev pub pair_text : Bytes × Bytes → List ℕ
 pair_text pair = pair.0 ++ codes "=" ++ 34 ∷ flat_map escape pair.1 ++ 34 ∷ []
 
--- all labels in braces, with commas (44) between them; nothing if there are none
+-- All labels in braces, with commas (44) between them; no text if there are no labels.
 abbrev pub labels_text : List (Bytes × Bytes) → List ℕ
 labels_text [] = []
 labels_text (pair ∷ pairs) =
@@ -112,7 +112,7 @@ abbrev pub page_sample : List (ℕ × PageRow) → PageState → Sample
 page_sample pages state =
     sample_of Pages ((codes "state", state_text state) ∷ []) (count_by (is_page_in state) pages)
 
--- whether a module is to be replaced, and how many errors its bucket has, if it has one
+-- whether a module is to be replaced, and how many errors its bucket has, if any
 abbrev pub replace_sample : Bytes → Bool → Sample
 replace_sample label replace =
     sample_of ModuleReplace (label_pair label ∷ []) (if replace then 1 else 0)
@@ -157,7 +157,7 @@ metrics_text account = flat_map (family_text account) metrics
 abbrev pub all_samples : State → List Sample
 all_samples account = flat_map (λ metric. samples_of metric account) metrics
 
--- a sample that a history gives: the count of a module that was seen, for a class
+-- A history gives this sample: the count of a module in it, for a class.
 pub record IsErrorSample (history : History) (sample : Sample) : Type 0 where
   pub label : Bytes
   pub class : ItemClass

@@ -12,7 +12,7 @@ pub record Named : Type 0 where
   pub name : Bytes
   pub labels : List (Bytes × Bytes)
 
--- where in a line the parser is
+-- the parser's position in a line
 pub data Place : Type 0 where
   begin : Place
   comment : Place
@@ -26,7 +26,7 @@ pub data Place : Type 0 where
   in_number : Named → Bytes → Place
   wrong : Place
 
--- a digit; a letter, a digit or `_`
+-- Whether a byte is a digit; whether it may be in a name: a letter, a digit or `_`.
 abbrev pub is_digit : ℕ → Bool
 is_digit sign = nat_le 48 sign && nat_le sign 57
 
@@ -39,7 +39,7 @@ abbrev pub with_label : Named → Bytes → Bytes → Named
 with_label named label value = record named { labels = named.labels ++ (label, value) ∷ [] }
 
 -- the place after a byte of the line; the signs are `#` 35, `{` 123, `}` 125, `=` 61, `"` 34, `\` 92, `,` 44, a space
--- 32, and behind a backslash an `n` 110 for a line feed 10
+-- 32, and after a backslash an `n` 110 for a line feed 10
 abbrev pub next : Place → ℕ → Place
 next begin sign = if sign == 35 then comment else if is_name_sign sign then in_name (sign ∷ []) else wrong
 next comment sign = comment
@@ -67,7 +67,7 @@ next (behind_labels named) sign = if sign == 32 then in_number named [] else wro
 next (in_number named digits) sign = if is_digit sign then in_number named (digits ++ sign ∷ []) else wrong
 next wrong sign = wrong
 
--- the samples of the lines before, and where in this line the parser is
+-- the samples of the earlier lines, and the parser's position in this line
 pub record Reader : Type 0 where
   pub samples : List Sample
   pub place : Place
@@ -87,14 +87,14 @@ read_byte reader sign =
     if sign == 10 then with_line reader.samples reader.place
     else record reader { place = next reader.place sign }
 
--- the samples of a text, if each of its lines is a sample, a comment or empty, and ends with a line feed
+-- The samples of a text, if each of its lines is a sample, a comment or empty, and ends with a line feed.
 abbrev pub samples_at : Reader → Option (List Sample)
 samples_at reader = elim reader.place [ begin ↦ Some reader.samples | other ↦ None ]
 
 abbrev pub read_samples : List ℕ → Option (List Sample)
 read_samples text = samples_at (fold read_byte (record { samples = []; place = begin }) text)
 
--- a text that is a name, and one that has no line feed
+-- Whether a text is a name, and whether a text has no line feed.
 abbrev pub is_name : Bytes → Bool
 is_name [] = false
 is_name (sign ∷ signs) = list_all is_name_sign (sign ∷ signs)
@@ -102,8 +102,8 @@ is_name (sign ∷ signs) = list_all is_name_sign (sign ∷ signs)
 abbrev pub is_in_line : Bytes → Bool
 is_in_line text = list_all (λ sign. not (sign == 10)) text
 
--- a sample that can be printed as a line: its names are names, no value of a label has a line feed, and its number has
--- at most 64 bits
+-- A sample can be printed as a line: its names are names, no value of a label has a line feed, and its number has at
+-- most 64 bits.
 pub record IsSample (sample : Sample) : Type 0 where
   pub name : IsTrue (is_name sample.name)
   pub labels : IsTrue (list_all (λ pair. is_name pair.0 && is_in_line pair.1) sample.labels)

@@ -1,4 +1,4 @@
-//! What the metrics of an account say, in words that don't follow their definitions.
+//! The metrics of an account, stated without following their definitions.
 
 ghost use Rattle.std.specs.Prelude.{◌≡◌, ◌↔◌, [], ◌∷◌, Contains, Some};
 ghost use Rattle.ras_account.specs.Account.{State, account_of};
@@ -10,7 +10,7 @@ ghost use Rattle.listing_texts.specs.MetricsReader.{IsSample, read_samples};
 
 use crate::metrics::Metric;
 
-/// What holds of the metrics of an account.
+/// The laws of the metrics of an account.
 pub fn metrics_laws()
     // A parser of the format, which knows nothing of accounts, finds in the text exactly the
     // samples, each with its name, its labels and its number. No label can forge one.
@@ -19,8 +19,8 @@ pub fn metrics_laws()
     // The same parser finds the sample in each line.
     ensures line { (s : Sample) → IsSample s → read_samples (sample_text s) ≡ Some (s ∷ []) }
 
-    // The samples of errors are what the history counts, for each module that was seen and each
-    // class, and there are no others.
+    // The error samples are the counts of the history, for each module in it and each class; there
+    // are no others.
     ensures errors { (history : History) (s : Sample)
         → Contains (samples_of Metric.ErrorsTotal (account_of history)) s
         ↔ IsErrorSample history s }

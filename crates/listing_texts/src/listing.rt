@@ -193,7 +193,7 @@ fn push_bucket(text: &mut Vec<u8>, bucket: Bucket) -> Result<(), NoMemory>
     push_number(text, bucket.stamp)
 }
 
-// The word of whether a module is to be replaced.
+// Returns the word for whether a module is to be replaced.
 fn replace_word(replace: bool) -> &'static [u8]
     ensures { result.now ≡ replace_text replace }
 {

@@ -30,7 +30,7 @@ pub enum Metric {
     ModuleReplace,
     /// How many errors the bucket of a module has.
     ModuleBucket,
-    /// How many errors in a module's bucket order it replaced.
+    /// How many errors in a module's bucket order its replacement.
     ModuleBucketLimit,
     /// How many names are in the account.
     Names,
@@ -89,7 +89,7 @@ fn push_head(text: &mut Vec<u8>, metric: Metric) -> Result<(), NoMemory>
     push_comment(text, b"# TYPE ", metric, kind_word(metric))
 }
 
-// Adds a line that says this of a metric.
+// Adds a comment line about a metric.
 fn push_comment(
     text: &mut Vec<u8>,
     kind: &[u8],
@@ -206,7 +206,7 @@ fn push_page_count(text: &mut Vec<u8>, state: PageState, account: &Account) -> R
     push_labeled(text, Metric::Pages, b"state", state_word(state), count)
 }
 
-// How many pages are in a state.
+// Returns how many pages are in a state.
 fn pages_in(account: &Account, state: PageState) -> u64
     ensures { result ≡ count_by (is_page_in state) account.now.state.pages }
 {
@@ -221,7 +221,7 @@ fn pages_in(account: &Account, state: PageState) -> u64
     count
 }
 
-// Whether two states are the same.
+// Returns whether two states are the same.
 fn is_same(found: PageState, state: PageState) -> bool
     ensures { result ≡ nat_eq (height state) (height found) }
 {
@@ -261,14 +261,14 @@ fn push_replace(text: &mut Vec<u8>, row: &ModuleRow) -> Result<(), NoMemory>
     }
 }
 
-// 1 for true, 0 for false.
+// Returns 1 for true, 0 for false.
 fn number_of(is_so: bool) -> u64
     ensures { result ≡ (if is_so then 1 else 0) }
 {
     if is_so { 1 } else { 0 }
 }
 
-// Adds what the bucket of each module holds.
+// Adds the number of errors in the bucket of each module.
 fn push_buckets(text: &mut Vec<u8>, account: &Account) -> Result<(), NoMemory>
     ensures { OnOk result (text.new.items ≡ text.old.items
         ++ flat_map sample_text (samples_of Metric.ModuleBucket account.now.state)) }
@@ -279,7 +279,7 @@ fn push_buckets(text: &mut Vec<u8>, account: &Account) -> Result<(), NoMemory>
     Ok(())
 }
 
-// Adds what the bucket of a module holds, if it has one.
+// Adds the number of errors in the bucket of a module, if it has a bucket.
 fn push_bucket(text: &mut Vec<u8>, row: &ModuleRow) -> Result<(), NoMemory>
     ensures { OnOk result (text.new.items
         ≡ text.old.items ++ flat_map sample_text (bucket_samples (row_of row.now))) }
@@ -366,7 +366,7 @@ fn push_sign(text: &mut Vec<u8>, sign: u8) -> Result<(), NoMemory>
     Ok(())
 }
 
-// The name of a metric.
+// Returns the name of a metric.
 fn name_word(metric: Metric) -> &'static [u8]
     ensures { result.now ≡ name_of metric }
 {
@@ -384,7 +384,7 @@ fn name_word(metric: Metric) -> &'static [u8]
     }
 }
 
-// How a metric changes.
+// Returns how a metric changes.
 fn kind_word(metric: Metric) -> &'static [u8]
     ensures { result.now ≡ kind_text metric }
 {
@@ -394,7 +394,7 @@ fn kind_word(metric: Metric) -> &'static [u8]
     }
 }
 
-// What a metric is.
+// Returns what a metric is.
 fn help_word(metric: Metric) -> &'static [u8]
     ensures { result.now ≡ help_of metric }
 {

@@ -3,10 +3,11 @@ use Rattle.std.proofs.Common.{◌≡◌, ℕ, ◌+◌, ◌^◌, ◌<◌, ◌≤�
 use Rattle.block_lines.specs.Reports.{Reporting, has_error, without_sources}
 use Rattle.block_lines.specs.Texts.{block_text, ghes_line, hest_line, table_text}
 use Rattle.block_lines.specs.declared.report.OpenReport.{OpenReport}
-use Rattle.event_lines.specs.Events.{tells_event}
-use Rattle.event_lines.specs.Filter.{report_text_at}
+use Rattle.event_lines.specs.Driver.{any_event_of}
+use Rattle.event_lines.specs.Events.{tells_any, tells_event}
+use Rattle.event_lines.specs.Filter.{event_text_by}
 use Rattle.event_lines.specs.Traced.{is_extlog}
-use Rattle.event_lines.proofs.EventTextLemmas.{IsSaid, said_after, said_left, said_right, text_said}
+use Rattle.event_lines.proofs.EventTextLemmas.{IsSaid, event_said, said_after, said_left, said_right, told_any}
 use Rattle.line_filters.specs.Pieces.{AreShort}
 use Rattle.bank_lines.specs.Counts.{named_found}
 use Rattle.bank_lines.specs.Texts.{found_text}
@@ -37,12 +38,13 @@ log_short state (long ∷ inputs) few =
 comment_said : (name : List ℕ) (number : ℕ) → IsSaid (comment name number)
 comment_said name number = said_after (name ++ decimal number) 10 []
 
-traced_said : (state : TraceFeedState) (bytes : List ℕ) → tells_event bytes ≡ true → IsSaid (traced_text state bytes)
+traced_said : (state : TraceFeedState) (bytes : List ℕ) → tells_any state.drivers bytes ≡ true → IsSaid (traced_text state bytes)
 traced_said state bytes some = by (is_extlog bytes)
   where
-    by : (extlog : Bool) → IsSaid (if extlog then extlog_comment (state.taken + 1) else report_text_at (before_line state.reports state.taken) bytes)
+    by : (extlog : Bool)
+        → IsSaid (if extlog then extlog_comment (state.taken + 1) else event_text_by (before_line state.reports state.taken) bytes (any_event_of state.drivers bytes))
     by true = comment_said (codes "# extlog ") (state.taken + 1)
-    by false = text_said (before_line state.reports state.taken) bytes some
+    by false = event_said (before_line state.reports state.taken) bytes (any_event_of state.drivers bytes) some
 
 shown_said : (shown text : List ℕ) → IsSaid text → IsSaid (with_shown shown text)
 shown_said shown [] said = absurd (said refl)
@@ -63,11 +65,14 @@ fitted_said number bytes text said = by (exceeds_call (with_shown (shown_of byte
     by true = limited_said number (shown_of bytes) text said
     by false = shown_said (shown_of bytes) text said
 
-pub event_is_said : (state : TraceFeedState) (bytes : List ℕ) → tells_event bytes ≡ true → IsSaid (trace_text state (line bytes))
-event_is_said state bytes some =
+pub any_is_said : (state : TraceFeedState) (bytes : List ℕ) → tells_any state.drivers bytes ≡ true → IsSaid (trace_text state (line bytes))
+any_is_said state bytes some =
     let found : List ℕ = found_text (state.taken + 1) (named_found state.counts (found_with_cap state.boot state.cap bytes)) in
     fitted_said (state.taken + 1) bytes (trace_said state bytes)
     (said_right (gap_said (state.taken + 1) bytes ++ found) (traced_text state bytes) (traced_said state bytes some))
+
+pub event_is_said : (state : TraceFeedState) (bytes : List ℕ) → tells_event bytes ≡ true → IsSaid (trace_text state (line bytes))
+event_is_said state bytes some = any_is_said state bytes (told_any state.drivers bytes some)
 
 pub gap_is_said : (state : TraceFeedState) (bytes : List ℕ) → is_gap bytes ≡ true → IsSaid (trace_text state (line bytes))
 gap_is_said state bytes gap = fitted_said (state.taken + 1) bytes (trace_said state bytes) (by (is_gap bytes) gap)

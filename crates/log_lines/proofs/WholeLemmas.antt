@@ -11,9 +11,10 @@ use Rattle.block_lines.specs.Reports.{without_sources}
 use Rattle.block_lines.specs.Texts.{rest_text}
 use Rattle.block_lines.specs.Whole.{AreWholeLines}
 use Rattle.block_lines.proofs.WholeLemmas.{blocks_whole, both, ends, rest_whole}
-use Rattle.event_lines.specs.Filter.{report_text_at}
+use Rattle.event_lines.specs.Driver.{any_event_of}
+use Rattle.event_lines.specs.Filter.{event_text_by}
 use Rattle.event_lines.specs.Traced.{is_extlog}
-use Rattle.event_lines.proofs.EventTextLemmas.{text_whole}
+use Rattle.event_lines.proofs.EventTextLemmas.{event_whole}
 use Rattle.log_lines.specs.Borders.{check_said, leaves_check, torn_comment}
 use Rattle.log_lines.specs.Comments.{comment, commented, cut_said, exceeds_call, extlog_comment, fitted, gap_comment, left_out_comment, limited, shown_of, with_shown}
 use Rattle.log_lines.specs.LogFeed.{LogFeedState, log_after_line, log_last, log_said, log_texts}
@@ -61,9 +62,10 @@ fitted_whole number bytes text whole = by (exceeds_call (with_shown (shown_of by
 traced_whole : (state : TraceFeedState) (bytes : List ℕ) → AreWholeLines (traced_text state bytes)
 traced_whole state bytes = by (is_extlog bytes)
   where
-    by : (extlog : Bool) → AreWholeLines (if extlog then extlog_comment (state.taken + 1) else report_text_at (before_line state.reports state.taken) bytes)
+    by : (extlog : Bool)
+        → AreWholeLines (if extlog then extlog_comment (state.taken + 1) else event_text_by (before_line state.reports state.taken) bytes (any_event_of state.drivers bytes))
     by true = comment_whole (codes "# extlog ") (state.taken + 1)
-    by false = text_whole (before_line state.reports state.taken) bytes
+    by false = event_whole (before_line state.reports state.taken) bytes (any_event_of state.drivers bytes)
 
 found_whole : (number : ℕ) (found : Finding) → AreWholeLines (found_text number found)
 found_whole number found = script_whole (lines_at number found)

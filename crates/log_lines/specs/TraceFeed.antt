@@ -14,14 +14,17 @@ use Rattle.bank_lines.specs.declared.found.Finding.TheVariants.{Full, Torn, Whol
 use Rattle.block_lines.specs.Filter.{BlockProgress}
 use Rattle.block_lines.specs.Reports.{Reporting, no_reports, without_sources}
 use Rattle.block_lines.specs.Texts.{rest_text}
-use Rattle.event_lines.specs.Filter.{after_line, report_text_at}
+use Rattle.event_lines.specs.Driver.{any_event_of}
+use Rattle.event_lines.specs.Filter.{after_by, event_text_by}
 use Rattle.event_lines.specs.Traced.{is_extlog}
 use Rattle.log_lines.specs.Comments.{cut_said, extlog_comment, fitted, gap_comment, limited, too_long_comment}
 
--- how far a filter has come in a trace: the errors without a counter so far, and how many inputs it took
+-- how far a filter has come in a trace: whether every driver's event of a memory controller is a memory error, the
+-- errors without a counter so far, and how many inputs it took
 pub record TraceFeedState : Type 0 where
   pub boot : ℕ
   pub cap : ℕ
+  pub drivers : Bool
   pub counts : KeyCounts
   pub reports : Reporting
   pub taken : ℕ
@@ -66,11 +69,13 @@ before_line reports taken = record { reports = without_sources reports; taken = 
 -- An extended log's event is a comment: a machine check of the same error comes before it.
 abbrev pub traced_text : TraceFeedState → List ℕ → List ℕ
 traced_text state bytes =
-    if is_extlog bytes then extlog_comment (state.taken + 1) else report_text_at (before_line state.reports state.taken) bytes
+    if is_extlog bytes then extlog_comment (state.taken + 1)
+    else event_text_by (before_line state.reports state.taken) bytes (any_event_of state.drivers bytes)
 
 abbrev pub traced_after : TraceFeedState → List ℕ → Reporting
 traced_after state bytes =
-    if is_extlog bytes then state.reports else (after_line (before_line state.reports state.taken) bytes).reports
+    if is_extlog bytes then state.reports
+    else (after_by (before_line state.reports state.taken) bytes (any_event_of state.drivers bytes)).reports
 
 -- what all readers say of a line: of a gap, of a machine check, and of another event
 abbrev pub trace_said : TraceFeedState → List ℕ → List ℕ
@@ -83,6 +88,7 @@ abbrev pub trace_after_line : TraceFeedState → List ℕ → TraceFeedState
 trace_after_line state bytes = record {
   boot = state.boot;
   cap = state.cap;
+  drivers = state.drivers;
   counts = counts_after state.counts (found_with_cap state.boot state.cap bytes);
   reports = traced_after state bytes;
   taken = state.taken + 1;
@@ -125,10 +131,17 @@ trace_feed_makes state = record {
   last = λ inputs cut. trace_last (trace_over state inputs) cut;
 }
 
--- what is made of the trace of a boot that began at this second, on processors with this IA32_MCG_CAP
-abbrev pub trace_begun : ℕ → ℕ → ℕ → TraceFeedState
-trace_begun boot cap began =
-    record { boot = boot; cap = cap; counts = []; reports = no_reports boot began; taken = 0 }
+-- what is made of the trace of a boot that began at this second, on processors with this IA32_MCG_CAP, with the events
+-- of all drivers or without
+abbrev pub trace_begun : ℕ → ℕ → ℕ → Bool → TraceFeedState
+trace_begun boot cap began drivers = record {
+  boot = boot;
+  cap = cap;
+  drivers = drivers;
+  counts = [];
+  reports = no_reports boot began;
+  taken = 0;
+}
 
-abbrev pub trace_feed : ℕ → ℕ → ℕ → Feed
-trace_feed boot cap began = trace_feed_makes (trace_begun boot cap began)
+abbrev pub trace_feed : ℕ → ℕ → ℕ → Bool → Feed
+trace_feed boot cap began drivers = trace_feed_makes (trace_begun boot cap began drivers)

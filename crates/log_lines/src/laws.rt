@@ -14,7 +14,7 @@ ghost use Rattle.block_lines.specs.Reports.{Reporting, has_error, without_source
 ghost use Rattle.block_lines.specs.Texts.{block_text, blocks_text_at, blocks_text_beside, ghes_line, hest_line, source_block_text};
 ghost use Rattle.block_lines.specs.Whole.{AreWholeLines};
 ghost use Rattle.block_lines.specs.declared.report.OpenReport.{OpenReport};
-ghost use Rattle.event_lines.specs.Events.{tells_event};
+ghost use Rattle.event_lines.specs.Events.{tells_any, tells_event};
 ghost use Rattle.line_filters.specs.Pieces.{AreShort};
 ghost use Rattle.ras_script.specs.Inputs.{Input, line};
 ghost use Rattle.ras_script.specs.LineLaws.{line_text};
@@ -29,18 +29,18 @@ ghost use Rattle.log_lines.specs.TraceFeed.{trace_text, with_cap};
 
 /// One call can print the text of each of the first inputs, of which there are 2^64.
 pub fn texts_are_short()
-    ensures trace { (boot cap began : ℕ) (inputs : List Input) → length inputs < 2 ^ 64
-        → AreShort ((trace_feed boot cap began).texts inputs) }
+    ensures trace { (boot cap began : ℕ) (drivers : Bool) (inputs : List Input)
+        → length inputs < 2 ^ 64 → AreShort ((trace_feed boot cap began drivers).texts inputs) }
     ensures log { (boot cap began : ℕ) (borders : Borders) (inputs : List Input)
         → length inputs < 2 ^ 64 → AreShort ((log_feed boot cap began borders).texts inputs) }
 {}
 
 /// Each text is whole lines or nothing, and so is the text at the end.
 pub fn texts_are_whole()
-    ensures trace { (boot cap began : ℕ) (inputs : List Input)
-        → AllByRecursion AreWholeLines ((trace_feed boot cap began).texts inputs) }
-    ensures trace_end { (boot cap began : ℕ) (inputs : List Input) (cut : Bool)
-        → AreWholeLines ((trace_feed boot cap began).last inputs cut) }
+    ensures trace { (boot cap began : ℕ) (drivers : Bool) (inputs : List Input)
+        → AllByRecursion AreWholeLines ((trace_feed boot cap began drivers).texts inputs) }
+    ensures trace_end { (boot cap began : ℕ) (drivers : Bool) (inputs : List Input) (cut : Bool)
+        → AreWholeLines ((trace_feed boot cap began drivers).last inputs cut) }
     ensures log { (boot cap began : ℕ) (borders : Borders) (inputs : List Input)
         → AllByRecursion AreWholeLines ((log_feed boot cap began borders).texts inputs) }
     ensures log_end { (boot cap began : ℕ) (borders : Borders) (inputs : List Input) (cut : Bool)
@@ -48,10 +48,13 @@ pub fn texts_are_whole()
 {}
 
 /// A line of a trace has a text if it has an event's name behind a clock, whether the event can be
-/// read or not, and if it says that events are missing.
+/// read or not, and if it says that events are missing. If all drivers' events are read, so has a line
+/// with one of these.
 pub fn events_are_never_left_unsaid()
     ensures event { (state : TraceFeedState) (bytes : List ℕ) → tells_event bytes ≡ true
         → ¬ (trace_text state (line bytes) ≡ []) }
+    ensures driver { (state : TraceFeedState) (bytes : List ℕ)
+        → tells_any state.drivers bytes ≡ true → ¬ (trace_text state (line bytes) ≡ []) }
     ensures gap { (state : TraceFeedState) (bytes : List ℕ) → is_gap bytes ≡ true
         → ¬ (trace_text state (line bytes) ≡ []) }
 {}
@@ -60,8 +63,8 @@ pub fn events_are_never_left_unsaid()
 /// or a log use: of a trace the reports of its lines, in order, each with a counter, and of a log
 /// line by line the same text, unless a trace has machine checks too.
 pub fn machine_checks_are_named_alike()
-    ensures trace { (boot cap began : ℕ) (lines : List (List ℕ))
-        → flat_map report_in (trace_checks (trace_begun boot cap began) lines)
+    ensures trace { (boot cap began : ℕ) (drivers : Bool) (lines : List (List ℕ))
+        → flat_map report_in (trace_checks (trace_begun boot cap began drivers) lines)
         ≡ all_named (map (with_cap cap) (traced_reports boot lines)) }
     ensures log { (boot cap began : ℕ) (borders : Borders) (lines : List (List ℕ))
         → borders.checks ≡ None

@@ -29,6 +29,7 @@ use std::marker::Model;
 pub struct TraceFeed {
     boot: u64,
     cap: u64,
+    drivers: bool,
     counts: AlikeCounts,
     reports: ReportFilter,
     taken: u64,
@@ -42,6 +43,7 @@ impl Model for TraceFeed {
     ghost view = { λ f. record {
       boot = f.boot;
       cap = f.cap;
+      drivers = f.drivers;
       counts = f.counts;
       reports = f.reports.reports;
       taken = f.taken;
@@ -51,15 +53,17 @@ impl Model for TraceFeed {
 impl TraceFeed {
     /// Returns the filter before the first line of the trace of a boot. `boot` is the boot's number,
     /// `cap` the IA32_MCG_CAP of events that lack it, and `began` the second since 1970 at which the
-    /// boot began. Requires `began` to be at most `LAST_SECOND`.
-    pub fn new(alloc: Global, boot: u64, cap: u64, began: u64) -> TraceFeed
+    /// boot began. `drivers` says whether the memory errors of all EDAC drivers are read, and not
+    /// only the firmware's. Requires `began` to be at most `LAST_SECOND`.
+    pub fn new(alloc: Global, boot: u64, cap: u64, began: u64, drivers: bool) -> TraceFeed
         requires { began ≤ LAST_SECOND }
-        ensures makes { trace_feed_makes result ≡ trace_feed boot cap began }
-        ensures begins { result ≡ trace_begun boot cap began }
+        ensures makes { trace_feed_makes result ≡ trace_feed boot cap began drivers }
+        ensures begins { result ≡ trace_begun boot cap began drivers }
     {
         TraceFeed {
             boot,
             cap,
+            drivers,
             counts: AlikeCounts::new(alloc),
             reports: ReportFilter::new(alloc, boot, began),
             taken: 0,
@@ -94,7 +98,7 @@ impl TraceFeed {
             return push_about(said, b"# extlog ", self.taken + 1);
         }
         self.reports.begin_line(self.taken);
-        self.reports.take_line(alloc, line, said)
+        self.reports.take_line(alloc, line, self.drivers, said)
     }
 
     // Takes a line, and appends its text.

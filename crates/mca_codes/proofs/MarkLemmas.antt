@@ -1,4 +1,4 @@
--- The mark of a code by its number is the one by what it says.
+-- The mark of a code by its number is the mark by its kind and fields.
 use Rattle.std.proofs.Common.{ℕ, ◌≡◌, ◌<◌, ◌^◌, ◌+◌, ◌*◌, ◌==◌, ◌&&◌, ◌||◌, Some, Bool, true, false, List, ◌∷◌, refl, arith, cond}
 use Rattle.std.specs.List.{find}
 use Rattle.std.specs.Option.{option_map_or}
@@ -9,11 +9,11 @@ use Rattle.mca_codes.specs.declared.codes.Code.TheVariants.{Other, InternalUncla
 use Rattle.mca_codes.specs.declared.marks.Mark.TheVariants.{Neither}
 use Rattle.mca_codes.proofs.PatternLemmas.{generic_cache_bits, tlb_bits, memory_bits, cache_bits, bus_bits, unfiltered_bits}
 
--- by these rows, the code has the mark that it has by its number
+-- By these rows, the code has the mark that it has by its number.
 record Agrees (code : ℕ) (rows : List CodeRow) : Type 0 where
   marks : mark_of_kind (reading rows code) ≡ mark_of_number code
 
--- the first row gives the mark where it fits, and the other rows where it doesn't
+-- If the first row fits, it gives the mark; otherwise the other rows do.
 step : (code : ℕ) (row : CodeRow) (rows : List CodeRow) → (fits_code code row ≡ true → mark_of_kind (read_by code row) ≡ mark_of_number code) → (fits_code code row ≡ false → Agrees code rows) → Agrees code (row ∷ rows)
 step code row rows here there =
     let at : (b : Bool) → fits_code code row ≡ b → mark_of_kind (option_map_or (read_by code) (cond b (Some row) (find (fits_code code) rows)) Other) ≡ mark_of_number code =
@@ -44,7 +44,7 @@ srao_test u r t l e r_small t_small l_small = grind arith
 srar_test : (u r t l : ℕ) → u ≡ 256 + 16 * r + 4 * t + l → r < 16 → t < 4 → l < 4 → ((r == 3 && t == 1 || r == 5 && t == 0) && l == 0) ≡ is_srar_code u
 srar_test u r t l e r_small t_small l_small = grind arith
 
--- a cache code without its filter is the sum of its fields
+-- A cache code without its filter is the sum of its fields.
 cache_sum : (code : ℕ) → code < 2 ^ 16 → fits_code code (pattern 0xef00 0x0100 cache_of) ≡ true → unfiltered_code code ≡ 256 + 16 * bits 4 4 code + 4 * bits 2 2 code + bits 0 2 code
 cache_sum code small fit = grind (arith, cache_bits code small, unfiltered_bits code small)
 

@@ -6,7 +6,7 @@ use Rattle.mca_codes.specs.Codes.{fits_code, simple_rows, compound_rows, rows_fi
 use Rattle.std.proofs.lemmas.Nat.{and_assoc, and_le_l, and_comm, and-not}
 use Rattle.std.proofs.lemmas.Nat.Bits.{and_high_mask, and_pow}
 
--- the mask of a pattern keeps the bits from k on, the filter apart
+-- The mask of a pattern keeps the bits from k on, except the filter.
 masked : (code k : ℕ) → code < 2 ^ 16 → k ≤ 16 → bit_and code (bit_and 0xefff (2 ^ 16 - 2 ^ k)) ≡ bit_and code 0xefff / 2 ^ k * 2 ^ k
 masked code k fits_code within =
     sym (and_assoc (2 ^ 16 - 2 ^ k) code 0xefff)
@@ -27,7 +27,7 @@ cache_bits code fits_code = masked code 8 fits_code (lit≤ tt)
 pub bus_bits : (code : ℕ) → code < 2 ^ 16 → bit_and code 0xe800 ≡ bit_and code 0xefff / 2048 * 2048
 bus_bits code fits_code = masked code 11 fits_code (lit≤ tt)
 
--- clearing the filter takes away its bit
+-- Clearing the filter subtracts its bit.
 pub unfiltered_bits : (code : ℕ) → code < 2 ^ 16 → bit_and code 0xefff + code / 4096 % 2 * 4096 ≡ code
 unfiltered_bits code fits_code =
     let cleared : bit_and 0xefff code + bit_and 0x1000 code ≡ code = and-not 16 (2 ^ 12) code (lit< tt) fits_code in
@@ -40,7 +40,7 @@ pub ruleset pattern_bits = (generic_cache_bits, tlb_bits, memory_bits, cache_bit
 pub unfiltered_and : (code : ℕ) → code < 2 ^ 16 → bit_and code 0xefff ≡ unfiltered_code code
 unfiltered_and code fits_code = omega (arith, unfiltered_bits code fits_code)
 
--- a code from 0401h to 07FFh fits its own row alone
+-- A code from 0401h to 07FFh fits only its own row.
 internal_simple : (code : ℕ) → 0x0401 ≤ code → code ≤ 0x07ff → count_by (fits_code code) simple_rows ≡ 1
 internal_simple code above below = grind arith
 

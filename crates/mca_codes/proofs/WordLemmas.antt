@@ -10,7 +10,7 @@ use Rattle.mca_codes.specs.Texts.{code_text_of, word_at, with_colons, compound_t
 use Rattle.mca_codes.specs.declared.codes.Code.{Code}
 use Rattle.mca_codes.specs.declared.codes.Code.TheVariants.{NoError, Unclassified, MicrocodeRom, External, Frc, InternalParity, InternalTimer, InternalUnclassified, GenericIo, Other, GenericCache, Tlb, Memory, Cache, Bus}
 
--- each byte of a text can stand in a word
+-- Whether each byte of a text can be in a word.
 abbrev pub passes : List ℕ → Bool
 passes bytes = list_all is_word_byte bytes
 
@@ -25,7 +25,7 @@ second_of : (a b : Bool) → (a && b) ≡ true → b ≡ true
 second_of true b h = h
 second_of false b h = cc
 
--- where all words of a table pass, so does the one at any value
+-- If all words of a table pass, the word for any value passes.
 word_at_passes : (words : List (List ℕ)) (value : ℕ) → list_all passes words ≡ true → passes (word_at words value) ≡ true
 word_at_passes [] value all = refl
 word_at_passes (word ∷ words) zero all = first_of (passes word) _ all
@@ -65,11 +65,11 @@ decimal_passes n small = elim (cases_lt n 10) [ inl low ↦ one_digit_passes n l
 channel_passes : (channel : ℕ) → channel < 16 → passes (channel_word channel) ≡ true
 channel_passes channel small = elim (channel == 15) as (λ b. passes (if b then codes "-" else decimal channel) ≡ true) [ true ↦ refl | false ↦ decimal_passes channel small ]
 
--- a text that isn't empty and passes is a word
+-- A text that isn't empty and passes is a word.
 word_of : (bytes : List ℕ) → bytes ≢ [] → passes bytes ≡ true → IsWord bytes
 word_of bytes some p = (some, AllPass-from_list_all is_word_byte bytes p)
 
--- the text of a compound code is a word where its kind and its fields are
+-- The text of a compound code is a word if its kind and its fields are.
 compound_word : (kind : List ℕ) (words : List (List ℕ)) (filter : Bool) → kind ≢ [] → passes kind ≡ true → list_all passes words ≡ true → IsWord (compound_text kind words filter)
 compound_word [] words filter some p all = absurd (some refl)
 compound_word (first ∷ rest) words filter some p all = word_of (compound_text (first ∷ rest) words filter) (λ e. cc) (compound_passes (first ∷ rest) words filter p all)

@@ -86,7 +86,7 @@ code_rows = simple_rows ++ compound_rows
 abbrev pub reading : List CodeRow → ℕ → Code
 reading rows code = option_map_or (read_by code) (find (fits_code code) rows) Other
 
--- what a code says
+-- the kind and the fields of a code
 abbrev pub code_of_rows : ℕ → Code
 code_of_rows code = reading code_rows code
 
@@ -94,7 +94,7 @@ code_of_rows code = reading code_rows code
 abbrev pub rows_fitted : ℕ → ℕ
 rows_fitted code = count_by (fits_code code) code_rows
 
--- the raw fields fit their bits in the code: a text is defined only for these
+-- The raw fields fit their bits in the code. Only such codes have a text.
 abbrev pub HasFieldsInRange : Code → Type 0
 HasFieldsInRange (GenericCache ll filter) = ll < 4
 HasFieldsInRange (Tlb tt ll filter) = (tt < 4) × (ll < 4)
@@ -103,7 +103,7 @@ HasFieldsInRange (Cache rrrr tt ll filter) = (rrrr < 16) × (tt < 4) × (ll < 4)
 HasFieldsInRange (Bus pp t rrrr ii ll filter) = (pp < 4) × (t < 2) × (rrrr < 16) × (ii < 4) × (ll < 4)
 HasFieldsInRange _ = ⊤
 
--- the filter bit of what was read; a simple code has none
+-- The filter bit of a code that was read. A simple code has no filter.
 abbrev pub filter_of : Code → Bool
 filter_of (GenericCache ll filter) = filter
 filter_of (Tlb tt ll filter) = filter

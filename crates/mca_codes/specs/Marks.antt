@@ -29,9 +29,8 @@ unfiltered_mark code =
 abbrev pub mark_of_number : ℕ → Mark
 mark_of_number code = unfiltered_mark (unfiltered_code code)
 
--- the mark of a code by what it says: memory scrubbing (MMM 4) and an eviction (RRRR 7) of any type
--- from level 2 are Srao; a data read (RRRR 3, TT 1) and an instruction fetch (RRRR 5, TT 0) at
--- level 0 are Srar
+-- the mark of a code by its kind and fields: memory scrubbing (MMM 4) and an eviction (RRRR 7) of any type from level
+-- 2 are Srao; a data read (RRRR 3, TT 1) and an instruction fetch (RRRR 5, TT 0) at level 0 are Srar
 abbrev pub mark_of_kind : Code → Mark
 mark_of_kind (Memory mmm channel filter) =
     if mmm == 4 then Marked.TheVariants.Srao else Marked.TheVariants.Neither

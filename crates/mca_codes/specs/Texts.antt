@@ -6,7 +6,7 @@ use Rattle.std.specs.List.{AllPass}
 use Rattle.mca_codes.specs.declared.codes.Code.{Code}
 use Rattle.mca_codes.specs.declared.codes.Code.TheVariants.{NoError, Unclassified, MicrocodeRom, External, Frc, InternalParity, InternalTimer, InternalUnclassified, GenericIo, Other, GenericCache, Tlb, Memory, Cache, Bus}
 
--- what a subfield's value prints: the word at its place, or RES past the last one
+-- what a subfield's value prints: the word at its index, or RES after the last word
 abbrev pub word_at : List (List ℕ) → ℕ → List ℕ
 word_at words value = slice_index_or words value (codes "RES")
 

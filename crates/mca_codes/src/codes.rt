@@ -95,8 +95,8 @@ pub fn code_of(code: u16) -> Code
     }
 }
 
-// The kind of a code that isn't a simple one, by the pattern of its bits. Bit 12, the filter, is in
-// no pattern.
+// Returns the kind of a code that isn't a simple code, by the pattern of its bits. Bit 12, the
+// filter, is in no pattern.
 #[tactic(auto, using(crate::proofs::PatternLemmas::pattern_bits))]
 fn compound_code(code: u16) -> Code
     ensures rows { result ≡ reading compound_rows code }
@@ -135,7 +135,7 @@ fn compound_code(code: u16) -> Code
     }
 }
 
-// The number in `width` bits of a code from bit `low` on.
+// Returns the number in `width` bits of a code from bit `low` on.
 fn field(code: u16, low: u32, width: u32) -> u8
     requires place { low < 16 }
     requires width { width ≤ 4 }
@@ -145,7 +145,7 @@ fn field(code: u16, low: u32, width: u32) -> u8
     bits(low, width, code as u64) as u8
 }
 
-// F, bit 12 of a compound code.
+// Returns F, bit 12 of a compound code.
 fn is_filtered(code: u16) -> bool
     ensures { result ≡ is_filtered code }
 {

@@ -8,8 +8,8 @@ use Rattle.mca_status.specs.declared.registers.Cap.{Cap}
 use Rattle.mca_status.specs.declared.registers.Status.{Status}
 use Rattle.mca_status.specs.declared.registers.Misc.{Misc}
 
--- whether the address can be used: the registers have one, it is a physical address (mode 2), and its valid bits give
--- the page (4,096 is 2 ^ 12)
+-- Whether the address can be used: the registers have an address, it is a physical address (mode 2), and its valid
+-- bits give the page (4,096 is 2 ^ 12).
 abbrev pub has_usable_address : Cap → Status → Misc → Bool
 has_usable_address cap status misc =
     recovers_in_software cap && address_valid status && misc_valid status
@@ -19,7 +19,7 @@ has_usable_address cap status misc =
 abbrev pub rounded_address : ℕ → ℕ → ℕ
 rounded_address address least = address / 2 ^ least * 2 ^ least
 
--- the usable address, if there is one
+-- the usable address, if any
 abbrev pub usable_address_of : Cap → Status → ℕ → Misc → Option ℕ
 usable_address_of cap status address misc =
     if has_usable_address cap status misc then Some (rounded_address address (least_bit misc)) else None
@@ -28,6 +28,6 @@ usable_address_of cap status address misc =
 abbrev pub page_of_address : ℕ → ℕ
 page_of_address address = address / 4096
 
--- the usable page, if there is one
+-- the usable page, if any
 abbrev pub usable_page_of : Cap → Status → ℕ → Misc → Option ℕ
 usable_page_of cap status address misc = option_map page_of_address (usable_address_of cap status address misc)

@@ -13,7 +13,7 @@ use Rattle.mca_status.specs.declared.classes.Class.TheVariants.{Ce, Ucna, Srao, 
 use Rattle.mca_status.specs.declared.classes.ItemClass.{ItemClass}
 use Rattle.mca_status.specs.declared.classes.ItemClass as Item
 
--- what a row of the table asks of a bit
+-- what a row of the table requires of a bit
 pub data Asked : Type 0 where
   any : Asked
   is0 : Asked
@@ -25,7 +25,7 @@ meets any bit = true
 meets is0 bit = not bit
 meets is1 bit = bit
 
--- a row: what it asks of VAL, UC, PCC, MCG_SER_P, S, EN and AR, and the class it gives
+-- a row: what it requires of VAL, UC, PCC, MCG_SER_P, S, EN and AR, and the class it gives
 pub data ClassRow : Type 0 where
   row : Asked → Asked → Asked → Asked → Asked → Asked → Asked → Option Class → ClassRow
 
@@ -59,7 +59,7 @@ class_in (row val uc pcc ser s en ar class) = class
 abbrev pub class_of_rows : Cap → Status → Option Class
 class_of_rows cap status = option_and_then class_in (find (fits_class cap status) class_rows)
 
--- the class stays the same whatever a status has at these places
+-- The class stays the same whatever bits a status has at these positions.
 abbrev pub ClassIgnores : List ℕ → Cap → Status → Type 0
 ClassIgnores places cap status =
     (other : ℕ) → AgreeApartFrom places status.0 other →
@@ -74,7 +74,7 @@ item_class_of Srar = Item.TheVariants.Srar
 item_class_of Uc = Item.TheVariants.Uc
 item_class_of Odd = Item.TheVariants.Odd
 
--- the number of an item's class, its place among the ten
+-- the number of an item's class, its index among the ten classes
 abbrev pub class_number : ItemClass → ℕ
 class_number Item.TheVariants.Ce = 0
 class_number Item.TheVariants.Ucna = 1

@@ -10,7 +10,7 @@ use Rattle.mca_status.specs.declared.registers.Status.{Status}
 use Rattle.mca_status.specs.declared.registers.GlobalStatus.{GlobalStatus}
 use Rattle.mca_status.specs.declared.registers.Misc.{Misc}
 
--- the two registers have the same bits, except at the listed positions
+-- Two registers have the same bits, except at the listed positions.
 abbrev pub AgreeApartFrom : List ℕ → ℕ → ℕ → Type 0
 AgreeApartFrom places a b = (i : ℕ) → list_any (λ place. place == i) places ≡ false → bit_at a i ≡ bit_at b i
 

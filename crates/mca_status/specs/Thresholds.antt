@@ -15,7 +15,7 @@ is_threshold_told cap status = tells_threshold cap && not (uncorrected status)
 abbrev pub threshold_values : List Threshold
 threshold_values = NoTracking ∷ Green ∷ Yellow ∷ Reserved ∷ []
 
--- the meaning of the field, or Untold if it has none
+-- the meaning of the field, or Untold if it has no meaning
 abbrev pub threshold_of : Cap → Status → Threshold
 threshold_of cap status =
     if is_threshold_told cap status then slice_index_or threshold_values (threshold_status status) Reserved

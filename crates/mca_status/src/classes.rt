@@ -105,7 +105,7 @@ pub fn class_of(cap: Cap, status: Status) -> Option<Class>
     // OVER, at bit 62, never changes the class.
     ensures overflow_ignored { ClassIgnores (62 ∷ []) cap status }
 
-    // AR and S, at bits 55 and 56, say nothing if the processor has no software error recovery.
+    // AR and S, at bits 55 and 56, don't matter if the processor has no software error recovery.
     ensures recovery_ignored { IsFalse (recovers_in_software cap)
         → ClassIgnores (55 ∷ 56 ∷ []) cap status }
 {

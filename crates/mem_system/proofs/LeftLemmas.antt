@@ -1,4 +1,4 @@
--- What is made of a name and of a file is what a stop may leave of it.
+-- A crash may leave what is computed for a name and for a file.
 use Rattle.std.proofs.Common.{◌≡◌, ℕ, zero, suc, ◌+◌, ◌-◌, ◌<◌, ◌≤◌, ◌++◌, ◌∷◌, [], List, length, map, take, get_or, max, min, refl, ap, sym, ◌∙◌, subst, inl, inr, arith, length-append}
 use Rattle.std.specs.Prelude.{Option, None, Some, Result, Ok, Err, IfOk, OnErr, Vec}
 use Rattle.std.specs.List.{AllZip}
@@ -16,13 +16,13 @@ use Rattle.mem_system.specs.Steps.LeftFolder.{IsLaid, IsPadded}
 use Rattle.mem_system.specs.MemSystem.{items_in}
 use Rattle.mem_system.specs.Steps.MemFiles.{other_seen, range_of, synced_or, file_seen}
 
--- what a name stood for
+-- A file that the name referred to.
 pub stood_once : (files : List (Option MemFile)) (i : ℕ) (file : Option MemFile) (left : Option (List ℕ)) → i < length files → file ≡ get_or files i file → MayLeaveOne (other_seen file) left → MayLeaveAny (map other_seen files) left
 stood_once [] i file left below is may = absurd (omega arith)
 stood_once (x ∷ xs) zero file left below is may = inl (subst (λ (f : Option MemFile). MayLeaveOne (other_seen f) left) is may)
 stood_once (x ∷ xs) (suc i) file left below is may = inr (stood_once xs i file left (omega arith) is may)
 
--- a write of which nothing came
+-- A write none of which arrived.
 pub unwritten : (range : Range) (bytes : List ℕ) → IsLaid range bytes bytes
 unwritten range bytes file may = record {
   stays = λ k below outside. may.stays k below (outside_front file.written (record { place = range.place; count = range.count }) k outside);
@@ -33,7 +33,7 @@ unwritten range bytes file may = record {
       omega arith);
 }
 
--- a write past the end of what is left, maybe
+-- A write, maybe past the end of what is left.
 pub laid : (place : ℕ) (bytes old padded : List ℕ) → IsPadded place old padded → IsLaid (record { place = place; count = length bytes }) old (overlay place bytes padded)
 laid place bytes old padded is file may =
     let size : length padded ≡ length old + length is.gap = ap length is.is ∙ length-append old is.gap in
@@ -51,11 +51,11 @@ laid place bytes old padded is file may =
           omega (arith, is.enough, is.within));
     }
 
--- a write of which less came
+-- A write of which less arrived.
 pub less_laid : (place n count : ℕ) (old new : List ℕ) → n ≤ count → IsLaid (record { place = place; count = n }) old new → IsLaid (record { place = place; count = count }) old new
 less_laid place n count old new within laid file may = wider file place n count new within (laid file may)
 
--- one write more
+-- One more write.
 pub laid_on : (synced : List ℕ) (written : List MemWrite) (i : ℕ) (write : MemWrite) (left next : List ℕ) → i < length written → write ≡ get_or written i write
     → MayLeaveFile (record { synced = synced; written = map range_of (take i written) }) left → IsLaid (range_of write) left next → MayLeaveFile (record { synced = synced; written = map range_of (take (i + 1) written) }) next
 laid_on synced written i write left next within is may step =
@@ -96,12 +96,12 @@ copied_file file copied bytes synced written =
     ∙ (ap (λ (s : List ℕ). seen_with file.bytes.items s (map range_of copied.written.items)) (synced_else copied.synced file.bytes.items ∙ (ap (bytes_else file.bytes.items) synced ∙ sym (synced_else file.synced file.bytes.items)))
     ∙ ap (seen_with file.bytes.items (synced_or file.synced file.bytes.items)) written)
 
--- what has room doesn't fail for want of it
+-- A call that has room doesn't fail for lack of it.
 pub never : {T E : Type 0} (r : Result T E) (P : Type 0) (len room : ℕ) → len + 1 ≤ room → OnErr r (room ≤ len) → OnErr r P
 never (Ok v) P len room has full = tt
 never (Err e) P len room has full = absurd (omega arith)
 
--- one more of what a name stood for
+-- One more file that a name referred to.
 pub copied_on : (others : List (Option MemFile)) (i : ℕ) (other made : Option MemFile) (copied next : List (Option MemFile)) → i < length others → other ≡ get_or others i other
     → map other_seen copied ≡ map other_seen (take i others) → next ≡ copied ++ made ∷ [] → option_map file_seen made ≡ option_map file_seen other → map other_seen next ≡ map other_seen (take (i + 1) others)
 copied_on others i other made copied next within is so_far step same =

@@ -1,4 +1,4 @@
--- What a system in memory notes, and what it then holds.
+-- What a system in memory notes, and the folder that it then has.
 use Rattle.std.proofs.Common.{◌≡◌, ℕ, ◌++◌, ◌∷◌, [], List, refl, ap, sym, ◌∙◌, subst, arith, append-nil, if◌then◌else◌}
 use Rattle.std.specs.Prelude.{true, false, Option, Vec, Result, Ok, Err, IfOk}
 use Rattle.std.specs.Result.{is_ok, is_err}
@@ -41,13 +41,13 @@ pub noted_state : (change : FolderChange) (past next : FolderPast) (fails : List
 noted_state change past next fails made starved faults now step is =
     ap (λ (p : FolderPast). record { past = p; fails = fails; made = made; starved = starved; faults = faults }) step ∙ ap (with_change change) is
 
--- What was kept stays one of the past's moments.
+-- The stored copy stays one of the past's moments.
 before_on : (change : FolderChange) (past : FolderPast) (kept : Kept) → IsOfPast past kept → IsOfPast (changed_by change past) kept
 before_on change past Nothing of = tt
 before_on change past (AFolder files text) of = λ uses left may. since_kept (settled_folder past.first) past.changes change 0 left (of uses left may)
 before_on change past NoMemory of = tt
 
--- What is held is the folder after it.
+-- The system has the folder after the change.
 pub held_after : (change : FolderChange) (past next : FolderPast) (files after : MemFiles) (out text : List ℕ) (kept : Kept) → next ≡ changed_by change past
     → ((uses : Uses) → held_in after text (uses_of (folder_after change (held_in files out uses))) ≡ folder_after change (held_in files out uses))
     → Holds past files out kept → Holds next after text kept
@@ -58,11 +58,11 @@ held_after change past next files after out text kept is step holds =
       before = before_on change past kept holds.before;
     })
 
--- what a stop leaves doesn't depend on how a run has the files
+-- What a crash leaves doesn't depend on how a run has the files open.
 any_uses : (files : MemFiles) (out : List ℕ) (uses other : Uses) (left : Stopped) → MayLeaveFolder (held_in files out uses) left → MayLeaveFolder (held_in files out other) left
 any_uses files out uses other left may = record { zero = may.zero; one = may.one; store = may.store; new = may.new; out = may.out }
 
--- what is there now, as it is kept
+-- The present folder is stored.
 pub kept_now : (past : FolderPast) (files : MemFiles) (out : List ℕ) (kept : Kept) → AreHeld past files out → IsCopied files out kept → IsOfPast past kept
 kept_now past files out Nothing held is = tt
 kept_now past files out (AFolder kept text) held is = λ uses left may.
@@ -76,7 +76,7 @@ uses_named (Journal One) step keeps folder = ap (λ (how : FileUse). record (use
 uses_named Store step keeps folder = ap (λ (how : FileUse). record (uses_of folder) { store = how }) (keeps folder.store)
 uses_named New step keeps folder = ap (λ (how : FileUse). record (uses_of folder) { new = how }) (keeps folder.new)
 
--- one name went on
+-- One name changed.
 pub changed_held : (name : FileName) (step : NameEntry → NameEntry) → ((entry : NameEntry) → (step entry).how ≡ entry.how) → (files after : MemFiles) (out : List ℕ) → IsChanged name step files after
     → (uses : Uses) → held_in after out (uses_of (change_name name step (held_in files out uses))) ≡ change_name name step (held_in files out uses)
 changed_held name step keeps files after out is uses = ap (held_in after out) (uses_named name step keeps (held_in files out uses)) ∙ is out uses
@@ -87,12 +87,12 @@ uses_renewed (Journal One) file how files out uses = refl
 uses_renewed Store file how files out uses = refl
 uses_renewed New file how files out uses = refl
 
--- one name refers to another file now, or to none
+-- One name refers to another file now, or to no file.
 pub renewed_held : (name : FileName) (file : Option FolderFile) (how : FileUse) (files after : MemFiles) (out : List ℕ) → IsRenewed name file files after
     → (uses : Uses) → held_in after out (uses_of (change_name name (renewed file how) (held_in files out uses))) ≡ change_name name (renewed file how) (held_in files out uses)
 renewed_held name file how files after out is uses = ap (held_in after out) (uses_renewed name file how files out uses) ∙ is out uses how
 
--- a run has a file in another way
+-- A run has a file in another way.
 pub used_held : (name : FileName) (how : FileUse) (files : MemFiles) (out : List ℕ) (uses : Uses)
     → held_in files out (uses_of (change_name name (used how) (held_in files out uses))) ≡ change_name name (used how) (held_in files out uses)
 used_held (Journal Zero) how files out uses = refl
@@ -100,7 +100,7 @@ used_held (Journal One) how files out uses = refl
 used_held Store how files out uses = refl
 used_held New how files out uses = refl
 
--- nothing was printed
+-- Nothing was printed.
 pub no_text : (files : MemFiles) (out : List ℕ) (uses : Uses) → held_in files out uses ≡ record (held_in files out uses) { out = out ++ [] }
 no_text files out uses = ap (λ (o : List ℕ). held_in files o uses) (sym (append-nil out))
 

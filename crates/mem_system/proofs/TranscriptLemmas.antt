@@ -1,4 +1,4 @@
--- Calls whose answers the folder's model allows, over a system in memory.
+-- Calls whose results the folder's model allows, over a system in memory.
 use Rattle.std.proofs.Common.{◌≡◌, ℕ, ◌+◌, ◌^◌, ◌<◌, ◌≤◌, ◌∷◌, [], List, length, take, nat_eq, if◌then◌else◌, true, false, refl, ap, sym, ◌∙◌, subst, arith, inl, inr}
 use Rattle.std.specs.Prelude.{Option, None, Some}
 use Rattle.std.specs.List.{AllByRecursion}
@@ -18,7 +18,7 @@ abbrev HasAny : Option Work → Type 0
 HasAny None = Unit {0}
 HasAny (Some work) = HasBytes work
 
--- what has to be chosen for a call, so that it is answered and does as was said
+-- The choice for a call with which the call has this result and this effect.
 record Fitting (call : SystemCall) (answer : Answer) (old new : FolderPast) : Type 0 where
   choice : Option Work
   bytes : HasAny choice
@@ -108,15 +108,15 @@ fails_after call (Some work) s = refl
 
 -- ---- all calls
 
--- Some choices for the calls after the first n, with which any system in memory that has made n calls and has this past
--- gives these answers.
+-- Choices for the calls after the first n, with which any system in memory that has made n calls and has this past
+-- gives these results.
 record Meets (n : ℕ) (past : FolderPast) (transcript : List Exchange) (last : FolderPast) : Type 0 where
   fails : List Choice
   can : AllByRecursion CanChoose fails
   before : (m : ℕ) → m ≤ n → chosen_at m fails ≡ None
   runs : (s : MemState) → s.past ≡ past → s.made ≡ n → ((m : ℕ) → n < m → chosen_at m s.fails ≡ chosen_at m fails) → Answers transcript s last
 
--- one call before the others
+-- One call before the others.
 goes_on : (n : ℕ) (said : Exchange) (more : List Exchange) (past next last : FolderPast) → n + 1 < 2 ^ 64 → MayAsk said.call past → Fitting said.call said.answer past next → Meets (n + 1) next more last → Meets n past (said ∷ more) last
 goes_on n said more past next last within may fit rest = record {
   fails = with_choice n fit.choice rest.fails;

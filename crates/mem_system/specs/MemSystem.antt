@@ -31,8 +31,8 @@ as_stopped left = record {
 abbrev pub nothing_there : Stopped
 nothing_there = record { zero = None; one = None; store = None; new = None; out = [] }
 
--- what a failing call has done: nothing, everything, this many bytes only, or a write of these bytes in place of
--- those asked for
+-- What a failing call has done: nothing, everything, this many bytes only, or a write of these bytes instead of those
+-- asked for.
 pub data Work : Type 0 where
   nothing : Work
   everything : Work
@@ -44,13 +44,13 @@ work_of Nothing = nothing
 work_of All = everything
 work_of (Part most) = part most
 
--- a call that was chosen to fail, by its number, and what it has done then
+-- A call that was chosen to fail, by its number, and what it has done then.
 pub record Choice : Type 0 where
   pub call : ℕ
   pub work : Work
 
--- what was done to the folder; the calls that were chosen to fail; how many calls were made, for how many of them
--- memory ran out, and how many failed
+-- What was done to the folder; the calls that were chosen to fail; how many calls were made, in how many of them
+-- memory ran out, and how many failed.
 pub record MemState : Type 0 where
   pub past : FolderPast
   pub fails : List Choice
@@ -87,7 +87,7 @@ abbrev pub if_everything : Work → FolderChange → Option FolderChange
 if_everything everything change = Some change
 if_everything work change = None
 
--- the bytes that arrive of a write, if any do
+-- the bytes that arrive of a write, if any
 abbrev pub bytes_written : Work → List ℕ → Option (List ℕ)
 bytes_written nothing bytes = None
 bytes_written everything bytes = Some bytes
@@ -122,7 +122,7 @@ counted s = record s { made = next_count s.made }
 abbrev pub faulted : MemState → MemState
 faulted s = record s { faults = next_count s.faults }
 
--- Memory ran out for a call.
+-- Memory ran out in a call.
 abbrev pub starving : MemState → MemState
 starving s = record (faulted s) { starved = next_count s.starved }
 
@@ -130,7 +130,7 @@ abbrev pub faulted_if : {T : Type 0} → Option T → MemState → MemState
 faulted_if None s = s
 faulted_if (Some work) s = faulted s
 
--- The answer of a call: the folder's, or `failed` if the call was chosen.
+-- The result of a call: the folder's, or `failed` if the call was chosen.
 abbrev pub answer_by : SystemCall → Option Work → FolderPast → Answer
 answer_by call None past = answer_in call past
 answer_by call (Some work) past = failed
@@ -146,11 +146,11 @@ after_call call s = faulted_if (chosen_next s) (counted (with_work (change_made 
 abbrev pub starved_by : SystemCall → MemState → MemState
 starved_by call s = starving (counted (with_work (failed_change call nothing) s))
 
--- A call was made, and answered so.
+-- A call was made, and had this result.
 pub record Performs (call : SystemCall) (answer : Answer) (old new : MemState) : Type 0 where
   -- There was memory for it, so it failed if and only if it was chosen to, or it failed and `starved` rose.
   pub does : ((answer ≡ answer_of call old) × (new ≡ after_call call old)) ⊎ ((answer ≡ failed) × (new ≡ starved_by call old))
-  -- The count of faults, which stops at 2^64 - 1, never falls.
+  -- The count of faults, which doesn't rise above 2^64 - 1, never falls.
   pub later : old.faults ≤ new.faults
 
 -- ---- what was done, as numbers and bytes

@@ -1,5 +1,5 @@
--- The calls of a system, as values, and for each of them what the folder's model says: when it may be made, its
--- answer and its change.
+-- The calls of a system, as values, and what the folder's model says of each: when it may be made, its result and its
+-- change.
 use Rattle.std.specs.Prelude.{◌≡◌, ℕ, ◌≤◌, ◌⊎◌, List, length, take, drop, Option, None, Some, Result, Ok, Err, Vec}
 use Rattle.std.specs.Option.{option_map}
 use Rattle.std.specs.declared.alloc.Global.{Global}
@@ -11,7 +11,7 @@ use Rattle.host_system.specs.declared.system.FileName.TheVariants.{Journal}
 use Rattle.host_system.specs.Folder.{FolderChange, wrote, synced, made, opens, locks, loses, removed, renamed, synced_names, printed}
 use Rattle.host_system.specs.FolderPast.{FolderPast, changed_by, HasFile, IsMissing, IsOpen, IsNotLost, MayBeWritten, MayDo, MayPrint, bytes_named, file_bytes, length_told}
 
--- the thirteen calls of `System`, with their arguments; of a buffer that is to be filled, its length
+-- The thirteen calls of `System`, with their arguments. A buffer to be filled is given by its length.
 pub data SystemCall : Type 0 where
   to_find : FileName → SystemCall
   to_open : FileName → SystemCall
@@ -27,7 +27,7 @@ pub data SystemCall : Type 0 where
   to_sync_names : SystemCall
   to_print : List ℕ → SystemCall
 
--- An answer: the call failed, it did what it was asked to, this is the length of a file that may be missing, or
+-- A result: the call failed, or it did what it was asked to, or this is the length of a file that may be missing, or
 -- these are its bytes.
 pub data Answer : Type 0 where
   failed : Answer
@@ -69,7 +69,7 @@ MayAsk (to_remove name) past = HasFile name past
 MayAsk to_rename past = HasFile FileName.New past
 MayAsk call past = Unit {0}
 
--- the answer that the folder gives
+-- the result that the folder gives
 abbrev pub answer_in : SystemCall → FolderPast → Answer
 answer_in (to_find name) past = found (length_told name past)
 answer_in (to_read name most) past = gave (option_map (take most) (bytes_named name past))
@@ -90,7 +90,7 @@ change_by to_sync_names = Some synced_names
 change_by (to_print bytes) = Some (printed bytes)
 change_by call = None
 
--- the past with one change more, or as it is
+-- the past with one more change, or unchanged
 abbrev pub with_any : Option FolderChange → FolderPast → FolderPast
 with_any None past = past
 with_any (Some change) past = changed_by change past

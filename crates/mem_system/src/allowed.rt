@@ -1,4 +1,4 @@
-//! What the calls of any modelled system answer, the model of the folder allows.
+//! The model of the folder allows the results of the calls of any modelled system.
 //!
 //! Each function only makes the call with its name: its clauses are the point.
 ghost use Rattle.std.specs.Prelude.{length, IfSome, OnOk};
@@ -68,8 +68,8 @@ pub fn read_at<S: System>(
     system.read_at(name, place, buf)
 }
 
-/// Calls `System::write_at`. After `Failed` the clauses of `System` say less than `Allows`: not
-/// that the numbers that arrived are bytes.
+/// Calls `System::write_at`. After `Failed` the clauses of `System` say less than `Allows`: they
+/// don't say that the numbers that arrived are below 256.
 pub fn write_at<S: System>(
     name: FileName,
     place: u64,

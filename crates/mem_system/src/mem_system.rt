@@ -197,7 +197,7 @@ impl MemSystem {
         Ok(())
     }
 
-    /// Makes the call with this number fail. A write has then written these bytes in place of those
+    /// Makes the call with this number fail. A write has then written these bytes instead of those
     /// asked for, at most as many as were asked for. Any other call has done the same as with
     /// `Effect::Nothing`.
     ///
@@ -274,7 +274,7 @@ impl MemSystem {
         chosen_in(&self.fails, self.made.saturating_add(1))
     }
 
-    // Whether the next call makes its change, which it makes in full or not at all.
+    // Returns whether the next call makes its change, if the change is made in full or not at all.
     fn does_all(&self) -> bool
         ensures { result ≡ is_whole (chosen_next self.now) }
     {
@@ -325,7 +325,7 @@ impl MemSystem {
         is_chosen
     }
 
-    // Ends a call: it fails if it was chosen to, or if memory ran out.
+    // Ends a call: it fails if it was chosen to fail, or if memory ran out.
     fn end(&mut self, is_chosen: bool, made: Result<(), NoMemory>) -> Result<(), Failed>
         ensures ends { Ends is_chosen made self.old self.new result }
         ensures later { self.old.faults ≤ self.new.faults }
@@ -340,7 +340,7 @@ impl MemSystem {
         Ok(())
     }
 
-    // Counts a call for which memory ran out.
+    // Counts a call in which memory ran out.
     fn starve(&mut self) -> Failed
         ensures starves { self.new ≡ starving self.old }
         ensures later { self.old.faults ≤ self.new.faults }
@@ -406,7 +406,7 @@ impl MemSystem {
         note(&mut self.notes, 1, name, 0, 0, &[]);
     }
 
-    // Notes that no call may rely on a file's bytes again.
+    // Notes that no call may rely on a file's bytes any more.
     fn lose_file(&mut self, name: FileName)
         ensures { self.new ≡ with_change (loses name) self.old }
     {
@@ -420,7 +420,7 @@ impl MemSystem {
         note(&mut self.notes, 8, FileName::New, 0, 0, &[]);
     }
 
-    // Writes bytes, of which `missing` are missing at the end.
+    // Writes bytes; `missing` bytes are missing at the end.
     fn write(
         &mut self,
         name: FileName,

@@ -27,12 +27,12 @@ page_row-more : (rs : List PageReport) (r : PageReport) → 0 < length rs → pa
 page_row-more [] r some = absurd (omega arith)
 page_row-more (q ∷ rs) r some = fold-append row_after (new_row q.seconds) (q ∷ rs) (r ∷ [])
 
--- the rows of a history with one report more are those of the history, continued by the report
+-- The rows of a history with one more report are the rows of the history, continued by the report.
 pub page_rows_of-more : (history : List PageReport) (r : PageReport) → page_rows_of (history ++ r ∷ []) ≡ rows_after (page_rows_of history) r
 page_rows_of-more history r =
     table-more nat_eq nat_exact nat_own page_in page_row (λ (r : PageReport). row_after (new_row r.seconds) r) row_after (λ r. refl) page_row-more history r
 
--- a page's state in the rows of a history is that of the row that its own reports give
+-- A page's state in the rows of a history is the state in the row that its own reports give.
 pub state_in-rows_of : (history : List PageReport) (page : ℕ) → state_in (page_rows_of history) page ≡ (page_row (page_history history page)).state
 state_in-rows_of history page =
     ap (λ o. option_map_or (λ (row : PageRow). row.state) o Kept) (lookup-table nat_eq nat_exact nat_own page_in page_row history page)
@@ -71,12 +71,12 @@ state_in-after rows r =
     by None = refl
     by (Some row) = refl
 
--- a report changes no other page's row
+-- A report changes no other page's row.
 pub lookup-rows_after : (rows : List (ℕ × PageRow)) (r : PageReport) (other : ℕ) → nat_eq other r.page ≡ false → lookup (nat_eq other) (rows_after rows r) ≡ lookup (nat_eq other) rows
 lookup-rows_after rows r other apart =
     lookup-updated-other nat_eq nat_exact nat_own other r.page (row_after (new_row r.seconds) r) (λ row. row_after row r) rows apart
 
--- no state falls
+-- No state falls.
 rises : (one other : PageState) → height one ≤ height (higher one other)
 rises Kept Kept = omega arith
 rises Kept Soft = omega arith
@@ -98,7 +98,7 @@ never_falls rows r other = by (nat_eq other r.page) refl
         omega (arith, own, ap height (state_in-before rows r), ap height (state_in-after rows r), ap (λ p. height (state_in rows p)) here, ap (λ p. height (state_in (rows_after rows r) p)) here)
     by false is = omega (arith, ap (λ o. height (option_map_or (λ (row : PageRow). row.state) o Kept)) (lookup-rows_after rows r other is))
 
--- what an order says of the state before it, and of what was called for
+-- What an order implies for the state before it, and for the state called for.
 pub soft-order : (page : ℕ) (before called : PageState) → order_between page before (higher before called) ≡ Some (Ordered.TheVariants.Soft page) → before ≡ Kept
 soft-order page Kept called is = refl
 soft-order page Soft Kept is = cc
@@ -136,7 +136,7 @@ hard-class Informational trip is = is
 pub hard-order : (page : ℕ) (row : PageRow) (r : PageReport) → order_between page row.state (row_after row r).state ≡ Some (Ordered.TheVariants.Hard page) → state_called_for r.class false ≡ Hard
 hard-order page row r is = hard-class r.class (trips r.limit r.seconds r.weight row.bucket) (hard-called page row.state (state_called_by row r) is)
 
--- the pages of a list that wait for their reports
+-- The reserved pages of a list after one more report.
 pub keys-rows_after : (rows : List (ℕ × PageRow)) (r : PageReport) → keys_of (rows_after rows r) ≡ (if is_held nat_eq rows r.page then keys_of rows else keys_of rows ++ r.page ∷ [])
 keys-rows_after rows r = keys-updated nat_eq nat_exact nat_own r.page (row_after (new_row r.seconds) r) (λ row. row_after row r) rows
 

@@ -1,4 +1,4 @@
--- The orders of a page: which there can be, and when single corrected errors give one.
+-- The orders of a page: which orders are possible, and when single corrected errors give one.
 use Rattle.std.proofs.Common.{◌≡◌, ℕ, suc, ◌+◌, ◌-◌, ◌<◌, ◌≤◌, ◌⊎◌, inl, inr, Bool, true, false, if◌then◌else◌, nat_le, nat_lt, ◌==◌, List, [], ◌∷◌, ◌++◌, length, fold, Option, None, Some, refl, sym, ap, subst, ◌∙◌, append-nil, append_assoc, add-zero, zero-add, arith, All}
 use Rattle.std.specs.List.{filter_map, cons_option, AllByRecursion}
 use Rattle.std.proofs.lemmas.Bool.Decides.{nat_tests}
@@ -19,13 +19,13 @@ use Rattle.page_policy.specs.Rows.{PageReport, higher, new_row, row_after, is_co
 use Rattle.page_policy.proofs.HistoryLemmas.{state_in-rows_of}
 use Rattle.page_policy.specs.Histories.{first_seconds, page_history, page_row, page_rows_of, state_in, state_asked, state_under, order_behind, orders_of, AreOnceInOrder, IsSingle}
 
--- the orders that a page in a state may still be given
+-- the orders that a page in this state may still get
 abbrev AreLeft : ℕ → PageState → List Order → Type 0
 AreLeft page Kept orders = AreOnceInOrder page orders
 AreLeft page Soft orders = (orders ≡ []) ⊎ (orders ≡ Ordered.TheVariants.Hard page ∷ [])
 AreLeft page Hard orders = orders ≡ []
 
--- a state that rises gives an order that its rest doesn't have
+-- A state that rises gives an order that isn't among the later ones.
 left_before : (page : ℕ) (state called : PageState) (rest : List Order) → AreLeft page (higher state called) rest
     → AreLeft page state (cons_option (order_between page state (higher state called)) rest)
 left_before page Kept Kept rest left = left
@@ -39,7 +39,7 @@ left_before page Hard Kept rest left = left
 left_before page Hard Soft rest left = left
 left_before page Hard Hard rest left = left
 
--- one report more raises the state to one that it calls for
+-- One more report raises the state to a state that the report calls for.
 state-more : (earlier : List PageReport) (r : PageReport) → (called : PageState) × ((page_row (earlier ++ r ∷ [])).state ≡ higher (page_row earlier).state called)
 state-more [] r = (state_called_by (new_row r.seconds) r, refl)
 state-more (q ∷ rs) r = (state_called_by (page_row (q ∷ rs)) r, ap (λ (row : PageRow). row.state) (fold-append row_after (new_row q.seconds) (q ∷ rs) (r ∷ [])))
@@ -75,7 +75,7 @@ under-more : (order : Option Order) (orders : List Order) → state_under (cons_
 under-more None orders = refl
 under-more (Some order) orders = refl
 
--- where a state rises the order that comes then asks for it
+-- If a state rises, the order given then asks for the new state.
 raised : (page : ℕ) (state called rest : PageState) → higher state (with_order (order_between page state (higher state called)) rest) ≡ higher (higher state called) rest
 raised page Kept Kept rest = refl
 raised page Kept Soft Kept = refl
@@ -112,7 +112,7 @@ state_from page earlier (r ∷ rs) =
     ∙ state_from page (earlier ++ r ∷ []) rs
     ∙ ap (λ rs. (page_row rs).state) (append_assoc earlier (r ∷ []) rs)
 
--- a page stands in the highest state that its orders ask for
+-- A page has the highest state that its orders ask for.
 pub state-under : (history : List PageReport) (page : ℕ) → state_in (page_rows_of history) page ≡ state_under (orders_of history page)
 unfolding orders_from
 state-under history page =
@@ -125,7 +125,7 @@ state-under history page =
 
 -- ---- single corrected errors within a period
 
--- nothing leaks within a period
+-- Nothing leaks within a period.
 pub unaged : (limit : Limit) (now : ℕ) (bucket : Bucket) → IsLimit limit → now < bucket.stamp + limit.period → aged_bucket limit now bucket ≡ bucket
 unaged limit now bucket valid early = by (nat_le limit.period (now - bucket.stamp)) refl
   where
@@ -152,11 +152,11 @@ called-corrected Fatal trip is = cc
 called-corrected Informational trip is = cc
 
 module _ (limit : Limit) (from : ℕ) (valid : IsLimit limit) where
-  -- whether one error more reaches the capacity
+  -- Whether one more error reaches the capacity.
   abbrev reaches : ℕ → Bool
   reaches count = nat_le limit.capacity (count + 1)
 
-  -- what a single corrected error does to a row
+  -- What a single corrected error does to a row.
   record Goes (old new : PageRow) : Type 0 where
     stamp : new.bucket.stamp ≡ old.bucket.stamp
     count : new.bucket.count ≡ (if reaches old.bucket.count then 0 else old.bucket.count + 1)
@@ -176,7 +176,7 @@ module _ (limit : Limit) (from : ℕ) (valid : IsLimit limit) where
         state = ap (higher row.state) (called-corrected r.class (trips r.limit r.seconds r.weight row.bucket) single.corrected ∙ ap (λ b. if b then Soft else Kept) tests);
       }
 
-  -- the row of a page after n of them
+  -- the row of a page after n single errors
   record Steady (n : ℕ) (row : PageRow) : Type 0 where
     stamp : row.bucket.stamp ≡ from
     below : n < limit.capacity → (row.bucket.count ≡ n) × (row.state ≡ Kept)
@@ -188,12 +188,12 @@ module _ (limit : Limit) (from : ℕ) (valid : IsLimit limit) where
   reaches-no : (n : ℕ) → n + 1 < limit.capacity → reaches n ≡ false
   reaches-no n is = grind (arith, nat_tests)
 
-  -- a soft page stays so
+  -- A soft-offlined page stays so.
   soft_stays : (b : Bool) → higher Soft (if b then Soft else Kept) ≡ Soft
   soft_stays true = refl
   soft_stays false = refl
 
-  -- below the capacity: with one error more, and at the capacity
+  -- Below the capacity: with one more error, and at the capacity.
   module _ (n : ℕ) (old new : PageRow) (steady : Steady n old) (step : Goes old new) where
     goes_on : n + 1 < limit.capacity → (new.bucket.count ≡ n + 1) × (new.state ≡ Kept)
     goes_on more =
@@ -243,7 +243,7 @@ module _ (limit : Limit) (from : ℕ) (valid : IsLimit limit) where
       let count : length rs + (n + 1) ≡ suc (length rs) + n = omega arith in
       subst (λ m. Steady m (fold row_after (row_after row r) rs)) count (steady-all rs (n + 1) (row_after row r) next all.1)
 
--- what holds of each element
+-- A property of each element.
 by_recursion : {X : Type 0} (P : X → Type 0) (xs : List X) → All P xs → AllByRecursion P xs
 by_recursion P [] all = tt
 by_recursion P (x ∷ xs) all = (all 0 x (omega arith), by_recursion P xs (λ k d within. all (suc k) d (omega arith)))
@@ -269,7 +269,7 @@ order-at_capacity limit page earlier last valid all =
     before [] = refl
     before (r ∷ rs) = refl
 
--- a whole period lets out as much as the capacity
+-- In a whole period as much leaks out as the capacity.
 pub aged-whole : (limit : Limit) (now : ℕ) (bucket : Bucket) → IsLimit limit → bucket.count ≤ limit.capacity → bucket.stamp + limit.period ≤ now
     → aged_bucket limit now bucket ≡ record { count = 0; stamp = now }
 aged-whole limit now bucket is below late = by (nat_le limit.period passed) refl

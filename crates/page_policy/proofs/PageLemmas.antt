@@ -1,4 +1,4 @@
--- The table of pages: a report's row that is put at its page, and small buckets.
+-- The table of pages: a report's row that replaces its page's row, and small buckets.
 use Rattle.std.proofs.Common.{◌≡◌, ℕ, zero, suc, ◌≤◌, Bool, true, false, nat_eq, cond, if◌then◌else◌, List, [], ◌∷◌, ◌++◌, Some, unwrap_or, sym, ap, slice_get, subst, arith}
 use Rattle.std.specs.Map.{values_of, lookup}
 use Rattle.row_tables.specs.Tables.{updated_rows}
@@ -10,11 +10,11 @@ use Rattle.page_policy.specs.Rows.{PageReport, new_row, row_after}
 use Rattle.page_policy.specs.Pages.{pages_after}
 use Rattle.page_policy.specs.Steps.AreSmall.{AreSmall}
 
--- the row that is known of a report's page, or a new one
+-- the row of a report's page, or a new one
 abbrev pub row_for : List (ℕ × PageRow) → PageReport → PageRow
 row_for rows r = unwrap_or (lookup (nat_eq r.page) rows) (new_row r.seconds)
 
--- the pages once the row after a report is put at its page
+-- The pages once the row after a report replaces the page's row.
 pub with_row-after : (held : Held ℕ PageRow) (r : PageReport) (row : PageRow) → row ≡ row_after (row_for held.rows r) r → with_row nat_eq held r.page row ≡ pages_after held r
 with_row-after held r row is =
     ap (λ (rows : List (ℕ × PageRow)). record (with_row nat_eq held r.page row) { rows = rows })

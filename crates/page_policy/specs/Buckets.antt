@@ -1,10 +1,10 @@
--- The leaky bucket of a page's corrected errors. The rule is that of mcelog's page error limits.
+-- The leaky bucket of a page's corrected errors, as in mcelog's page error limits.
 use Rattle.std.specs.Prelude.{ℕ, ◌+◌, ◌-◌, ◌*◌, ◌/◌, ◌≤◌, ◌<◌, Bool, nat_le, ◌&&◌, if◌then◌else◌, Option, Some, None}
 use Rattle.page_policy.specs.declared.buckets.TheConstants.{MOST_CAPACITY, MOST_PERIOD, MOST_COUNT}
 use Rattle.page_policy.specs.declared.buckets.Limit.{Limit}
 use Rattle.page_policy.specs.declared.buckets.Bucket.{Bucket}
 
--- a limit in its ranges
+-- A limit is in its ranges.
 pub record IsLimit (limit : Limit) : Type 0 where
   pub capacity_from : 1 ≤ limit.capacity
   pub capacity_to : limit.capacity ≤ MOST_CAPACITY
@@ -18,7 +18,7 @@ limit_of capacity period =
     then Some (record { capacity = capacity; period = period })
     else None
 
--- the most errors that a bucket holds: one fewer than the greatest capacity
+-- the most errors in a bucket: one fewer than the greatest capacity
 abbrev pub most_count : ℕ
 most_count = MOST_COUNT
 
@@ -26,22 +26,22 @@ most_count = MOST_COUNT
 abbrev pub leak : Limit → ℕ → ℕ
 leak limit seconds = seconds * limit.capacity / limit.period
 
--- a bucket once it has leaked until now: nothing, before a whole period has passed since the stamp
+-- A bucket after it has leaked until now. Nothing leaks before a whole period has passed since the stamp.
 abbrev pub aged_bucket : Limit → ℕ → Bucket → Bucket
 aged_bucket limit now bucket =
     if nat_le limit.period (now - bucket.stamp)
     then record { count = bucket.count - leak limit (now - bucket.stamp); stamp = now }
     else bucket
 
--- a time within a period of a bucket's stamp, or before the stamp
+-- A time is within a period of a bucket's stamp, or before the stamp.
 abbrev pub IsEarly : Limit → ℕ → Bucket → Type 0
 IsEarly limit now bucket = now < bucket.stamp + limit.period
 
--- a bucket with this number of errors more, and whether it then holds the capacity
+-- a bucket with this many more errors
 abbrev pub filled_bucket : ℕ → Bucket → Bucket
 filled_bucket weight bucket = record bucket { count = bucket.count + weight }
 
--- a bucket that has reached the limit's capacity
+-- A bucket has reached the limit's capacity.
 abbrev pub IsFull : Limit → Bucket → Type 0
 IsFull limit bucket = limit.capacity ≤ bucket.count
 
@@ -49,11 +49,11 @@ IsFull limit bucket = limit.capacity ≤ bucket.count
 abbrev pub count_with : Limit → ℕ → ℕ → Bucket → ℕ
 count_with limit now weight bucket = (aged_bucket limit now bucket).count + weight
 
--- whether the report makes the bucket trip: its capacity is reached
+-- Whether a report makes the bucket trip: its capacity is reached.
 abbrev pub trips : Limit → ℕ → ℕ → Bucket → Bool
 trips limit now weight bucket = nat_le limit.capacity (count_with limit now weight bucket)
 
--- the bucket after the report: one that trips is emptied
+-- The bucket after the report. A bucket that trips is emptied.
 abbrev pub bucket_after : Limit → ℕ → ℕ → Bucket → Bucket
 bucket_after limit now weight bucket = record {
   count = if trips limit now weight bucket then 0 else count_with limit now weight bucket;

@@ -39,11 +39,11 @@ page_row reports = fold row_after (new_row (first_seconds reports)) reports
 abbrev pub page_rows_of : List PageReport → List (ℕ × PageRow)
 page_rows_of history = table nat_eq page_in page_row history
 
--- the state of a page in a table; a page that has no row is Kept
+-- The state of a page in a table. A page without a row is Kept.
 abbrev pub state_in : List (ℕ × PageRow) → ℕ → PageState
 state_in rows page = option_map_or (λ (row : PageRow). row.state) (lookup (nat_eq page) rows) Kept
 
--- a table of rows continued by a report: it changes its page's row, or adds a row after the others
+-- A table of rows continued by a report: the report changes its page's row, or appends a row.
 abbrev pub rows_after : List (ℕ × PageRow) → PageReport → List (ℕ × PageRow)
 rows_after rows r = updated_rows nat_eq r.page (row_after (new_row r.seconds) r) (λ row. row_after row r) rows
 
@@ -51,16 +51,17 @@ rows_after rows r = updated_rows nat_eq r.page (row_after (new_row r.seconds) r)
 abbrev pub order_at : ℕ → List (ℕ × PageRow) → List (ℕ × PageRow) → Option Order
 order_at page before now = order_between page (state_in before page) (state_in now page)
 
--- from one table to the next, no page's state falls
+-- From one table to the next, no page's state falls.
 abbrev pub NeverFalls : List (ℕ × PageRow) → List (ℕ × PageRow) → Type 0
 NeverFalls before now = (page : ℕ) → height (state_in before page) ≤ height (state_in now page)
 
--- from one table to the next, only this page's row may change
+-- From one table to the next, only this page's row may change.
 abbrev pub OthersStay : ℕ → List (ℕ × PageRow) → List (ℕ × PageRow) → Type 0
 OthersStay page before now =
     (other : ℕ) → other ≢ page → lookup (nat_eq other) now ≡ lookup (nat_eq other) before
 
--- the order of a report after the earlier reports of its page: there is one if and only if the page's state rises
+-- The order of a report after the earlier reports of its page. There is an order if and only if the page's state
+-- rises.
 abbrev pub order_behind : ℕ → List PageReport → PageReport → Option Order
 order_behind page earlier r = order_between page (page_row earlier).state (page_row (earlier ++ r ∷ [])).state
 
@@ -83,8 +84,7 @@ abbrev pub state_under : List Order → PageState
 state_under [] = Kept
 state_under (order ∷ orders) = higher (state_asked order) (state_under orders)
 
--- the orders that a page may be given in all its time: at most one Soft and one Hard, the Soft
--- first
+-- The orders that a page may ever get: at most one Soft and one Hard, the Soft first.
 abbrev pub AreOnceInOrder : ℕ → List Order → Type 0
 AreOnceInOrder page orders =
     (orders ≡ [])
@@ -92,13 +92,13 @@ AreOnceInOrder page orders =
     ⊎ (orders ≡ Hard page ∷ [])
     ⊎ (orders ≡ Soft page ∷ Hard page ∷ [])
 
--- a report of one corrected error, under a limit and within a period after a time
+-- A report of one corrected error, under this limit and within a period after this time.
 pub record IsSingle (limit : Limit) (from : ℕ) (r : PageReport) : Type 0 where
   pub corrected : is_corrected r.class ≡ true
   pub one : r.weight ≡ 1
   pub limit_is : r.limit ≡ limit
   pub within : r.seconds < from + limit.period
 
--- reports of one corrected error each, under a limit and within a period of the first
+-- Reports of one corrected error each, under this limit and within a period of the first.
 abbrev pub AreSingle : Limit → List PageReport → Type 0
 AreSingle limit reports = All (IsSingle limit (first_seconds reports)) reports

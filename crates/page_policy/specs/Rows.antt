@@ -12,7 +12,7 @@ use Rattle.page_policy.specs.declared.rows.PageState.TheVariants.{Kept, Soft, Ha
 use Rattle.page_policy.specs.declared.rows.PageRow.{PageRow}
 use Rattle.page_policy.specs.Buckets.{trips, bucket_after}
 
--- a report of a page: an item that names it, with its time in seconds and the limit in force
+-- A report of a page: an item that names the page, with its time in seconds and the limit in force.
 pub record PageReport : Type 0 where
   pub page : ℕ
   pub class : ItemClass
@@ -23,7 +23,7 @@ pub record PageReport : Type 0 where
 abbrev pub report : ℕ → ItemClass → ℕ → ℕ → Limit → PageReport
 report page class seconds weight limit = record { page = page; class = class; seconds = seconds; weight = weight; limit = limit }
 
--- whether an item reports corrected errors, which fill the page's bucket
+-- Whether an item reports corrected errors, which fill the page's bucket.
 abbrev pub is_corrected : ItemClass → Bool
 is_corrected Ce = true
 is_corrected Corrected = true
@@ -36,7 +36,7 @@ is_corrected Recoverable = false
 is_corrected Fatal = false
 is_corrected Informational = false
 
--- the state that an item calls for; the Bool says whether the bucket trips at it
+-- The state that an item calls for. The Bool is whether the item makes the bucket trip.
 abbrev pub state_called_for : ItemClass → Bool → PageState
 state_called_for Ce trip = if trip then Soft else Kept
 state_called_for Corrected trip = if trip then Soft else Kept
@@ -49,7 +49,7 @@ state_called_for Fatal trip = Hard
 state_called_for Odd trip = Kept
 state_called_for Informational trip = Kept
 
--- a class that calls for a hard order, whatever the bucket does
+-- A class calls for a hard order, whatever the bucket does.
 abbrev pub CallsForHard : ItemClass → Type 0
 CallsForHard class = state_called_for class false ≡ Hard
 
@@ -84,6 +84,6 @@ order_to page Kept = None
 order_to page Soft = Some (Ordered.TheVariants.Soft page)
 order_to page Hard = Some (Ordered.TheVariants.Hard page)
 
--- the order when a page's state changes from one to another: there is one if and only if the state rose
+-- The order when a page's state changes from one to another. There is an order if and only if the state rose.
 abbrev pub order_between : ℕ → PageState → PageState → Option Order
 order_between page before now = if nat_lt (height before) (height now) then order_to page now else None

@@ -9,7 +9,7 @@ pub const MOST_CAPACITY: u32 = 1_000_000;
 /// The greatest period of a limit, in seconds.
 pub const MOST_PERIOD: u32 = 10_000_000;
 
-/// The most errors that a bucket holds: one fewer than the greatest capacity.
+/// The most errors in a bucket: one fewer than the greatest capacity.
 pub const MOST_COUNT: u32 = MOST_CAPACITY - 1;
 
 /// How many corrected errors within which time are too many for a page or a module.
@@ -42,8 +42,7 @@ impl Limit {
     }
 }
 
-/// A leaky bucket, after that of mcelog: it fills with a page's corrected errors, and they leak out
-/// with time.
+/// A leaky bucket as in mcelog: it fills with a page's corrected errors, which leak out with time.
 #[derive(Clone, Copy, Debug, PartialEq, Eq)]
 pub struct Bucket {
     /// How many errors are in it.
@@ -71,7 +70,8 @@ impl Bucket {
         ensures trips { result ≡ trips limit now weight self.old }
         ensures count { self.new.count ≤ most_count }
 
-        // Within a period of the stamp, or before it, the count is what it was and the weight.
+        // Within a period of the stamp, or before it, the count is the earlier count and the
+        // weight.
         ensures early_trip { IsEarly limit now self.old
             → (IsTrue result ↔ IsFull limit (filled_bucket weight self.old)) }
         ensures early_count { IsEarly limit now self.old

@@ -1,4 +1,4 @@
-//! What the rows and the orders of a history are, in words that don't follow the calls.
+//! The rows and the orders of a history, stated without following the calls.
 
 ghost use Rattle.std.specs.Prelude.{◌≡◌, ◌↔◌, ◌+◌, ◌≤◌, ◌==◌, ℕ, nat_eq, if◌then◌else◌, IsTrue, List, [], ◌∷◌, ◌++◌, Some, None, Contains, length};
 ghost use Rattle.std.specs.List.{IsDistinct};
@@ -17,7 +17,7 @@ ghost use Rattle.row_tables.specs.Held.{Held, is_ready};
 
 use crate::{MOST_CAPACITY, MOST_PERIOD};
 
-/// What holds of the rows and the orders of every history.
+/// The laws of the rows and the orders of every history.
 pub fn page_laws()
     // The pages that have a row are exactly those that a report names, and each has one.
     ensures named { (history : List PageReport) (page : ℕ)
@@ -46,23 +46,23 @@ pub fn page_laws()
         → bucket.count ≤ limit.capacity → bucket.stamp + limit.period ≤ now
         → (aged_bucket limit now bucket).count ≡ 0 }
 
-    // If the pages of a list of reports wait, a report of the first page can be taken.
+    // If the pages of a list of reports are reserved, a report of the first page can be counted.
     ensures ready { (pages : Held ℕ PageRow) (first : ℕ) (more : List ℕ)
         → AreReservedFor pages (first ∷ more) → IsTrue (is_ready nat_eq pages first) }
 {}
 
-/// What one more report does.
+/// The laws of one more report.
 pub fn report_laws()
     // The rows of a history become the rows of the history with this report, and the order is the
-    // one that the history with this report gives.
+    // order that the history with this report gives.
     ensures history { (history : List PageReport) (r : PageReport)
         → rows_after (page_rows_of history) r ≡ page_rows_of (history ++ r ∷ []) }
     ensures order { (history : List PageReport) (r : PageReport)
         → order_at r.page (page_rows_of history) (page_rows_of (history ++ r ∷ []))
         ≡ order_in history r }
 
-    // Soft is ordered only of a page that is Kept, and Hard only if the class calls for it,
-    // whatever the bucket says.
+    // Soft is ordered only for a page that is Kept, and Hard only if the class calls for it,
+    // whatever the bucket has.
     ensures soft { (rows : List (ℕ × PageRow)) (r : PageReport)
         → order_at r.page rows (rows_after rows r) ≡ Some (Order.Soft r.page)
         → state_in rows r.page ≡ Kept }
@@ -77,7 +77,7 @@ pub fn report_laws()
         → OthersStay r.page rows (rows_after rows r) }
 {}
 
-/// The numbers that the definitions cite by name have these digits.
+/// The numbers behind the names that the definitions use.
 pub fn numbers_in_digits()
     ensures capacity { MOST_CAPACITY ≡ 1_000_000 }
     ensures period { MOST_PERIOD ≡ 10_000_000 }

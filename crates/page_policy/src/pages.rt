@@ -18,8 +18,8 @@ use std::marker::Model;
 
 /// The pages that were reported, in the order in which they were first seen, each with its row.
 ///
-/// Pages can wait after those that have a row, so that their reports can be taken without
-/// allocating memory. Only `reserve`, `give_up` and `account` concern pages that wait.
+/// Further pages can be reserved, so that their reports can be counted without allocating memory.
+/// Only `reserve`, `give_up` and `account` concern reserved pages.
 #[derive(Drop)]
 pub struct Pages {
     table: RowTable<u64, PageRow>,
@@ -49,9 +49,9 @@ impl Pages {
         }
     }
 
-    /// Reserves what reports of these pages, taken in turn, need. The pages that have no row wait,
-    /// in the order in which they first appear, each once; pages that waited before no longer do.
-    /// No row changes, and after `NoMemory` no page waits.
+    /// Reserves what reports of these pages need when they are counted in turn: the pages that have
+    /// no row, in the order in which they first appear, each once. Earlier reservations are
+    /// dropped. No row changes, and after `NoMemory` no page is reserved.
     pub fn reserve(&mut self, pages: &[u64]) -> Result<(), NoMemory>
         ensures rows { self.new.rows ≡ self.old.rows }
         ensures ok { OnOk result (self.new.waiting ≡ new_keys nat_eq self.old.rows pages.now) }
@@ -60,7 +60,7 @@ impl Pages {
         self.table.reserve(pages, PageRow::new(0))
     }
 
-    /// Removes all pages that wait.
+    /// Removes all reserved pages.
     pub fn give_up(&mut self)
         ensures rows { self.new.rows ≡ self.old.rows }
         ensures waiting { self.new.waiting ≡ [] }
@@ -68,16 +68,16 @@ impl Pages {
         self.table.give_up();
     }
 
-    /// Takes a report of a page: an item's class and weight, with the time of the report in seconds
-    /// and the limit in force. Returns the order that follows, if any. Allocates nothing.
+    /// Counts a report of a page: an item's class and weight, with the time of the report in
+    /// seconds and the limit in force. Returns the order that follows, if any. Allocates nothing.
     ///
-    /// Requires that the page has a row or is the first that waits, and a limit in its ranges. A
-    /// page that waited has a row afterwards, after the others: it starts Kept, with an empty
-    /// bucket of that time. Ce and Corrected fill the page's bucket, and lead to Soft if it trips.
-    /// Ucna leads to Soft; Srao, Srar, Uc, Recoverable and Fatal lead to Hard; Odd and
-    /// Informational lead to nothing. A state only rises, and an order is returned if and only if
-    /// it rose: a bucket that trips at a page that is Soft or Hard is emptied, and no order
-    /// follows. [`crate::report_laws`] says what this makes of a history.
+    /// Requires that the page has a row or is the first reserved page, and a limit in its ranges. A
+    /// reserved page has a row afterwards, after the others: it starts Kept, with an empty bucket
+    /// of that time. Ce and Corrected fill the page's bucket, and lead to Soft if it trips. Ucna
+    /// leads to Soft; Srao, Srar, Uc, Recoverable and Fatal lead to Hard; Odd and Informational
+    /// lead to nothing. A state only rises, and an order is returned if and only if it rose: a
+    /// bucket that trips at a page that is Soft or Hard is emptied, and no order follows.
+    /// [`crate::report_laws`] says what this makes of a history.
     pub fn account(
         &mut self,
         page: u64,
@@ -90,7 +90,7 @@ impl Pages {
         requires limit { IsLimit limit }
         ensures pages { self.new ≡ pages_after self.old (report page class seconds weight limit) }
         ensures order { result ≡ order_at page self.old.rows self.new.rows }
-        // If the pages of a list of reports wait, the reports can be taken in turn.
+        // If the pages of a list of reports are reserved, the reports can be counted in turn.
         ensures in_turn { (pages : List ℕ) → AreReservedFor self.old (page ∷ pages)
             → AreReservedFor self.new pages }
     {
@@ -125,8 +125,8 @@ impl Pages {
         (*self.table.key(i), row.bucket, row.state)
     }
 
-    /// Appends the row of a page. Requires that no page waits, and a bucket of at most `MOST_COUNT`
-    /// errors. After an error the table is unchanged.
+    /// Appends the row of a page. Requires that no page is reserved, and a bucket of at most
+    /// `MOST_COUNT` errors. After an error the table is unchanged.
     ///
     /// `Repeated`: if and only if the page has a row.
     pub fn push_row(

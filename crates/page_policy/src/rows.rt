@@ -1,4 +1,4 @@
-//! What is known of one page: its bucket and its state, and the orders that follow.
+//! One page: its bucket and its state, and the orders that follow.
 
 ghost use Rattle.std.specs.Prelude.{◌≡◌, ◌≤◌};
 ghost use Rattle.page_policy.specs.Buckets.{IsLimit, most_count};
@@ -40,7 +40,7 @@ pub struct PageRow {
 }
 
 impl PageRow {
-    // The row of a page that is first reported at this time.
+    // Returns the row of a page that is first reported at this time.
     pub(crate) fn new(seconds: u64) -> PageRow
         ensures { result ≡ new_row seconds }
     {
@@ -53,7 +53,7 @@ impl PageRow {
         }
     }
 
-    // The row after a report of the page.
+    // Returns the row after a report of the page.
     pub(crate) fn after(self, class: ItemClass, seconds: u64, weight: u16, limit: Limit) -> PageRow
         requires limit { IsLimit limit }
         requires count { self.bucket.count ≤ most_count }
@@ -70,7 +70,7 @@ impl PageRow {
 }
 
 impl PageState {
-    // The higher of two states.
+    // Returns the higher of two states.
     fn higher_of(self, other: PageState) -> PageState
         ensures { result ≡ higher self other }
     {
@@ -89,8 +89,8 @@ pub fn is_corrected(class: ItemClass) -> bool
     matches!(class, ItemClass::Ce | ItemClass::Corrected)
 }
 
-// The state that an item calls for; `trips` is whether the bucket trips, and counts for corrected
-// items.
+// Returns the state that an item calls for; `trips` is whether the bucket trips, which matters only
+// for corrected items.
 fn calls_for(class: ItemClass, trips: bool) -> PageState
     ensures { result ≡ state_called_for class trips }
 {
@@ -108,7 +108,7 @@ fn calls_for(class: ItemClass, trips: bool) -> PageState
     }
 }
 
-// The order when a page's state rises.
+// Returns the order when a page's state rises.
 pub(crate) fn order_for(page: u64, before: PageState, after: PageState) -> Option<Order>
     ensures { result ≡ order_between page before after }
 {

@@ -1,6 +1,6 @@
-//! What no clause says and no run shows of the crates of values: sections, stored records and what
-//! is printed of them, and lines that a run doesn't take yet, as bytes and texts that were written
-//! by hand.
+//! Tests of what no clause says and no run shows about the crates of values: sections, stored
+//! records and the text printed for them, and lines that a run doesn't process yet, as bytes and
+//! texts that were written by hand.
 //!
 //! The tests have a crate of their own, so that none of those crates is proved again with its
 //! tests. What the built program can show is a row of tests/program/rows.txt or a case of

@@ -1,5 +1,5 @@
-//! Each call goes through a function of its own without a contract. So what its clauses refer to
-//! comes into the proof of that function only, and a test sees plain bytes.
+//! Each call goes through a separate function without a contract. So the terms of its clauses come
+//! only into the proof of that function, and a test sees plain bytes.
 
 mod bytes;
 mod inputs;

@@ -1,4 +1,4 @@
--- The law of the account: a history with one entry or one mark more continues the account.
+-- The law of the account: one more entry or upgrade marker continues the account of a history.
 use Rattle.std.proofs.Common.{◌≡◌, ◌+◌, ◌≤◌, ◌<◌, ℕ, Bool, true, false, ◌&&◌, ◌||◌, not, cond, if◌then◌else◌, max, nat_eq, nat_lt, List, [], ◌∷◌, ◌++◌, length, filter, map, refl, sym, ap, ◌∙◌, length-append, append_assoc, append-nil, zero-add, add-zero, true≢false, Option, Some, None, arith}
 use Rattle.std.specs.List.{sum_by, list_any}
 use Rattle.std.proofs.lemmas.Bool.Decides.{nat_tests}
@@ -29,9 +29,9 @@ use Rattle.ras_account.specs.Continued.{new_module, sums_after, module_after, mo
 use Rattle.ras_account.proofs.KeyLemmas.{same_label-exact, same_label-refl, same_limit-exact}
 use Rattle.ras_account.proofs.FreshLemmas.{not_false, names_of-append, is_fresh_in-account_of, is_retired-max}
 
--- one element more
+-- One more element.
 
--- the sum of a class, with one item more
+-- The sum of a class, with one more item.
 abbrev is_of : ItemClass → Sighting → Bool
 is_of class s = nat_eq (class_number class) (class_number s.item.class)
 
@@ -46,7 +46,7 @@ class_weight-more ss s class =
     by true = ap (λ n. class_weight ss class + n) (zero-add s.item.weight)
     by false = add-zero (class_weight ss class)
 
--- the ten sums, with one item more
+-- The ten sums, with one more item.
 more_of : (class : ItemClass) (w : ℕ) (at : ItemClass → ℕ)
     → map (λ c. if nat_eq (class_number c) (class_number class) then at c + w else at c) classes
     ≡ sums_after (map at classes) (record { class = class; label = []; page = None; weight = w })
@@ -81,7 +81,7 @@ has_tripped-more ss s =
     nothing true = refl
     nothing false = refl
 
--- the items of a label, with one more
+-- The items of a label, with one more item.
 module _ (ss : List Sighting) (s : Sighting) (label : Bytes) where
   abbrev is_error : Sighting → Bool
   is_error t = fills_bucket t && is_labeled label t
@@ -110,7 +110,7 @@ module _ (ss : List Sighting) (s : Sighting) (label : Bytes) where
       by true l is = ap (λ b. cond b (s ∷ []) []) is
       by false l is = refl
 
--- the module of an item's label, with the item
+-- The module of an item's label, with this item.
 module_by_items-own : (ss since : List Sighting) (s : Sighting) → module_by_items (ss ++ s ∷ []) (since ++ s ∷ []) (label_of s) ≡ module_after (module_by_items ss since (label_of s)) s
 module_by_items-own ss since s = λ i. record { sums = sums i; bucket = bucket i; replace = replace i }
   where
@@ -141,7 +141,7 @@ module_by_items-own ss since s = λ i. record { sums = sums i; bucket = bucket i
         by true = has_tripped-more (errors_of label since) s
         by false = ap has_tripped (append-nil (errors_of label since)) ∙ no_more (has_tripped (errors_of label since))
 
--- the module of another label
+-- The module of another label is unchanged.
 module_by_items-other : (ss since : List Sighting) (s : Sighting) (label : Bytes) → is_labeled label s ≡ false
     → module_by_items (ss ++ s ∷ []) (since ++ s ∷ []) label ≡ module_by_items ss since label
 module_by_items-other ss since s label is =
@@ -151,7 +151,7 @@ module_by_items-other ss since s label is =
       replace = has_tripped (errors-other since s label is i);
     }
 
--- a label that no item has
+-- No item has this label.
 labeled-none : (ss : List Sighting) (label : Bytes) → list_any (same_label label) (map label_of ss) ≡ false → filter (is_labeled label) ss ≡ []
 labeled-none [] label none = refl
 labeled-none (s ∷ ss) label none = by (is_labeled label s) refl none (labeled-none ss label)
@@ -171,7 +171,7 @@ errors-none (s ∷ ss) label none = by (fills_bucket s) (is_labeled label s) ref
     by true false is h ih = ih h
     by false false is h ih = ih h
 
--- some items are the last of all
+-- Some items are the last of all items.
 abbrev pub AreLast : List Sighting → List Sighting → Type 0
 AreLast since ss = (front : List Sighting) × (front ++ since ≡ ss)
 
@@ -188,7 +188,7 @@ none-last ss since label (front, is) none =
 pub last-more : (ss since : List Sighting) (s : Sighting) → AreLast since ss → AreLast (since ++ s ∷ []) (ss ++ s ∷ [])
 last-more ss since s (front, is) = (front, sym (append_assoc front since (s ∷ [])) ∙ ap (λ ts. ts ++ s ∷ []) is)
 
--- the modules, with one item more
+-- The modules, with one more item.
 pub modules-more : (ss since : List Sighting) (s : Sighting) → AreLast since ss
     → modules_of (ss ++ s ∷ []) (since ++ s ∷ []) ≡ modules_after (modules_of ss since) s
 modules-more ss since s last =
@@ -219,7 +219,7 @@ modules-more ss since s last =
           replace = has_tripped (errors-none since (label_of s) (none-last ss since (label_of s) last none) i);
         }
 
--- the rows of pages, with one item more
+-- The rows of pages, with one more item.
 abbrev pub at_page : Sighting → Option ℕ → Sighting
 at_page s page = record s { item = record s.item { page = page } }
 
@@ -230,7 +230,7 @@ pages-more ss s = ap page_rows_of (filter_map-append report_of ss (s ∷ [])) �
     by None = ap page_rows_of (append-nil (reports_of ss))
     by (Some page) = page_rows_of-more (reports_of ss) _
 
--- the account of these parts
+-- the account with these parts
 abbrev pub counted : List Name → ℕ → Limit → Limit → ℕ → List Sighting → List Sighting → State
 counted names floor limit module_limit entries ss since = record {
   names = names;
@@ -266,7 +266,7 @@ module _ (names : List Name) (floor : ℕ) (limit module_limit : Limit) (entries
       ∙ counted-append (ss ++ s ∷ []) (since ++ s ∷ []) more (last-more ss since s last)
       ∙ ap (λ a. account_after_items a more) (counted-more ss since s last)
 
--- the items since the last mark are the last of all
+-- The items since the last upgrade marker are the last of all items.
 pub since-last : (h : History) → AreLast (sightings_since_mark h) (sightings h)
 since-last empty = ([], refl)
 since-last (with_entry h e) = by (since-last h)
@@ -275,7 +275,7 @@ since-last (with_entry h e) = by (since-last h)
     by (front, is) = (front, sym (append_assoc front (sightings_since_mark h) (sightings_behind h e)) ∙ ap (λ ss. ss ++ sightings_behind h e) is)
 since-last (with_mark h) = (sightings h, append-nil (sightings h))
 
--- an entry that isn't fresh changes nothing
+-- An entry that isn't new changes nothing.
 
 -- what is in force after a history
 limit-stale : (h : History) (e : Entry) → is_fresh_behind h e ≡ false → limit_after (with_entry h e) ≡ limit_after h
@@ -302,7 +302,7 @@ floor-stale h (ModuleLimit limit) stale = refl
 max-greater : (a b : ℕ) → nat_lt a b ≡ true → max a b ≡ b
 max-greater a b is = let below : a < b = grind (arith, nat_tests) in omega arith
 
--- an account with an entry more, where it is fresh or not
+-- An account with one more entry, whether it is new or not.
 abbrev grown : Bool → History → Entry → State
 grown b h e = counted
     (kept_names (floor_after (with_entry h e)) (names_of (if b then fresh_entries h ++ e ∷ [] else fresh_entries h)))
@@ -317,12 +317,12 @@ grown-stale : (h : History) (e : Entry) → is_fresh_behind h e ≡ false → gr
 grown-stale h e stale =
     λ i. counted (kept_names (floor-stale h e stale i) (names_of (fresh_entries h))) (floor-stale h e stale i) (limit-stale h e stale i) (module_limit-stale h e stale i) (length (fresh_entries h)) (append-nil (sightings h) i) (append-nil (sightings_since_mark h) i)
 
--- the names kept, with a name more that isn't retired
+-- The names of boots that aren't retired, with one more such name.
 kept-more : (floor : ℕ) (names : List Name) (name : Name) → is_retired floor name ≡ false → kept_names floor (names ++ name ∷ []) ≡ kept_names floor names ++ name ∷ []
 kept-more floor names name stays =
     filter-append (λ n. not (is_retired floor n)) names (name ∷ []) ∙ ap (λ b. kept_names floor names ++ cond (not b) (name ∷ []) []) stays
 
--- the names kept by a floor that has risen
+-- The names left after the floor has risen.
 kept-again : (floor boot : ℕ) (names : List Name) → nat_lt floor boot ≡ true → kept_names boot names ≡ kept_names boot (kept_names floor names)
 kept-again floor boot [] higher = refl
 kept-again floor boot (n ∷ ns) higher = by (is_retired floor n) refl (kept-again floor boot ns higher)
@@ -367,7 +367,7 @@ grown-fresh h (Retire boot) is =
         (λ i. kept_names (max-greater (floor_after h) boot is i) (no_names h (Retire boot) refl i))
         ∙ kept-again (floor_after h) boot (names_of (fresh_entries h)) is
 
--- the law: an entry more continues the account
+-- The law: one more entry continues the account.
 pub account_of-entry : (h : History) (e : Entry) → account_of (with_entry h e) ≡ account_after (account_of h) e
 account_of-entry h e = by (is_fresh_behind h e) refl
   where
@@ -378,7 +378,7 @@ account_of-entry h e = by (is_fresh_behind h e) refl
     by true is = ap (λ b. grown b h e) is ∙ grown-fresh h e is ∙ sym (goes_on true is)
     by false is = ap (λ b. grown b h e) is ∙ grown-stale h e is ∙ sym (goes_on false is)
 
--- and a mark
+-- One more upgrade marker continues the account.
 modules-marked : (labels : List Bytes) (ss since : List Sighting)
     → map {B = Bytes × Module} (λ label. (label, module_by_items ss [] label)) labels
     ≡ map {B = Bytes × Module} (λ row. (row.0, without_bucket row.1)) (map {B = Bytes × Module} (λ label. (label, module_by_items ss since label)) labels)
@@ -389,7 +389,7 @@ pub account_of-mark : (h : History) → account_of (with_mark h) ≡ account_aft
 account_of-mark h =
     λ i. record (account_of h) { modules = modules-marked (distinct_keys same_label (map label_of (sightings h))) (sightings h) (sightings_since_mark h) i }
 
--- and all of a history, or a list of entries
+-- A whole history, or a list of entries, continues the account.
 pub account_of-followed : (h more : History) → account_of (followed_by h more) ≡ account_after_history (account_of h) more
 account_of-followed h empty = refl
 account_of-followed h (with_entry more e) = account_of-entry (followed_by h more) e ∙ ap (λ a. account_after a e) (account_of-followed h more)
@@ -399,6 +399,6 @@ pub account_of-entries : (h : History) (es : List Entry) → account_of (with_en
 account_of-entries h [] = refl
 account_of-entries h (e ∷ es) = account_of-entries (with_entry h e) es ∙ ap (λ a. account_after_all a es) (account_of-entry h e)
 
--- what isn't fresh leaves the account as it is
+-- An entry that isn't new leaves the account unchanged.
 pub account_of-stale : (h : History) (e : Entry) → is_fresh_behind h e ≡ false → account_of (with_entry h e) ≡ account_of h
 account_of-stale h e stale = ap (λ b. grown b h e) stale ∙ grown-stale h e stale

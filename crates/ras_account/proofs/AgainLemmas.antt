@@ -1,4 +1,4 @@
--- How an entry is taken that was reserved alone.
+-- Counting an entry for which only its own additions were reserved.
 use Rattle.std.proofs.Common.{◌≡◌, ◌+◌, Bool, true, false, if◌then◌else◌, [], ◌∷◌, ◌++◌, length, sym, ap, ◌∙◌, append-nil, length-append, true≢false, arith}
 use Rattle.std.specs.List.{sum_by}
 use Rattle.ras_facts.specs.declared.items.Item.{Item}
@@ -12,7 +12,7 @@ use Rattle.ras_account.specs.View.{Waiting, WaitsFirst, nothing}
 use Rattle.ras_account.proofs.ItemLemmas.{names-items, entries-items, total-items}
 use Rattle.ras_account.proofs.NumberLemmas.{past-within, stays-within, with_fresh_ones}
 
--- an account within its numbers, also after an entry, is within them with that entry
+-- An account that is within its bounds before and after an entry has room for it.
 fresh-within : (a : State) (e : Entry) → IsWithin a → IsWithin (account_after_fresh (account_with_count a) e) → AreWithin (with_fresh_ones a (e ∷ []))
 fresh-within a (Fact fact) now later = record {
   names = omega (arith, later.names, ap length (names-items (record a { names = a.names ++ fact.name ∷ []; entries = a.entries + 1 }) (sightings_in a.limit a.module_limit (Fact fact))), length-append a.names (fact.name ∷ []));
@@ -30,11 +30,11 @@ single-within a e now later = by (is_fresh_in a e) later
     by true later = fresh-within a e now later
     by false later = record { names = omega (arith, now.names); entries = omega (arith, now.entries); total = omega (arith, now.total) }
 
--- one entry alone passes the numbers only where the account after it does
+-- If one entry passes the bounds, so does the account after it.
 pub single-past : (a : State) (e : Entry) → IsWithin a → are_past (numbers_with a (e ∷ [])) ≡ true → IsWithin (account_after a e) → ⊥
 single-past a e now past later = true≢false (sym past ∙ (past-within (numbers_with a (e ∷ []))).1 (single-within a e now later))
 
--- what waits alone waits first
+-- If only this is reserved, it is reserved first.
 pub waits_alone : (front all : Waiting) → all ≡ front → WaitsFirst front all
 waits_alone front all is = (
   nothing,
@@ -45,6 +45,6 @@ waits_alone front all is = (
   }) ∙ sym is,
 )
 
--- room for one entry is room after it
+-- If there is room for one entry, the account after it is within its bounds.
 pub single-first : (a : State) (e : Entry) → AreWithin (numbers_with a (e ∷ [])) → IsWithin (account_after a e)
 single-first a e within = (stays-within a (e ∷ []) within).0

@@ -10,7 +10,7 @@ use Rattle.ras_account.specs.Sightings.{Sighting}
 use Rattle.ras_account.specs.Modules.{bucket_met, bucket_over, bucket_with, trips_at, has_tripped, first_time, IsSingleError, AreSingleErrors, IsLate}
 use Rattle.ras_account.proofs.AccountLemmas.{bucket_over-more, has_tripped-more}
 
--- a bucket that isn't above its capacity, after a whole period
+-- A bucket that isn't above its capacity is empty after a whole period.
 emptied : (bucket : Bucket) (s : Sighting) → IsLimit s.module_limit → bucket.count ≤ s.module_limit.capacity → IsLate bucket s
     → aged_bucket s.module_limit s.seconds bucket ≡ aged_bucket s.module_limit s.seconds (record { count = 0; stamp = s.seconds })
 emptied bucket s is below late =
@@ -31,7 +31,7 @@ empties-trip bucket s is below late =
     ap (λ (aged : Bucket). nat_le s.module_limit.capacity (aged.count + s.item.weight)) (emptied bucket s is below late)
 
 module _ (limit : Limit) (from : ℕ) (valid : IsLimit limit) where
-  -- what single errors within a period from a time have made of the bucket that the next one meets
+  -- The bucket before the next error, after single errors within a period.
   record Fills (done : List Sighting) : Type 0 where
     bucket : Bucket
     met : (s : Sighting) → (done ≡ [] → s.seconds ≡ from) → bucket_met (bucket_over done) s ≡ bucket

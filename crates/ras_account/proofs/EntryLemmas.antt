@@ -1,4 +1,4 @@
--- What an entry adds to an account, and when it can be taken.
+-- What an entry adds to an account, and when it can be counted.
 use Rattle.std.proofs.Common.{◌≡◌, ◌+◌, Bool, true, false, not, nat_eq, if◌then◌else◌, [], ◌∷◌, ◌++◌, length, refl, sym, ap, subst, ◌∙◌, arith, append-nil, length-append, true≢false}
 use Rattle.std.specs.Map.{keys_of}
 use Rattle.std.proofs.lemmas.List.{append_cancel_left}
@@ -32,7 +32,7 @@ module _ (a : State) where
   added_by-stale : (e : Entry) → is_fresh_in a e ≡ false → added_by a (e ∷ []) ≡ nothing
   added_by-stale e stale = ap (λ b. adds a (if b then e ∷ [] else [])) stale
 
--- an entry without a name and items adds nothing
+-- An entry without a name and without items adds nothing.
 adds_nothing : (a : State) (e : Entry) (b : Bool) → adds a (e ∷ []) ≡ nothing → adds a (if b then e ∷ [] else []) ≡ nothing
 adds_nothing a e true is = is
 adds_nothing a e false is = refl
@@ -40,7 +40,7 @@ adds_nothing a e false is = refl
 no_items : (old new : View) (e : Entry) → adds old.state (e ∷ []) ≡ nothing → new.waiting ≡ old.waiting → old.waiting ≡ then_waits (added_by old.state (e ∷ [])) new.waiting
 no_items old new e none waiting = sym waiting ∙ ap (λ front. then_waits front new.waiting) (sym (adds_nothing old.state e (is_fresh_in old.state e) none))
 
--- no order is given by an entry without items
+-- An entry without items gives no order.
 unordered : (a : State) (e : Entry) (b : Bool) → orders_along a (sightings_in a.limit a.module_limit e) ≡ [] → (if b then orders_along a (sightings_in a.limit a.module_limit e) else []) ≡ []
 unordered a e true is = is
 unordered a e false is = refl
@@ -51,7 +51,7 @@ gives-none before a e none = record {
   room = omega (arith, ap length (unordered a e (is_fresh_in a e) none));
 }
 
--- taking a fresh entry other than a fact
+-- Counting a new entry other than a fact.
 pub takes_other : (old new : View) (before : OrderList) (e : Entry) → is_fresh_in old.state e ≡ true
     → adds old.state (e ∷ []) ≡ nothing → orders_along old.state (sightings_in old.state.limit old.state.module_limit e) ≡ []
     → new.state ≡ account_after_fresh (account_with_count old.state) e → new.waiting ≡ old.waiting → Takes old new before before e
@@ -61,7 +61,7 @@ takes_other old new before e fresh none unasked state waiting = record {
   gives = gives-none before old.state e unasked;
 }
 
--- passing over an entry that isn't fresh
+-- An entry that isn't new is passed over.
 pub takes_stale : (v : View) (before : OrderList) (e : Entry) → is_fresh_in v.state e ≡ false → Takes v v before before e
 takes_stale v before e stale = record {
   state = sym (ap (λ b. if b then account_after_fresh (account_with_count v.state) e else v.state) stale);
@@ -75,11 +75,11 @@ takes_stale v before e stale = record {
     asked : orders_at v.state e ≡ []
     asked = ap (λ b. if b then orders_along v.state (sightings_in v.state.limit v.state.module_limit e) else []) stale
 
--- a fresh entry leaves room for itself
+-- A new entry leaves the account within its bounds.
 pub entry-room : (a : State) (e : Entry) → is_fresh_in a e ≡ true → names_of (e ∷ []) ≡ [] → IsWithin (account_after a e) → IsWithin (account_after_fresh (account_with_count a) e)
 entry-room a e fresh none within = subst (λ b. IsWithin (if b then account_after_fresh (account_with_count a) e else a)) fresh within
 
--- a fresh fact can be taken where what it adds waits first
+-- A new fact can be counted if what it adds is reserved first.
 pub can_take : (v : View) (fact : Told) → is_fresh_in v.state (Fact fact) ≡ true → IsValidFact fact → WaitsFirst (added_by v.state (Fact fact ∷ [])) v.waiting
     → IsWithin (account_after v.state (Fact fact)) → CanTakeFact v fact
 can_take v fact fresh valid (rest, first) within =
@@ -105,7 +105,7 @@ can_take v fact fresh valid (rest, first) within =
     known true h = absurd (true≢false (sym h))
     known false h = refl
 
--- taking a fresh fact takes the entry
+-- Counting a new fact counts the entry.
 pub takes_fact : (old new : View) (before after : OrderList) (fact : Told) → is_fresh_in old.state (Fact fact) ≡ true → TakesFact old new fact
     → GivesOrders before after (orders_along old.state (sightings_at old.state fact.seconds fact.items)) → Takes old new before after (Fact fact)
 takes_fact old new before after fact fresh taken gives = record {
@@ -114,11 +114,11 @@ takes_fact old new before after fact fresh taken gives = record {
   gives = subst (λ b. GivesOrders before after (if b then orders_along old.state (sightings_in old.state.limit old.state.module_limit (Fact fact)) else [])) (sym fresh) gives;
 }
 
--- where nothing waits behind it, what waits in front is all
+-- If nothing is reserved after the first part, the first part is all.
 pub all_waits : (front : Waiting) → then_waits front nothing ≡ front
 all_waits front = λ i. record { names = append-nil front.names i; labels = append-nil front.labels i; pages = append-nil front.pages i }
 
--- what waits behind the same front is the same
+-- If the first parts of two reservations are equal, so are the other parts.
 pub left_waits : (front one other : Waiting) → then_waits front one ≡ then_waits front other → one ≡ other
 left_waits front one other is =
     let names : one.names ≡ other.names = append_cancel_left front.names one.names other.names (ap (λ (w : Waiting). w.names) is) in

@@ -1,4 +1,4 @@
--- The names that an account knows are those that its history makes stale.
+-- The account of a history knows exactly the names that the history's facts make known.
 use Rattle.std.proofs.Common.{◌≡◌, ℕ, ◌≤◌, Bool, true, false, not, nat_lt, max, cond, ◌||◌, ◌&&◌, if◌then◌else◌, Option, Some, None, List, [], ◌∷◌, ◌++◌, refl, sym, ap, ◌∙◌, true≢false, arith}
 use Rattle.std.specs.Option.{option_map_or}
 use Rattle.std.proofs.Math.Nat.{le-max_left, le-max_right}
@@ -30,7 +30,7 @@ pub de_morgan : (b c : Bool) → not (b || c) ≡ (not b && not c)
 de_morgan true c = refl
 de_morgan false c = refl
 
--- a boot is below the greater of two numbers where it is below one
+-- A boot is below the greater of two numbers if and only if it is below one of them.
 lt-max : (a b n : ℕ) → nat_lt n (max a b) ≡ (nat_lt n a || nat_lt n b)
 lt-max a b n = by (nat_lt n a) refl (nat_lt n b) refl
   where
@@ -46,7 +46,7 @@ is_retired-max a b name = by (boot_of name)
     by None = refl
     by (Some boot) = lt-max a b boot
 
--- dropping the names of retired boots hides none that isn't retired
+-- Dropping the names of retired boots drops no other name.
 pub among_kept : (floor : ℕ) (names : List Name) (name : Name)
     → (is_among (kept_names floor names) name || is_retired floor name) ≡ (is_among names name || is_retired floor name)
 among_kept floor [] name = refl
@@ -69,8 +69,8 @@ names_of-append (PageLimit limit ∷ xs) ys = names_of-append xs ys
 names_of-append (Retire boot ∷ xs) ys = names_of-append xs ys
 names_of-append (ModuleLimit limit ∷ xs) ys = names_of-append xs ys
 
--- f and g: whether a name is among those of fresh facts and of all; r: whether it is retired; s:
--- whether it is the last
+-- f and g: whether a name is among the names of new facts and of all facts; r: whether it is retired; s: whether it is
+-- the last.
 grown : (f g s r : Bool) → (f || r) ≡ (g || r) → ((f || (s || false)) || r) ≡ ((g || (s || false)) || r)
 grown true true s r ih = refl
 grown false false s r ih = refl
@@ -94,7 +94,7 @@ lowered true false false q ih = absurd (true≢false ih)
 lowered false true true q ih = refl
 lowered false true false q ih = absurd (true≢false (sym ih))
 
--- an entry that brings no name leaves those of the fresh ones, fresh or not
+-- An entry without a name leaves the names of new facts unchanged, whether it is new or not.
 same_names : (b : Bool) (h : History) (e : Entry) → names_of (e ∷ []) ≡ [] → names_of (if b then fresh_entries h ++ e ∷ [] else fresh_entries h) ≡ names_of (fresh_entries h)
 same_names true h e none = names_of-append (fresh_entries h) (e ∷ []) ∙ ap (λ ns. names_of (fresh_entries h) ++ ns) none ∙ nil (names_of (fresh_entries h))
   where
@@ -103,7 +103,7 @@ same_names true h e none = names_of-append (fresh_entries h) (e ∷ []) ∙ ap (
     nil (n ∷ ns) = ap (λ rest. n ∷ rest) (nil ns)
 same_names false h e none = refl
 
--- a name that isn't retired is among those of the fresh facts where it is among all
+-- A name that isn't retired is among the names of new facts if and only if it is among all.
 pub among_fresh : (h : History) (name : Name)
     → (is_among (names_of (fresh_entries h)) name || is_retired (floor_after h) name) ≡ (is_among (names_in h) name || is_retired (floor_after h) name)
 among_fresh empty name = refl
@@ -144,7 +144,7 @@ among_fresh (with_entry h (Fact fact)) name =
         ∙ grown F G (same_name name fact.name) R ih
     by ih false is = known F G (same_name name fact.name) R ih (stale is)
 
--- in the account of a history an entry is fresh where it is fresh behind the history
+-- In the account of a history an entry is new if and only if it is new after the history.
 pub is_fresh_in-account_of : (h : History) (e : Entry) → is_fresh_in (account_of h) e ≡ is_fresh_behind h e
 is_fresh_in-account_of h (Fact fact) =
     ap not (among_kept (floor_after h) (names_of (fresh_entries h)) fact.name ∙ among_fresh h fact.name)

@@ -19,9 +19,9 @@ use Rattle.ras_account.specs.View.{labels_in, pages_in}
 use Rattle.ras_account.proofs.KeyLemmas.{same_label-exact, same_label-refl}
 use Rattle.ras_account.proofs.AccountLemmas.{at_page}
 
--- keys that are added in turn
+-- Keys that are added one after the other.
 module _ {K : Type 0} (same : K → K → Bool) where
-  -- keys with one more behind them, where it isn't held
+  -- keys with one more, unless the key is there already
   abbrev pub with_key : List K → K → List K
   with_key held k = if list_any (same k) held then held else held ++ k ∷ []
 
@@ -32,7 +32,7 @@ module _ {K : Type 0} (same : K → K → Bool) where
       by true = refl
       by false = append_assoc held (k ∷ []) (added_keys same (held ++ k ∷ []) ks)
 
--- the keys of the tables after an item
+-- The keys of the tables after an item.
 pub labels-after : (modules : List (Bytes × Module)) (s : Sighting) → keys_of (modules_after modules s) ≡ with_key same_label (keys_of modules) (label_of s)
 labels-after modules s =
     keys-updated same_label same_label-exact same_label-refl (label_of s) (module_after new_module s) (λ m. module_after m s) modules
@@ -47,7 +47,7 @@ keys-pages_after rows s ps = by s.item.page
         ap (λ ks. ks ++ added_keys nat_eq ks ps) (keys-rows_after rows (report page s.item.class s.seconds s.item.weight s.limit))
         ∙ added-cons nat_eq (keys_of rows) ps page
 
--- what all items of a fact come to
+-- The account after all items of a fact.
 pub names-items : (a : State) (ss : List Sighting) → (account_after_items a ss).names ≡ a.names
 names-items a [] = refl
 names-items a (s ∷ ss) = names-items (account_after_item a s) ss

@@ -1,4 +1,4 @@
--- What an account knows, it goes on knowing.
+-- A name that an account knows stays known.
 use Rattle.std.proofs.Common.{◌≡◌, ◌+◌, ℕ, Bool, true, false, nat_lt, if◌then◌else◌, ◌||◌, Option, Some, None, List, [], ◌∷◌, ◌++◌, All, Contains, refl, ap, ◌∙◌, arith}
 use Rattle.std.specs.Option.{option_map_or}
 use Rattle.std.proofs.lemmas.Bool.Decides.{nat_tests}
@@ -19,11 +19,11 @@ use Rattle.ras_account.proofs.FreshLemmas.{among_kept, among_fresh, not_false}
 use Rattle.ras_account.proofs.AccountLemmas.{account_of-followed}
 use Rattle.ras_account.proofs.ItemLemmas.{names-items, floor-items}
 
--- the account of a history knows the names of its facts, and those of retired boots
+-- The account of a history knows the names of its facts, and the names of retired boots.
 pub knows-history : (h : History) (name : Name) → knows (account_of h) name ≡ (is_among (names_in h) name || is_retired (floor_after h) name)
 knows-history h name = among_kept (floor_after h) (names_of (fresh_entries h)) name ∙ among_fresh h name
 
--- a retired boot is below each greater floor
+-- A retired boot is below each greater floor.
 retired-above : (floor boot : ℕ) (name : Name) → nat_lt floor boot ≡ true → is_retired floor name ≡ true → is_retired boot name ≡ true
 retired-above floor boot name above = by (boot_of name)
   where
@@ -44,7 +44,7 @@ or_raised : (b c d : Bool) → (c ≡ true → d ≡ true) → (b || c) ≡ true
 or_raised true c d more is = refl
 or_raised false c d more is = more is
 
--- a fact's names are those before it and its own
+-- The names after a fact are the names before it and the fact's own.
 fact_names : (a : State) (fact : Told) → (account_after_fresh (account_with_count a) (Fact fact)).names ≡ a.names ++ fact.name ∷ []
 fact_names a fact =
     names-items (record a { names = a.names ++ fact.name ∷ []; entries = a.entries + 1 }) (sightings_in a.limit a.module_limit (Fact fact))
@@ -59,7 +59,7 @@ knows-fact a fact name =
     (λ i. is_among (fact_names a fact i) name || is_retired (fact_floor a fact i) name)
     ∙ ap (λ b. b || is_retired a.floor name) (list_any-append (same_name name) a.names (fact.name ∷ []))
 
--- one entry more
+-- One more entry.
 knows-fresh : (a : State) (e : Entry) (name : Name) → is_fresh_in a e ≡ true → knows a name ≡ true → knows (account_after_fresh (account_with_count a) e) name ≡ true
 knows-fresh a (Fact fact) name is known =
     knows-fact a fact name ∙ or_more (is_among a.names name) (same_name name fact.name || false) (is_retired a.floor name) known
@@ -88,7 +88,7 @@ pub knows-followed : (h more : History) (name : Name) → knows (account_of h) n
 knows-followed h more name known =
     ap (λ a. knows a name) (account_of-followed h more) ∙ knows-after_history (account_of h) more name known
 
--- the fact itself
+-- The fact's own name is known after it.
 pub knows-own : (a : State) (fact : Told) → knows (account_after a (Fact fact)) fact.name ≡ true
 knows-own a fact = by (is_fresh_in a (Fact fact)) refl
   where
@@ -99,7 +99,7 @@ knows-own a fact = by (is_fresh_in a (Fact fact)) refl
     by true is = knows-fact a fact fact.name ∙ ap (λ b. b || is_retired a.floor fact.name) own
     by false is = not_false (knows a fact.name) is
 
--- and each fact of a list
+-- The name of each fact of a list is known after the list.
 abbrev IsKnown : State → Entry → Type 0
 IsKnown a (Fact fact) = knows a fact.name ≡ true
 IsKnown a (PageLimit limit) = Unit {0}

@@ -1,4 +1,4 @@
--- Laws of the account of a history: what it holds, each key once, and what retires leave.
+-- Laws of the account of a history: what it contains, each key once, and what retires leave.
 use Rattle.std.proofs.Common.{◌≡◌, ◌≤◌, ◌+◌, ℕ, Bool, true, false, not, cond, ◌&&◌, ◌||◌, if◌then◌else◌, max, nat_eq, List, [], ◌∷◌, ◌++◌, fold, map, sum, Some, None, All, Contains, ◌↔◌, refl, sym, ap, subst, ◌∙◌, append_assoc, append-nil, arith, zero-add}
 use Rattle.std.specs.Bool.{IsFalse}
 use Rattle.std.specs.List.{list_any, sum_by, IsDistinct}
@@ -38,7 +38,7 @@ use Rattle.ras_account.proofs.ItemLemmas.{names-items}
 use Rattle.ras_account.proofs.OrderLemmas.{labels-modules}
 use Rattle.ras_account.proofs.SoundLemmas.{HasTen, ten-after, weight-after, weight-marked, distinct-filtered, continued-sound}
 
--- each key once
+-- No key is there twice.
 
 once-continued : (a : State) (e : Entry) → IsDistinct same_name a.names → IsDistinct same_name (account_after a e).names
 once-continued a (PageLimit limit) once = by (is_fresh_in a (PageLimit limit))
@@ -82,7 +82,7 @@ labels-once h =
 pub pages-once : (h : History) → IsDistinct nat_eq (keys_of (account_of h).pages)
 pages-once h = page_rows_of-once (reports_of (sightings h))
 
--- what is there
+-- What the account contains.
 
 pub module-row : (h : History) (label : Bytes) → lookup (same_label label) (account_of h).modules
     ≡ (if list_any (same_label label) (map label_of (sightings h)) then Some (module_by_items (sightings h) (sightings_since_mark h) label) else None)
@@ -90,7 +90,7 @@ module-row h label =
     lookup-keyed same_label same_label-exact same_label-refl (λ l. module_by_items (sightings h) (sightings_since_mark h) l) label (distinct_keys same_label (map label_of (sightings h)))
     ∙ ap (λ b. cond b (Some (module_by_items (sightings h) (sightings_since_mark h) label)) None) (any-distinct same_label same_label-exact same_label-refl label (map label_of (sightings h)))
 
--- a name is in a list where the test finds it
+-- A name is in a list if and only if the test finds it.
 found : (names : List Name) (name : Name) → Contains names name ↔ (is_among names name ≡ true)
 found names name = (list_any-from_Contains same_name-laws name names, Contains-list_any same_name same_name-exact names name)
 
@@ -163,7 +163,7 @@ stale-unordered h e stale =
 pub retired-unordered : (h more : History) (fact : Told) → is_retired (floor_after h) fact.name ≡ true → orders_behind (followed_by h more) (Fact fact) ≡ []
 retired-unordered h more fact gone = stale-unordered (followed_by h more) (Fact fact) (stale-fact (followed_by h more) fact (retired-stays h more fact.name gone))
 
--- a retire brings no name
+-- A retire adds no name.
 retire-names : (h : History) (boot : ℕ) → names_of (fresh_entries (with_entry h (Retire boot))) ≡ names_of (fresh_entries h)
 retire-names h boot = by (is_fresh_behind h (Retire boot))
   where
@@ -212,7 +212,7 @@ retired-keeps h boot =
     since : sightings_since_mark (with_entry h (Retire boot)) ≡ sightings_since_mark h
     since = ap (λ ss. sightings_since_mark h ++ ss) (retire-sightings h boot) ∙ append-nil (sightings_since_mark h)
 
--- the fresh entries alone
+-- The new entries alone.
 
 with_entries-snoc : (h : History) (es : List Entry) (e : Entry) → with_entries h (es ++ e ∷ []) ≡ with_entry (with_entries h es) e
 with_entries-snoc h es e = fold-append with_entry h es (e ∷ [])
@@ -233,7 +233,7 @@ pub unmarked-entries : (h : History) (es : List Entry) → IsUnmarked h → IsUn
 unmarked-entries h [] unmarked = unmarked
 unmarked-entries h (e ∷ es) unmarked = unmarked-entries (with_entry h e) es unmarked
 
--- the rows of modules together are the total weight
+-- The sums of all rows of modules are the total weight.
 record IsBalanced (a : State) : Type 0 where
   ten : All HasTen a.modules
   total : weight_in a.modules ≡ a.total
@@ -275,13 +275,13 @@ balanced-history (with_mark h) =
 pub history-total : (h : History) → weight_in (account_of h).modules ≡ (account_of h).total
 history-total h = (balanced-history h).total
 
--- valid entries that stay within the numbers give an account
+-- Valid entries that stay within the bounds keep an account valid.
 pub entries-sound : (a : State) (es : List Entry) → IsAccount a → All IsValidEntry es → StaysWithin a es → IsAccount (account_after_all a es)
 entries-sound a [] account valid within = account
 entries-sound a (e ∷ es) account valid within =
     entries-sound (account_after a e) es (continued-sound a e account (All-head IsValidEntry e es valid) within.0) (All-tail IsValidEntry e es valid) within.1
 
--- the rows of an account give it again
+-- An account is rebuilt from its rows.
 
 names-rebuilt : (a : State) (names : List Name) → fold with_name a names ≡ record a { names = a.names ++ names }
 names-rebuilt a [] = λ i. record a { names = sym (append-nil a.names) i }

@@ -1,5 +1,4 @@
--- The orders of a history for one module: at most one since the last mark, and by its own errors
--- alone.
+-- The orders of a history for one module: at most one since the last upgrade marker, given only by its own errors.
 use Rattle.std.proofs.Common.{◌≡◌, ◌≤◌, ◌<◌, ℕ, suc, Bool, true, false, not, cond, ◌&&◌, ◌||◌, if◌then◌else◌, nat_eq, nat_lt, List, [], ◌∷◌, ◌++◌, length, map, drop, Option, Some, None, refl, sym, ap, subst, ◌∙◌, append_assoc, append-nil, true≢false, arith, length-append}
 use Rattle.std.specs.Prelude.{option_to_list}
 use Rattle.std.specs.List.{list_any}
@@ -71,7 +70,7 @@ module _ (label : Bytes) where
       by true h ih = omega arith
       by false h ih = let below : place_of label ls < length ls = ih h in omega arith
 
-  -- another label stands at another place
+  -- Different labels have different indexes.
   place-apart : (other : Bytes) (labels : List Bytes) → list_any (same_label label) labels ≡ true → same_label label other ≡ false → nat_eq (place_of label labels) (place_of other labels) ≡ false
   place-apart other [] there apart = absurd (true≢false (sym there))
   place-apart other (l ∷ ls) there apart = by (same_label label l) refl (same_label other l) refl there (λ h. place-apart other ls h apart)
@@ -112,7 +111,7 @@ no_page place page before now = by (nat_lt (height before) (height now)) now
     by true Hard = refl
     by false now = refl
 
--- the orders of an item for the module at a place
+-- the orders of an item for the module at an index
 abbrev asks : ℕ → ℕ → Bool → List Order
 asks place own b = if b then cond (nat_eq place own) (Module own ∷ []) [] else []
 
@@ -133,7 +132,7 @@ item-module place ss since s =
     by true = refl
     by false = refl
 
--- what has tripped stays so
+-- A bucket that has tripped stays tripped.
 tripped-stays : (since : List Sighting) (s : Sighting) → has_tripped (errors_of (label_of s) since) ≡ true → has_tripped (errors_of (label_of s) (since ++ s ∷ [])) ≡ true
 tripped-stays since s tripped = ap has_tripped (errors-own since s (label_of s) (same_label-refl (label_of s))) ∙ by (fills_bucket s)
   where
@@ -141,14 +140,13 @@ tripped-stays since s tripped = ap has_tripped (errors-own since s (label_of s) 
     by true = has_tripped-more (errors_of (label_of s) since) s ∙ ap (λ b. b || trips_at (bucket_over (errors_of (label_of s) since)) s) tripped
     by false = ap has_tripped (append-nil (errors_of (label_of s) since)) ∙ tripped
 
--- the orders that are asked for modules by items: one where a module's own errors have made its
--- bucket trip
+-- The orders that items give for modules: one for each module whose own errors made its bucket trip.
 record AreAsked (ss since : List Sighting) (os : List Order) : Type 0 where
   known : (label : Bytes) → list_any (same_label label) (map label_of ss) ≡ true
       → orders_for_module (place_of label (labels ss)) os ≡ (if has_tripped (errors_of label since) then Module (place_of label (labels ss)) ∷ [] else [])
   above : (place : ℕ) → length (labels ss) ≤ place → orders_for_module place os ≡ []
 
--- t and t': whether the bucket has tripped before the item and with it
+-- t and t': whether the bucket has tripped before the item and with it.
 joined : (t t' : Bool) (o : Order) → (t ≡ true → t' ≡ true) → (if t then o ∷ [] else []) ++ (if not t && t' then o ∷ [] else []) ≡ (if t' then o ∷ [] else [])
 joined true true o stays = refl
 joined true false o stays = absurd (true≢false (sym (stays refl)))
@@ -166,7 +164,7 @@ module _ (ss since : List Sighting) (s : Sighting) (os : List Order) (last : Are
   after : List Order
   after = os ++ item_orders ss since s
 
-  -- the item's own label
+  -- The item's own label.
   own : orders_for_module (place_of (label_of s) (labels (ss ++ s ∷ []))) (os ++ item_orders ss since s)
       ≡ (if has_tripped (errors_of (label_of s) (since ++ s ∷ [])) then Module (place_of (label_of s) (labels (ss ++ s ∷ []))) ∷ [] else [])
   own =
@@ -187,7 +185,7 @@ module _ (ss since : List Sighting) (s : Sighting) (os : List Order) (last : Are
           asked.above place (omega (arith, here))
           ∙ sym (ap (λ b. if b then Module place ∷ [] else []) (ap has_tripped (errors-none since (label_of s) (none-last ss since (label_of s) last none))))
 
-  -- another label
+  -- Another label.
   other : (label : Bytes) → is_labeled label s ≡ false → list_any (same_label label) (map label_of ss) ≡ true
       → orders_for_module (place_of label (labels (ss ++ s ∷ []))) (os ++ item_orders ss since s)
       ≡ (if has_tripped (errors_of label (since ++ s ∷ [])) then Module (place_of label (labels (ss ++ s ∷ []))) ∷ [] else [])
@@ -254,7 +252,7 @@ module _ (ss since : List Sighting) (s : Sighting) (os : List Order) (last : Are
           earlier true h = refl
           earlier false h = h
 
--- items more
+-- More items.
 asked-items : (ss since before more : List Sighting) (os : List Order) → AreLast (since ++ before) (ss ++ before) → AreAsked (ss ++ before) (since ++ before) os
     → AreAsked ((ss ++ before) ++ more) ((since ++ before) ++ more) (os ++ orders_from ss since before more)
 asked-items ss since before [] os last asked =
@@ -299,14 +297,14 @@ module-orders h label there =
     ((asked-history h).known label
     (sym (any-distinct same_label same_label-exact same_label-refl label (map label_of (sightings h))) ∙ ap (list_any (same_label label)) (sym (labels-modules (sightings h) (sightings_since_mark h))) ∙ there))
 
--- what comes after the orders before, where both together are known
+-- The orders given after others, if both together are known.
 front_gone : (t t' : Bool) (o : Order) (os : List Order) → (if t then o ∷ [] else []) ++ os ≡ (if t' then o ∷ [] else [])
     → os ≡ (if not t && t' then o ∷ [] else [])
 front_gone true true o os is = ap (drop 1) is
 front_gone true false o os is = absurd cc
 front_gone false t' o os is = is
 
--- the law of one entry
+-- The law of one entry.
 pub module-orders_at : (h : History) (e : Entry) (label : Bytes) → list_any (same_label label) (keys_of (account_of (with_entry h e)).modules) ≡ true
     → orders_for_module (module_place (with_entry h e) label) (orders_behind h e) ≡ (if trips_with h e label then Module (module_place (with_entry h e) label) ∷ [] else [])
 module-orders_at h e label there =

@@ -1,4 +1,4 @@
--- The rows of modules: a row that is put at its label, and marks.
+-- The rows of modules: a row that is replaced at its label, and upgrade markers.
 use Rattle.std.proofs.Common.{Result, Ok, Err, OnOk, OnErr, ◌≡◌, ℕ, zero, suc, ◌+◌, ◌≤◌, Bool, true, false, not, ◌&&◌, ◌||◌, cond, if◌then◌else◌, List, [], ◌∷◌, ◌++◌, length, map, drop, Option, Some, None, unwrap_or, refl, sym, ap, subst, ◌∙◌, slice_get, sum, arith}
 use Rattle.std.specs.List.{list_any}
 use Rattle.std.specs.Map.{keys_of, values_of, lookup}
@@ -24,11 +24,11 @@ use Rattle.ras_account.specs.Rows.{row_of}
 abbrev Rows : Type 0
 Rows = List (Bytes × ModuleRow)
 
--- what contracts see of a table
+-- a table as contracts see it
 abbrev pub seen_modules : Held Bytes ModuleRow → ModuleList
 seen_modules held = record { rows = map entry_of held.rows; waiting = held.waiting }
 
--- what is counted of a row's module
+-- the sums, the bucket and the replacement of a row's module
 abbrev pub module_in : ModuleRow → Module
 module_in row = (row_of row).1
 
@@ -36,7 +36,7 @@ pub keys-entry_of : (es : Rows) → keys_of (map entry_of es) ≡ keys_of es
 keys-entry_of [] = refl
 keys-entry_of (e ∷ es) = ap (λ ks. e.0 ∷ ks) (keys-entry_of es)
 
--- the row that is known of a label, or a new one
+-- the row of a label, or a new row
 abbrev pub row_for : Rows → Bytes → ModuleRow → ModuleRow
 row_for es label new = unwrap_or (lookup (same_label label) es) new
 
@@ -57,7 +57,7 @@ module _ (label : Bytes) (new : ModuleRow) where
       by true ih = all.0.counting
       by false ih = ih
 
-  -- the sums of one row are among those of all
+  -- The sums of one row are among the sums of all rows.
   pub sums-row_for : (es : Rows) → sum new.sums ≡ 0 → sum (row_for es label new).sums ≤ weight_in (map entry_of es)
   sums-row_for [] none = omega (arith, none)
   sums-row_for (e ∷ es) none = by (same_label label e.0) (sums-row_for es none)
@@ -70,7 +70,7 @@ module _ (label : Bytes) (new : ModuleRow) where
       by true ih = omega (arith, all)
       by false ih = omega (arith, all, ih)
 
-  -- whether the module is to be replaced already
+  -- Whether the module is to be replaced already.
   replaced-row_for : (es : Rows) → new.replace ≡ false → is_replaced (map entry_of es) label ≡ (row_for es label new).replace
   replaced-row_for [] none = sym none
   replaced-row_for (e ∷ es) none = by (same_label label e.0) (replaced-row_for es none)
@@ -81,7 +81,7 @@ module _ (label : Bytes) (new : ModuleRow) where
       by true ih = refl
       by false ih = ih
 
--- the row after an item is put at its label
+-- The row after an item replaces the row of its label.
 module _ (s : Sighting) (new row : ModuleRow) where
   rows-after : (es : Rows) → module_in new ≡ new_module → module_in row ≡ module_after (module_in (row_for es (label_of s) new)) s
       → map entry_of (updated_rows same_label (label_of s) row (λ old. row) es) ≡ modules_after (map entry_of es) s
@@ -102,7 +102,7 @@ module _ (s : Sighting) (new row : ModuleRow) where
     waiting = if list_any (same_label (label_of s)) (sym (keys-entry_of held.rows) i) then held.waiting else drop 1 held.waiting;
   }
 
--- the place of a label among the labels that have rows after it was counted
+-- The index of a label among the labels that have rows after it was counted.
 place_of-after : (label : Bytes) (labels waiting : List Bytes) (place : ℕ) → IsPlace same_label label (labels ++ waiting) place → place ≤ length labels
     → place_of label (if list_any (same_label label) labels then labels else labels ++ label ∷ []) ≡ place
 place_of-after label [] waiting zero at within = ap (λ b. if b then zero else suc zero) (same_label-refl label)
@@ -127,7 +127,7 @@ place-after s held place at within =
     length-rows [] = refl
     length-rows (e ∷ es) = ap suc (length-rows es)
 
--- the order for the module of an item, by its row before and after
+-- The order for the module of an item, by the module's row before and after.
 pub order-after : (s : Sighting) (held : Held Bytes ModuleRow) (place : ℕ) (new row : ModuleRow)
     → IsPlace same_label (label_of s) (keys_of held.rows ++ held.waiting) place → place ≤ length held.rows → module_in new ≡ new_module
     → module_in row ≡ module_after (module_in (row_for held.rows (label_of s) new)) s
@@ -152,7 +152,7 @@ order-after s held place new row at within starts is =
         own None = refl
         own (Some old) = refl
 
--- what holds of every table of modules
+-- What holds of every table of modules.
 are-updated : (label : Bytes) (row : ModuleRow) (es : Rows) → row.label ≡ label → IsCounting row → AreModules es → AreModules (updated_rows same_label label row (λ old. row) es)
 are-updated label row [] is counting all = (record { label = is; counting = counting }, tt)
 are-updated label row (e ∷ es) is counting all = by (same_label label e.0) refl (are-updated label row es is counting all.1)
@@ -184,7 +184,7 @@ pub length-entry_of : (es : Rows) → length (map entry_of es) ≡ length es
 length-entry_of [] = refl
 length-entry_of (e ∷ es) = ap suc (length-entry_of es)
 
--- marks: a row without its bucket, and the first rows of a table without theirs
+-- Upgrade markers: a row without its bucket, and a table whose first rows have lost their buckets.
 abbrev pub unmarked : ModuleRow → ModuleRow
 unmarked row = record row { bucket = None; replace = false }
 

@@ -1,5 +1,4 @@
--- The whole pass over the entries of a tally: at its beginning, after one entry more, and at its
--- end.
+-- The whole pass over the entries of a tally: at its beginning, after one more entry, and at its end.
 use Rattle.std.proofs.Common.{◌≡◌, ◌<◌, ◌≤◌, ◌+◌, ℕ, Bool, true, false, not, ◌||◌, min, List, [], ◌∷◌, ◌++◌, length, refl, sym, ap, subst, ◌∙◌, arith, append-nil, length-append}
 use Rattle.std.specs.List.{list_any}
 use Rattle.std.proofs.lemmas.Bool.Decides.{nat_tests}
@@ -26,7 +25,7 @@ use Rattle.ras_account.specs.Steps.Taking.{is_news}
 use Rattle.ras_account.specs.Steps.Reserving.{in_force_after, NotesItems}
 use Rattle.ras_account.proofs.ReserveLemmas.{Tells, tells-old, tells-known, tells-fact, tells-setting, fresh-snoc, after-snoc}
 
--- nothing waits, and a tally has what is in force and the numbers of the account
+-- Nothing is reserved, and a tally has what is in force and the numbers of the account.
 pub tally-none : (a : State) (tally : Tally) → tally.in_force ≡ record { floor = a.floor; limit = a.limit; module_limit = a.module_limit }
     → tally.entries ≡ a.entries → tally.total ≡ a.total → tally.pages.items ≡ [] → IsTallyOf (record { state = a; waiting = nothing }) tally []
 tally-none a tally force entries total none = record {
@@ -42,7 +41,7 @@ tally-none a tally force entries total none = record {
   total = omega (arith, total);
 }
 
--- one entry more behind those of a tally: whether it is fresh, and the tally with it
+-- One more entry after the entries of a tally: whether it is new, and the tally with it.
 module _ (a : State) (w : Waiting) (v : View) (same : record { state = a; waiting = w } ≡ v) (tally : Tally) (before : List Entry) (so_far : IsTallyOf v tally before) (e : Entry) where
   abbrev here : View
   here = record { state = a; waiting = w }
@@ -91,7 +90,7 @@ module _ (a : State) (w : Waiting) (v : View) (same : record { state = a; waitin
           (subst (λ x. Tells (record { state = a; waiting = record w { names = names.waiting; labels = modules.waiting } }) (account_after_all a before) (fresh_entries_in a before) (record noted { entries = n; in_force = now }) true x) (sym is)
           (tells-fact here (account_after_all a before) (fresh_entries_in a before) tally from_here fact names.waiting modules noted n now news-fact waits new items count (force ∙ ap (in_force_after noted.in_force) is)))
 
--- whether the numbers are past is what the tally says
+-- Whether the numbers are past their bounds is what the tally says.
 module _ (v : View) (tally : Tally) (all : List Entry) (is : IsTallyOf v tally all) where
   names-length : length (v.state.names ++ v.waiting.names) ≡ length v.state.names + length (names_of (fresh_entries_in v.state all))
   names-length = length-append v.state.names v.waiting.names ∙ ap (λ ns. length v.state.names + length ns) is.names

@@ -1,4 +1,4 @@
--- What a list of entries adds, and how far it brings an account.
+-- What a list of entries adds, and the numbers of the account after it.
 use Rattle.std.proofs.Common.{◌≡◌, ◌≤◌, ◌+◌, ℕ, Bool, true, false, not, cond, nat_eq, if◌then◌else◌, List, [], ◌∷◌, ◌++◌, length, refl, sym, ap, ◌∙◌, arith, append-nil, length-append, ◌↔◌}
 use Rattle.std.specs.List.{sum_by}
 use Rattle.std.specs.Map.{keys_of}
@@ -24,7 +24,7 @@ use Rattle.ras_account.specs.View.{Waiting, then_waits, labels_in, pages_in, add
 use Rattle.ras_account.proofs.KeyLemmas.{same_label-exact, same_label-refl}
 use Rattle.ras_account.proofs.ItemLemmas.{names-items, entries-items, keys-modules, keys-pages, total-items}
 
--- numbers are past what an account counts where they aren't within it
+-- Numbers are past their bounds if and only if they aren't within them.
 pub past-within : (n : Numbers) → are_past n ≡ false ↔ AreWithin n
 past-within n = (λ past. record { names = grind (arith, nat_tests); entries = grind (arith, nat_tests); total = grind (arith, nat_tests) }, λ within. grind (arith, nat_tests))
 
@@ -36,7 +36,7 @@ fewer-kept floor (n ∷ ns) = by (is_retired floor n) (fewer-kept floor ns)
     by true ih = omega arith
     by false ih = omega arith
 
--- an account with a fresh entry more, by the keys and the numbers
+-- An account with one more new entry, by its keys and numbers.
 pub record Grows (a b : State) (e : Entry) : Type 0 where
   pub labels : keys_of b.modules ≡ keys_of a.modules ++ added_keys same_label (keys_of a.modules) (labels_in (items_in e))
   pub pages : keys_of b.pages ≡ keys_of a.pages ++ added_keys nat_eq (keys_of a.pages) (pages_in (items_in e))
@@ -65,7 +65,7 @@ names_of-cons (PageLimit limit) es = refl
 names_of-cons (Retire boot) es = refl
 names_of-cons (ModuleLimit limit) es = refl
 
--- what is added behind what one fresh entry adds
+-- What a list adds after one new entry.
 added_behind : (a b : State) (e : Entry) (later : List Entry) → Grows a b e
     → (record {
       names = names_of (e ∷ later);
@@ -94,7 +94,7 @@ added_behind a b e later grown =
           ∙ (λ j. added_keys nat_eq (keys_of a.pages) (pages_in (sym (append-nil (items_in e)) j)) ++ added_keys nat_eq (sym grown.pages j) (pages_in (items_of later)))) i;
     }
 
--- what the entries that are fresh of a list add
+-- what the new entries of a list add
 abbrev pub adds : State → List Entry → Waiting
 adds a entries = record {
   names = names_of entries;
@@ -111,7 +111,7 @@ added_by-cons a e es = by (is_fresh_in a e)
     by true = added_behind a (account_after_fresh (account_with_count a) e) e (fresh_entries_in (account_after_fresh (account_with_count a) e) es) (grows a e)
     by false = refl
 
--- the numbers with a list of entries are those behind its first entry with the others, or greater
+-- The numbers with a list of entries are at least the numbers after its first entry with the other entries.
 pub record AreAtMost (one other : Numbers) : Type 0 where
   pub names : one.names ≤ other.names
   pub entries : one.entries ≤ other.entries
@@ -147,7 +147,7 @@ within-cons a e es within =
     let less : AreAtMost (numbers_with (account_after a e) es) (numbers_with a (e ∷ es)) = numbers-cons a e es in
     record { names = omega (arith, less.names, within.names); entries = omega (arith, less.entries, within.entries); total = omega (arith, less.total, within.total) }
 
--- there is room after each entry of a list that was reserved
+-- There is room after each entry of a list that was reserved.
 pub stays-within : (a : State) (es : List Entry) → AreWithin (numbers_with a es) → StaysWithin a es
 stays-within a [] within = tt
 stays-within a (e ∷ es) within =

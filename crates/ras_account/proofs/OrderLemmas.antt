@@ -1,4 +1,4 @@
--- The orders of an entry behind a history are those by which its account is continued.
+-- The orders of an entry after a history are the orders that it gives when it continues the account.
 use Rattle.std.proofs.Common.{◌≡◌, ℕ, Bool, true, false, ◌&&◌, not, cond, if◌then◌else◌, List, [], ◌∷◌, ◌++◌, map, Option, Some, None, refl, sym, ap, ◌∙◌, append_assoc, append-nil}
 use Rattle.std.specs.Prelude.{flat_map, option_to_list}
 use Rattle.std.specs.List.{list_any}
@@ -38,7 +38,7 @@ page_order_in-rows ss s = by s.item.page
         ap (λ rows. order_between page (state_in (page_rows_of (reports_of ss)) page) (state_in rows page)) (sym (page_rows_of-more (reports_of ss) r))
         ∙ order-history (reports_of ss) r
 
--- a module is to be replaced where its own errors since the last mark made its bucket trip
+-- A module is to be replaced if and only if its own errors since the last upgrade marker made its bucket trip.
 pub is_replaced-modules : (ss since : List Sighting) (label : Bytes) → AreLast since ss → is_replaced (modules_of ss since) label ≡ has_tripped (errors_of label since)
 is_replaced-modules ss since label last =
     ap (λ o. option_map_or (λ (m : Module). m.replace) o false) (lookup-keyed same_label same_label-exact same_label-refl (λ l. module_by_items ss since l) label (distinct_keys same_label (map label_of ss)))
@@ -66,7 +66,7 @@ module_order_in-modules ss since s last =
     more : modules_of (ss ++ s ∷ []) (since ++ s ∷ []) ≡ modules_after (modules_of ss since) s
     more = modules-more ss since s last
 
--- the orders of items behind others
+-- the orders of items after other items
 abbrev pub orders_from : List Sighting → List Sighting → List Sighting → List Sighting → List Order
 orders_from ss since before more = flat_map (λ p. item_orders (ss ++ p.0) (since ++ p.0) p.1) (places_behind before more)
 
@@ -93,7 +93,7 @@ module _ (names : List Name) (floor : ℕ) (limit module_limit : Limit) (entries
       ∙ ap (λ rest. option_to_list (page_order (ss ++ before) s) ++ (option_to_list (module_order (ss ++ before) (since ++ before) s) ++ rest)) (along (before ++ s ∷ []) more)
       ∙ sym (append_assoc (option_to_list (page_order (ss ++ before) s)) (option_to_list (module_order (ss ++ before) (since ++ before) s)) (orders_from ss since (before ++ s ∷ []) more))
 
--- where the account is that of a history, the orders are those of the history
+-- If the account is the account of a history, the orders are the orders of the history.
 pub orders_at-account_of : (h : History) (e : Entry) → orders_at (account_of h) e ≡ orders_behind h e
 orders_at-account_of h e =
     ap (λ b. if b then orders_along (account_of h) more else []) (is_fresh_in-account_of h e) ∙ by (is_fresh_behind h e)

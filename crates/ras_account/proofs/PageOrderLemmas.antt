@@ -1,4 +1,4 @@
--- The orders of a history for one page are those that the page's own reports give.
+-- The orders of a history for one page are the orders that the page's own reports give.
 use Rattle.std.proofs.Common.{◌≡◌, ℕ, Bool, true, false, cond, if◌then◌else◌, nat_eq, nat_lt, List, [], ◌∷◌, ◌++◌, map, Option, Some, None, refl, sym, ap, ◌∙◌, append_assoc, append-nil}
 use Rattle.std.specs.Prelude.{option_to_list}
 use Rattle.std.specs.List.{filter_map, cons_option}
@@ -23,7 +23,7 @@ use Rattle.ras_account.proofs.AccountLemmas.{at_page}
 use Rattle.ras_account.proofs.OrderLemmas.{orders_from}
 
 module _ (page : ℕ) where
-  -- an order for a page is for it, and for no other
+  -- An order for a page is for this page, and for no other.
   between-own : (before now : PageState) → orders_for_page page (option_to_list (order_between page before now)) ≡ option_to_list (order_between page before now)
   between-own before now = by (nat_lt (height before) (height now)) now
     where
@@ -42,7 +42,7 @@ module _ (page : ℕ) where
       by true Hard = ap (λ b. cond b (Ordered.TheVariants.Hard other ∷ []) []) apart
       by false now = refl
 
-  -- a report more of this page, and of another
+  -- One more report of this page, or of another page.
   report-own : (rs : List PageReport) (r : PageReport) → nat_eq page r.page ≡ true
       → orders_of rs page ++ orders_for_page page (option_to_list (order_behind r.page (page_history rs r.page) r)) ≡ orders_of (rs ++ r ∷ []) page
   report-own rs r own =
@@ -66,7 +66,7 @@ module _ (page : ℕ) where
       unchanged : page_history (rs ++ r ∷ []) page ≡ page_history rs page
       unchanged = filter-append (λ (q : PageReport). nat_eq page q.page) rs (r ∷ []) ∙ ap (λ b. page_history rs page ++ cond b (r ∷ []) []) apart ∙ append-nil (page_history rs page)
 
-  -- an item more
+  -- One more item.
   item-page : (earlier since : List Sighting) (s : Sighting)
       → orders_of (reports_of earlier) page ++ orders_for_page page (item_orders earlier since s) ≡ orders_of (reports_of (earlier ++ s ∷ [])) page
   item-page earlier since s =
@@ -91,7 +91,7 @@ module _ (page : ℕ) where
           at true is = report-own (reports_of earlier) r is
           at false is = report-other (reports_of earlier) r is
 
-  -- items more
+  -- More items.
   items-page : (ss since before more : List Sighting)
       → orders_of (reports_of (ss ++ before)) page ++ orders_for_page page (orders_from ss since before more) ≡ orders_of (reports_of ((ss ++ before) ++ more)) page
   items-page ss since before [] = append-nil (orders_of (reports_of (ss ++ before)) page) ∙ ap (λ ts. orders_of (reports_of ts) page) (sym (append-nil (ss ++ before)))

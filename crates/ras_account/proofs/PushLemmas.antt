@@ -1,4 +1,4 @@
--- An account with a row more stays one, where its table took the row.
+-- An account stays valid with one more row, if its table accepted the row.
 use Rattle.std.proofs.Common.{◌≡◌, ◌≤◌, ◌<◌, ◌+◌, ◌^◌, ℕ, Bool, true, false, nat_eq, List, [], ◌∷◌, ◌++◌, length, sum, Result, Ok, Err, Option, Some, None, ◌↔◌, IsTrue, IfSome, OnOk, OnErr, ◌||◌, refl, sym, subst, arith, length-append}
 use Rattle.std.specs.Bool.{IsFalse}
 use Rattle.std.specs.List.{list_any}
@@ -21,7 +21,7 @@ use Rattle.ras_account.specs.Accounts.{IsBucket, IsModuleRow, IsPageRow, IsAccou
 use Rattle.ras_account.specs.Rows.{row_of}
 use Rattle.ras_account.proofs.SoundLemmas.{name-sound, module-pushed, page-pushed}
 
--- what was taken wasn't there
+-- A row that was accepted wasn't there before.
 pub taken-new : {T : Type 0} (value : T) (held : Bool) → ((◌≡◌ {A = Result T RowRefused} (Ok value) (Err Repeated)) ↔ IsTrue held) → held ≡ false
 taken-new value true repeated = absurd (let no : ◌≡◌ {A = Result _ RowRefused} (Ok value) (Err Repeated) = repeated.1 refl in cc)
 taken-new value false repeated = refl

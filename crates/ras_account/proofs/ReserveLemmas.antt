@@ -1,4 +1,4 @@
--- Noting entries: what one item and one entry more does to what is noted.
+-- Recording entries: what one more item and one more entry changes.
 use Rattle.std.proofs.Common.{◌≡◌, ◌<◌, ◌+◌, ℕ, Bool, true, false, not, ◌||◌, min, max, nat_lt, if◌then◌else◌, List, [], ◌∷◌, ◌++◌, refl, sym, ap, subst, ◌∙◌, arith, append_assoc, append-nil, length-append, true≢false}
 use Rattle.std.specs.List.{list_any}
 use Rattle.std.specs.Map.{keys_of}
@@ -35,7 +35,7 @@ use Rattle.ras_account.proofs.KeyLemmas.{same_label-exact, same_label-refl}
 use Rattle.ras_account.proofs.FreshLemmas.{is_retired-max, among_kept, names_of-append}
 use Rattle.ras_account.proofs.ItemLemmas.{names-items, floor-items, limit-items, module_limit-items}
 
--- no items, and one item more
+-- No items, and one more item.
 pub notes-none : (modules : ModuleList) (tally : Tally) → NotesItems modules modules tally tally []
 notes-none modules tally = record {
   rows = refl;
@@ -69,7 +69,7 @@ notes-more modules modules' modules'' tally tally' tally'' done item one other =
     keys : all_labels modules' ≡ all_labels modules ++ added_keys same_label (all_labels modules) (labels_in done)
     keys = (λ i. keys_of (one.rows i) ++ one.labels i) ∙ sym (append_assoc (keys_of modules.rows) modules.waiting (added_keys same_label (all_labels modules) (labels_in done)))
 
--- the items, the labels and the pages of entries with one more
+-- The items, the labels and the pages of entries with one more entry.
 items-more : (fresh : List Entry) (e : Entry) → items_of (fresh ++ e ∷ []) ≡ items_of fresh ++ items_in e
 items-more fresh e = flat_map-append items_in fresh (e ∷ []) ∙ ap (λ is. items_of fresh ++ is) (append-nil (items_in e))
 
@@ -107,7 +107,7 @@ either-lower true false false q ih = absurd (true≢false ih)
 either-lower false true true q ih = refl
 either-lower false true false q ih = absurd (true≢false (sym ih))
 
--- whether an entry is fresh behind others, and the tally with it
+-- Whether an entry is new after others, and the tally with it.
 pub record Tells (v : View) (b : State) (fresh : List Entry) (tally : Tally) (news : Bool) (e : Entry) : Type 0 where
   pub judged : news ≡ is_fresh_in b e
   pub noted : Tallies v (account_after b e) (with_fresh b fresh e) tally
@@ -123,7 +123,7 @@ module _ (v : View) (b : State) (fresh : List Entry) (tally : Tally) (so_far : T
   abbrev pub all : List Name
   all = v.state.names ++ v.waiting.names
 
-  -- an entry that isn't fresh, and one that is
+  -- An entry that isn't new, and an entry that is.
   goes_on : (e : Entry) (news : Bool) (v' : View) (tally' : Tally) → news ≡ is_fresh_in b e
       → Tallies v' (if news then account_after_fresh (account_with_count b) e else b) (if news then fresh ++ e ∷ [] else fresh) tally' → Tells v' b fresh tally' news e
   goes_on e news v' tally' is later = record {
@@ -131,7 +131,7 @@ module _ (v : View) (b : State) (fresh : List Entry) (tally : Tally) (so_far : T
     noted = subst (λ f. Tallies v' (if f then account_after_fresh (account_with_count b) e else b) (if f then fresh ++ e ∷ [] else fresh) tally') is later;
   }
 
-  -- whether an entry is fresh, by what is noted
+  -- Whether an entry is new, by what is recorded.
   news-is : (e : Entry) → is_news tally.in_force.floor tally.in_force.limit tally.in_force.module_limit e ≡ is_news b.floor b.limit b.module_limit e
   news-is e = λ i. is_news (so_far.floor i) (so_far.limit i) (so_far.module_limit i) e
 
@@ -143,7 +143,7 @@ module _ (v : View) (b : State) (fresh : List Entry) (tally : Tally) (so_far : T
       unsaid true = refl
       unsaid false = refl
 
-  -- a fact whose name is known
+  -- A fact whose name is known.
   pub tells-known : (fact : Told) (names : List Name) → true ≡ is_news tally.in_force.floor tally.in_force.limit tally.in_force.module_limit (Fact fact)
       → names ≡ v.waiting.names ++ added_keys same_name all (fact.name ∷ []) → false ≡ not (list_any (same_name fact.name) all)
       → Tells (record v { waiting = record v.waiting { names = names } }) b fresh tally false (Fact fact)
@@ -156,7 +156,7 @@ module _ (v : View) (b : State) (fresh : List Entry) (tally : Tally) (so_far : T
       there true h = refl
       there false h = absurd (true≢false (sym h))
 
-  -- a fact whose name is new
+  -- A fact whose name is new.
   pub tells-fact : (fact : Told) (names : List Name) (modules : ModuleList) (noted : Tally) (n : ℕ) (now : InForce) → true ≡ is_news tally.in_force.floor tally.in_force.limit tally.in_force.module_limit (Fact fact)
       → names ≡ v.waiting.names ++ added_keys same_name all (fact.name ∷ []) → true ≡ not (list_any (same_name fact.name) all)
       → NotesItems (record { rows = v.state.modules; waiting = v.waiting.labels }) modules tally noted fact.items
@@ -202,9 +202,9 @@ module _ (v : View) (b : State) (fresh : List Entry) (tally : Tally) (so_far : T
           ∙ ap (λ c. c || is_retired b.floor name) (sym (list_any-append (same_name name) all (fact.name ∷ [])))
           ∙ (λ i. is_among (sym all-more i) name || is_retired ((sym so_far.floor ∙ sym floors) i) name)
 
-  -- an entry that sets something
+  -- An entry that sets a limit or the floor.
   module _ (n : ℕ) (count : min n greatest ≡ min (tally.entries + 1) greatest) where
-    -- what stays of the lists and the numbers
+    -- The lists and the numbers stay unchanged.
     stays : (e : Entry) (now : InForce) → true ≡ is_fresh_in b e → items_in e ≡ [] → names_of (e ∷ []) ≡ []
         → ((name : Name) → knows (account_after_fresh (account_with_count b) e) name ≡ (is_among all name || is_retired now.floor name))
         → now.floor ≡ (account_after_fresh (account_with_count b) e).floor → now.limit ≡ (account_after_fresh (account_with_count b) e).limit → now.module_limit ≡ (account_after_fresh (account_with_count b) e).module_limit
@@ -247,7 +247,7 @@ module _ (v : View) (b : State) (fresh : List Entry) (tally : Tally) (so_far : T
                 ∙ ap (λ r. is_among all name || r) (sym (is_retired-max b.floor boot name))
                 ∙ ap (λ f. is_among all name || is_retired f name) (max-of b.floor boot (sym fresh_now))
 
-  -- an entry that isn't news isn't fresh
+  -- An entry that is_news rejects isn't new.
   pub tells-old : (e : Entry) → false ≡ is_news tally.in_force.floor tally.in_force.limit tally.in_force.module_limit e → Tells v b fresh tally false e
   tells-old e old = goes_on e false v tally (stale e (old ∙ news-is e)) so_far
     where
@@ -261,7 +261,7 @@ module _ (v : View) (b : State) (fresh : List Entry) (tally : Tally) (so_far : T
       stale (Retire boot) is = is
       stale (ModuleLimit limit) is = is
 
--- a list with one entry more
+-- A list with one more entry.
 pub fresh-snoc : (a : State) (done : List Entry) (e : Entry) → fresh_entries_in a (done ++ e ∷ []) ≡ with_fresh (account_after_all a done) (fresh_entries_in a done) e
 fresh-snoc a [] e = by (is_fresh_in a e)
   where

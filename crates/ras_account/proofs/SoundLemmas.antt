@@ -1,4 +1,4 @@
--- Every account stays one: an entry, a mark or a row more keeps what holds of it.
+-- A valid account stays valid after one more entry, upgrade marker or row.
 use Rattle.std.proofs.Common.{◌≡◌, ◌≤◌, ◌<◌, ◌+◌, ◌-◌, ◌^◌, ℕ, Bool, true, false, ◌&&◌, ◌||◌, not, cond, if◌then◌else◌, nat_eq, nat_le, List, [], ◌∷◌, ◌++◌, length, map, filter, sum, Option, None, Some, All, IfSome, refl, sym, ap, subst, ◌∙◌, arith, true≢false, get_or, length-set}
 use Rattle.std.specs.Cmp.{nat_eq_equiv, IsEquivalence}
 use Rattle.std.specs.Cmp.Lexicographic.{nat_list_eq_equiv}
@@ -46,7 +46,7 @@ use Rattle.ras_account.proofs.NumberLemmas.{fewer-kept}
 
 -- tables in general
 module _ {K R : Type 0} (same : K → K → Bool) (P : K × R → Type 0) where
-  -- what holds of each row holds where one is changed or added
+  -- A property of each row holds after one row is changed or added.
   all-updated : (k : K) (new : R) (change : R → R) → P (k, new) → ((j : K) (row : R) → same k j ≡ true → P (j, row) → P (j, change row))
       → (es : List (K × R)) → All P es → All P (updated_rows same k new change es)
   all-updated k new change starts goes [] all = All-cons P (k, new) [] starts (All-nil P)
@@ -98,7 +98,7 @@ met-sound : (bucket : Option Bucket) (s : Sighting) → s.seconds < 2 ^ 64 → I
 met-sound None s time sound = time
 met-sound (Some b) s time sound = sound.stamp
 
--- an item that an account can take
+-- An item that an account can count.
 pub record IsSighting (s : Sighting) : Type 0 where
   pub item : IsValidItem s.item
   pub seconds : s.seconds < 2 ^ 64
@@ -166,7 +166,7 @@ module _ (s : Sighting) (sound : IsSighting s) where
   modules-sound : (rows : List (Bytes × Module)) → All IsModuleRow rows → All IsModuleRow (modules_after rows s)
   modules-sound rows all = all-updated same_label IsModuleRow (label_of s) (module_after new_module s) (λ m. module_after m s) new-sound row-sound rows all
 
--- each row has a sum for each class
+-- Each row has a sum for each class.
 abbrev pub HasTen : Bytes × Module → Type 0
 HasTen row = length row.1.sums ≡ 10
 
@@ -178,7 +178,7 @@ ten-after rows s all =
     all-updated same_label HasTen (label_of s) (module_after new_module s) (λ m. module_after m s) (ten-row s (label_of s) new_module refl)
     (λ label m own ten. ten-row s label m ten) rows all
 
--- an item adds its weight
+-- An item adds its weight.
 pub weight-after : (rows : List (Bytes × Module)) (s : Sighting) → All HasTen rows → weight_in (modules_after rows s) ≡ weight_in rows + s.item.weight
 weight-after [] s all = omega (arith, sum_by-cons (λ (row : Bytes × Module). sum row.1.sums) (label_of s, module_after new_module s) [], sum-sums_after no_sums s.item refl)
 weight-after (row ∷ rows) s all = by (same_label (label_of s) row.0) (weight-after rows s (All-tail HasTen row rows all))
@@ -226,7 +226,7 @@ pages-once rows s sound once = by s.item.page sound.item.page
     by None valid = once
     by (Some page) valid = rows-once (report page s.item.class s.seconds s.item.weight s.limit) valid sound.seconds sound.limit rows once
 
--- an account with an item more
+-- An account with one more item.
 pub item-sound : (a : State) (s : Sighting) → IsAccount a → IsSighting s → IsWithin (account_after_item a s) → IsAccount (account_after_item a s)
 item-sound a s account sound within = record {
   within = within;
@@ -251,7 +251,7 @@ kept-sound floor boot (n ∷ ns) all = by (is_retired boot n) refl (kept-sound f
     by true gone ih = ih
     by false stays ih = All-cons (IsKeptName boot) n (kept_names boot ns) (record { valid = (All-head (IsKeptName floor) n ns all).valid; kept = stays }) ih
 
--- an account with a name more, which it doesn't know
+-- An account with one more name, which it doesn't know.
 pub name-sound : (a : State) (name : Name) (entries : ℕ) → IsAccount a → IsValidName name → knows a name ≡ false
     → IsWithin (record a { names = a.names ++ name ∷ []; entries = entries }) → IsAccount (record a { names = a.names ++ name ∷ []; entries = entries })
 name-sound a name entries account valid unknown within = record {
@@ -292,7 +292,7 @@ retired-sound a boot entries account valid room = record {
   total = account.total;
 }
 
--- an account with other limits, and so many entries
+-- An account with other limits and another number of entries.
 pub limits-sound : (a : State) (limit module_limit : Limit) (entries : ℕ) → IsAccount a → IsLimit limit → IsLimit module_limit → entries ≤ MOST_ENTRIES
     → IsAccount (record a { limit = limit; module_limit = module_limit; entries = entries })
 limits-sound a limit module_limit entries account one other room = record {
@@ -309,7 +309,7 @@ limits-sound a limit module_limit entries account one other room = record {
   total = account.total;
 }
 
--- an account that is within its numbers with items more is within them
+-- If an account is within its bounds with more items, it is within them without.
 grown-total : (a : State) (ss : List Sighting) → a.total ≤ (account_after_items a ss).total
 grown-total a [] = omega arith
 grown-total a (s ∷ ss) = let more : (account_after_item a s).total ≤ (account_after_items (account_after_item a s) ss).total = grown-total (account_after_item a s) ss in omega arith
@@ -321,7 +321,7 @@ within-before a ss within = record {
   total = omega (arith, within.total, grown-total a ss);
 }
 
--- an account with all items of a fact more
+-- An account with all items of a fact.
 pub items-sound : (limit module_limit : Limit) (seconds : ℕ) (a : State) (items : List Item) → IsAccount a → IsLimit limit → IsLimit module_limit → seconds < 2 ^ 64
     → All IsValidItem items → IsWithin (account_after_items a (sightings_of limit module_limit seconds items)) → IsAccount (account_after_items a (sightings_of limit module_limit seconds items))
 items-sound limit module_limit seconds a [] account one other time all within = account
@@ -333,7 +333,7 @@ items-sound limit module_limit seconds a (item ∷ items) account one other time
     s : Sighting
     s = record { item = item; seconds = seconds; limit = limit; module_limit = module_limit }
 
--- the law: a valid entry more keeps an account, where it stays within its numbers
+-- The law: a valid entry keeps an account valid, if the account stays within its bounds.
 pub entry-sound : (a : State) (e : Entry) → IsAccount a → IsValidEntry e → is_fresh_in a e ≡ true → IsWithin (account_after_fresh (account_with_count a) e) → IsAccount (account_after_fresh (account_with_count a) e)
 entry-sound a (Fact fact) account valid is within =
     items-sound a.limit a.module_limit fact.seconds b fact.items
@@ -357,7 +357,7 @@ continued-sound a e account valid within = by (is_fresh_in a e) refl within
     by true is within = entry-sound a e account valid is within
     by false is within = account
 
--- a mark keeps an account
+-- An upgrade marker keeps an account valid.
 module _ where
   keys-marked : (rows : List (Bytes × Module)) → keys_of (map {B = Bytes × Module} (λ row. (row.0, without_bucket row.1)) rows) ≡ keys_of rows
   keys-marked [] = refl
@@ -396,7 +396,7 @@ module _ where
     total = weight-marked a.modules ∙ account.total;
   }
 
--- the empty account is one
+-- The empty account is valid.
 pub empty-sound : IsAccount (account_of empty)
 unfolding IsDistinct
 empty-sound = record {
@@ -413,7 +413,7 @@ empty-sound = record {
   total = refl;
 }
 
--- a row more
+-- One more row.
 
 left_none : (held : List Bytes) (label : Bytes) → list_any (same_label label) held ≡ false → IsDistinct same_label held → IsDistinct same_label (held ++ label ∷ [])
 left_none held label none once = IsDistinct-push nat_list_eq_equiv held label once none
@@ -456,7 +456,7 @@ page-pushed a row account sound none = record {
   total = account.total;
 }
 
--- a floor that retires no name
+-- A floor that retires no name.
 kept-none : (floor boot : ℕ) (names : List Name) → All (IsKeptName floor) names → has_retired boot names ≡ false → All (IsKeptName boot) names
 kept-none floor boot [] all none = All-nil (IsKeptName boot)
 kept-none floor boot (n ∷ ns) all none = by (is_retired boot n) refl none (kept-none floor boot ns (All-tail (IsKeptName floor) n ns all))

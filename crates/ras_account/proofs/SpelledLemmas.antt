@@ -14,19 +14,19 @@ names_most [] = omega arith
 names_most (name ∷ names) =
     omega (arith, length-append (name_bytes name) (flat_map name_bytes names), name_most name, names_most names)
 
--- the first so many of them too
+-- The first names have at most 20 bytes each too.
 pub first_names_most : (n : ℕ) (names : List Name) → n ≤ length names → length (flat_map name_bytes (take n names)) ≤ 20 * n
 first_names_most n names within =
     omega (arith, names_most (take n names), length-take-le n names within)
 
--- the rows up to the next one
+-- The rows up to the next row.
 pub rows_next : {X : Type 0} (spell : X → List ℕ) (xs : List X) (i : ℕ) (x : X) → slice_get xs i ≡ Some x → flat_map spell (take (i + 1) xs) ≡ flat_map spell (take i xs) ++ spell x
 rows_next spell xs i x is =
     ap (flat_map spell) (take_more xs i x (slice_get_within xs i x is) ∙ ap (λ y. take i xs ++ y ∷ []) (get_or_from_slice_get xs i x x is))
     ∙ flat_map-append spell (take i xs) (x ∷ [])
     ∙ ap (λ w. flat_map spell (take i xs) ++ w) (append-nil (spell x))
 
--- the rows up to the last one
+-- The rows up to the last row.
 pub last_row : {X : Type 0} (spell : X → List ℕ) (xs : List X) (i : ℕ) (x : X) → i + 1 ≡ length xs → slice_get xs i ≡ Some x → flat_map spell (take i xs) ++ spell x ≡ flat_map spell xs
 last_row spell xs i x last is =
     sym (rows_next spell xs i x is) ∙ ap (flat_map spell) (take_all (i + 1) xs (omega (arith, last)))

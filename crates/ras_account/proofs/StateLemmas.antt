@@ -1,4 +1,4 @@
--- The account of its parts, and what stays where one of them changes.
+-- An account made from its parts, and what is unchanged if one part changes.
 use Rattle.std.proofs.Common.{◌≡◌, ◌<◌, ◌≤◌, ◌+◌, ℕ, Bool, true, false, not, ◌&&◌, ◌||◌, if◌then◌else◌, List, [], ◌∷◌, ◌++◌, length, take, drop, Option, Some, None, option_to_list, refl, sym, ap, subst, ◌∙◌, arith, append_assoc, length-append, suc, add-one, get_or, zero, slice_get}
 use Rattle.std.specs.List.{list_any}
 use Rattle.std.proofs.lemmas.List.Folds.{list_any-append}
@@ -25,7 +25,7 @@ use Rattle.ras_account.proofs.AccountLemmas.{account_of-entry}
 use Rattle.ras_account.proofs.FreshLemmas.{is_fresh_in-account_of}
 use Rattle.ras_account.proofs.SoundLemmas.{name-sound}
 
--- the account of these parts
+-- the account with these parts
 abbrev pub of_parts : List Name → ℕ → Limit → Limit → ℕ → ℕ → List (Bytes × Module) → List (ℕ × PageRow) → State
 of_parts names floor limit module_limit entries total modules pages = record {
   names = names;
@@ -38,7 +38,7 @@ of_parts names floor limit module_limit entries total modules pages = record {
   pages = pages;
 }
 
--- an entry is fresh where it is news and no fact of a name that is held
+-- An entry is new if and only if is_news accepts it and it isn't a fact with a counted name.
 pub fresh-news : (a : State) (e : Entry) → is_fresh_in a e ≡ (is_news a.floor a.limit a.module_limit e && not (holds_name a e))
 fresh-news a (Fact fact) = turned (is_among a.names fact.name) (is_retired a.floor fact.name)
   where
@@ -63,7 +63,7 @@ fresh-news a (ModuleLimit limit) = kept _
     kept true = refl
     kept false = refl
 
--- what an account says of an entry, where the account is that of a history
+-- Whether an entry is new, if the account is the account of a history.
 pub fresh-history : (a : State) (e : Entry) (b : Bool) → b ≡ is_fresh_in a e → (h : History) → a ≡ account_of h → b ≡ is_fresh_behind h e
 fresh-history a e b is h of = is ∙ ap (λ s. is_fresh_in s e) of ∙ is_fresh_in-account_of h e
 
@@ -75,7 +75,7 @@ stale-history a e b is h of stale =
 first_of_one : {X : Type 0} (xs rest : List X) (x : X) → xs ≡ x ∷ rest → take 1 xs ≡ x ∷ []
 first_of_one xs rest x is = ap (take 1) is
 
--- the account with the first name that waits counted
+-- The account with the first reserved name counted.
 pub named-sound : (a : State) (v : View) → a ≡ v.state → IsAccount a → CanCountName v
     → IsAccount (record a { names = a.names ++ take 1 v.waiting.names; entries = a.entries + 1 })
 named-sound a v same account next =
@@ -86,7 +86,7 @@ named-sound a v same account next =
       total = account.within.total;
     }))
 
--- an account and what waits
+-- an account and what is reserved
 abbrev pub view_of_parts : State → List Name → List Bytes → List ℕ → View
 view_of_parts a names labels pages = record { state = a; waiting = record { names = names; labels = labels; pages = pages } }
 
@@ -94,7 +94,7 @@ few : {X : Type 0} (o : Option X) → length (option_to_list o) ≤ 1
 few None = omega arith
 few (Some x) = omega arith
 
--- two orders, if there are any, are given one behind the other
+-- At most two orders are given, one after the other.
 pub two-given : (old mid new : OrderList) (one other : Option Order) → GivesOrders old mid (option_to_list one) → GivesOrders mid new (option_to_list other)
     → GivesOrders old new (option_to_list one ++ option_to_list other)
 two-given old mid new one other first second = record {
@@ -102,18 +102,18 @@ two-given old mid new one other first second = record {
   room = omega (arith, first.room, second.room, length-append (option_to_list one) (option_to_list other));
 }
 
--- what is left of a list at a place
+-- What is left of a list from an index on.
 pub drop-at : {X : Type 0} (xs : List X) (i : ℕ) (x : X) → i < length xs → x ≡ get_or xs i x → drop i xs ≡ x ∷ drop (i + 1) xs
 drop-at {X} xs i x within is =
     drop-cons xs i x within ∙ ap (λ (y : X). y ∷ drop (suc i) xs) (sym is) ∙ ap (λ n. x ∷ drop n xs) (sym (add-one i))
 
--- the orders of items depend on the modules and the pages alone
+-- The orders of items depend only on the modules and the pages.
 pub orders-named : (a : State) (names : List Name) (entries : ℕ) (ss : List Sighting) → orders_along (record a { names = names; entries = entries }) ss ≡ orders_along a ss
 orders-named a names entries [] = refl
 orders-named a names entries (s ∷ ss) =
     ap (λ os. option_to_list (page_order_in a.pages s) ++ (option_to_list (module_order_in a.modules s) ++ os)) (orders-named (account_after_item a s) names entries ss)
 
--- an element at a place
+-- The elements up to an index.
 take-at : {X : Type 0} (xs : List X) (i : ℕ) (x : X) → slice_get xs i ≡ Some x → take (suc i) xs ≡ take i xs ++ x ∷ []
 take-at [] i x is = absurd cc
 take-at (y ∷ ys) zero x is = ap (λ (z : _). z ∷ []) (let same : y ≡ x = cc in same)

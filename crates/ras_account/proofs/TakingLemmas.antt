@@ -1,4 +1,4 @@
--- Taking the items of a fact: what each takes of what waits, and what all come to.
+-- Counting the items of a fact: which reservations each item uses, and what all items lead to.
 use Rattle.std.proofs.Common.{◌≡◌, ◌≤◌, ◌*◌, ℕ, Bool, true, false, nat_eq, if◌then◌else◌, ◌||◌, List, [], ◌∷◌, ◌++◌, length, take, drop, Option, None, Some, option_to_list, IfSome, IsTrue, refl, sym, ap, subst, ◌∙◌, arith, append_assoc, append-nil, length-append}
 use Rattle.std.specs.List.{list_any, cons_option}
 use Rattle.std.specs.Map.{keys_of}
@@ -24,9 +24,9 @@ use Rattle.ras_account.proofs.KeyLemmas.{same_label-refl}
 use Rattle.ras_account.proofs.AccountLemmas.{at_page}
 use Rattle.ras_account.proofs.ItemLemmas.{with_key, labels-after}
 
--- keys that are added in turn
+-- Keys that are added one after the other.
 module _ {K : Type 0} (same : K → K → Bool) (own : (x : K) → same x x ≡ true) where
-  -- the first key is held, or is the first that waits
+  -- The first key is there already, or is the first reserved key.
   next-first : (held waiting rest ks : List K) (k : K) → waiting ≡ added_keys same held (k ∷ ks) ++ rest → list_any (same k) (held ++ take 1 waiting) ≡ true
   next-first held waiting rest ks k wait = list_any-append (same k) held (take 1 waiting) ∙ by (list_any (same k) held) wait
     where
@@ -34,7 +34,7 @@ module _ {K : Type 0} (same : K → K → Bool) (own : (x : K) → same x x ≡ 
       by true is = refl
       by false is = ap (λ ws. list_any (same k) (take 1 ws)) is ∙ ap (λ b. b || false) (own k)
 
-  -- what then waits is what the other keys add
+  -- After it, the reservations are what the other keys add.
   next-left : (held waiting rest ks : List K) (k : K) → waiting ≡ added_keys same held (k ∷ ks) ++ rest
       → (if list_any (same k) held then waiting else drop 1 waiting) ≡ added_keys same (with_key same held k) ks ++ rest
   next-left held waiting rest ks k wait = by (list_any (same k) held) wait
@@ -44,7 +44,7 @@ module _ {K : Type 0} (same : K → K → Bool) (own : (x : K) → same x x ≡ 
       by true is = is
       by false is = ap (drop 1) is
 
--- an item's page: it is the first that waits, it is taken, and its key is held then
+-- An item's page: it is the first reserved page, it is counted, and its key is in the table then.
 module _ (rows : List (ℕ × PageRow)) (waiting rest ps : List ℕ) (s : Sighting) (wait : waiting ≡ added_keys nat_eq (keys_of rows) (cons_option s.item.page ps) ++ rest) where
   page-first : IfSome s.item.page (λ page. IsTrue (is_ready nat_eq (record { rows = rows; waiting = waiting }) page))
   page-first = by s.item.page wait
@@ -63,7 +63,7 @@ module _ (rows : List (ℕ × PageRow)) (waiting rest ps : List ℕ) (s : Sighti
           next-left nat_eq nat_own (keys_of rows) waiting rest ps page is
           ∙ ap (λ ks. added_keys nat_eq ks ps ++ rest) (sym (keys-rows_after rows (report page s.item.class s.seconds s.item.weight s.limit)))
 
--- the first of the items can be taken, and then the others
+-- The first of the items can be counted, and then the others.
 first-is_next : (v : View) (item : Item) (items : List Item) (rest : Waiting) → AreNext v (item ∷ items) rest → IsNext v item
 first-is_next v item items rest next = record {
   valid = All-head IsValidItem item items next.valid;
@@ -103,12 +103,12 @@ amid-start v old seconds items (waiting, next) room = record {
   room = room;
 }
 
--- one item more
+-- One more item.
 module _ (start now : View) (old new : OrderList) (seconds : ℕ) (items left : List Item) (item : Item) (amid : IsAmid start now old new seconds items (item ∷ left)) where
   pub amid-is_next : IsNext now item
   amid-is_next = first-is_next now item left amid.rest amid.next
 
-  -- the item with what was in force at the start, and now
+  -- The item, with the limits in force at the start and now.
   then_is : Sighting
   then_is = sighting_in start.state seconds item
 

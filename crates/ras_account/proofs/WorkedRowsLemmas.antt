@@ -1,4 +1,4 @@
--- Rows that were worked out by hand: the definitions compute them.
+-- Rows that were worked out by hand; the definitions compute the same rows.
 use Rattle.std.proofs.Common.{◌≡◌, ℕ, true, false, List, [], ◌∷◌, Option, Some, None, refl}
 use Rattle.mca_status.specs.declared.classes.ItemClass.{ItemClass}
 use Rattle.mca_status.specs.declared.classes.ItemClass.TheVariants.{Ce, Ucna, Srao, Odd, Corrected}
@@ -35,7 +35,7 @@ limit capacity period = PageLimit (record { capacity = capacity; period = period
 abbrev module_limit : ℕ → ℕ → Entry
 module_limit capacity period = ModuleLimit (record { capacity = capacity; period = period })
 
--- an error of the class that the manual doesn't give orders nothing, and its page is kept
+-- An error of the class that the manual doesn't describe orders nothing, and its page is kept.
 abbrev odd : Entry
 odd = bank 4 100 (item Odd [] (Some 3) 1 ∷ [])
 
@@ -45,7 +45,7 @@ odd_kept = refl
 odd_ordered : orders_behind empty odd ≡ []
 odd_ordered = refl
 
--- a name that comes three times is counted once
+-- A name that is reported three times is counted once.
 abbrev everyday : ℕ → ℕ → Entry
 everyday tsc seconds = bank tsc seconds (item Ce [] (Some 74565) 1 ∷ [])
 
@@ -55,8 +55,7 @@ repeated = refl
 repeated_once : (account_of (history_of (everyday 1000 100 ∷ everyday 1000 100 ∷ everyday 1000 100 ∷ []))).entries ≡ 1
 repeated_once = refl
 
--- the tenth error of a page within a day orders it away softly, and after a whole day nine have
--- leaked out
+-- The tenth error of a page within a day soft-offlines it; after a whole day nine have leaked out.
 abbrev nine : History
 nine =
     history_of
@@ -75,7 +74,7 @@ tenth_later = refl
 later_ordered : orders_behind nine (everyday 10 87400) ≡ []
 later_ordered = refl
 
--- one report of many errors, of no module
+-- One report of many errors, without a module.
 abbrev many : Entry
 many = bank 1000 100 (item Ce [] (Some 74565) 32767 ∷ [])
 
@@ -85,14 +84,14 @@ many_counted = refl
 many_ordered : orders_behind empty many ≡ OrderSoft 74565 ∷ []
 many_ordered = refl
 
--- the limit that is in force already isn't fresh, and each that differs from it is
+-- The limit that is in force already isn't new, and each other limit is.
 limits_once : (account_of (history_of (limit 10 86400 ∷ module_limit 100 86400 ∷ limit 2 60 ∷ []))).entries ≡ 1
 limits_once = refl
 
 limits_again : (account_of (history_of (limit 10 86400 ∷ limit 2 60 ∷ limit 10 86400 ∷ limit 2 60 ∷ module_limit 10 86400 ∷ []))).entries ≡ 4
 limits_again = refl
 
--- a retired boot: its name is dropped, its counts stay, and a later report of it is stale
+-- A retired boot: its name is dropped, its counts stay, and a later report of it is stale.
 abbrev retiring : History
 retiring = history_of (everyday 1000 100 ∷ Retire 2 ∷ everyday 1000 100 ∷ everyday 1001 200 ∷ Retire 1 ∷ [])
 
@@ -125,7 +124,7 @@ two_a_minute = history_of (module_limit 2 60 ∷ bank 1000 100 (item Ce a (Some 
 second_ordered : orders_behind two_a_minute (bank 1001 100 (item Ce a (Some 74565) 1 ∷ [])) ≡ OrderModule 0 ∷ []
 second_ordered = refl
 
--- page 7 has 4 errors, page 8 has 9, and a name comes again
+-- Page 7 has 4 errors, page 8 has 9, and a name is reported again.
 abbrev before : History
 before =
     history_of
@@ -135,11 +134,11 @@ before =
     ∷ limit 5 60
     ∷ [])
 
--- one error more within the new period makes 5 of page 7
+-- One more error within the new period makes 5 of page 7.
 abbrev fifth : Entry
 fifth = bank 3 130 (item Ce b (Some 7) 1 ∷ [])
 
--- 61 seconds after its stamp 5 of the 9 of page 8 have leaked out, and two more make 6
+-- 61 seconds after its stamp 5 of the 9 errors of page 8 have leaked out, and two more make 6.
 abbrev sixth : Entry
 sixth = bank 4 171 (item Ce a (Some 8) 2 ∷ [])
 
@@ -171,9 +170,8 @@ whole_counted = refl
 whole_ordered : orders whole ≡ OrderSoft 7 ∷ OrderSoft 8 ∷ OrderHard 9 ∷ []
 whole_ordered = refl
 
--- Two retires, three modules, a module limit that is lowered in mid-run, and a mark. Boots 1 to 3
--- report; A has 3 errors and B 2 under ten a day. An uncorrected error of A counts in its sums
--- alone.
+-- Two retires, three modules, a module limit that is lowered in mid-run, and an upgrade marker. Boots 1 to 3 report; A
+-- has 3 errors and B 2 under ten a day. An uncorrected error of A is only added to its sums.
 abbrev first_part : History
 first_part =
     history_of
@@ -185,8 +183,8 @@ first_part =
     ∷ in_boot 1 2 130 (item Ce a None 40 ∷ [])
     ∷ [])
 
--- the limit falls to 4 a minute: within a minute of its stamp A's fourth error trips it, together
--- with its page; the next trip asks for nothing, and C comes as the third row, behind none's
+-- The limit falls to 4 a minute: within a minute of its stamp A's fourth error trips it, together with its page; the
+-- next trip orders nothing, and C gets the third row, after the row without a label.
 abbrev second_part : List Entry
 second_part =
     module_limit 4 60
@@ -220,7 +218,7 @@ unmarked_counted : account_of unmarked ≡ record {
 }
 unmarked_counted = refl
 
--- after a mark buckets begin anew: A trips at four errors again, and B keeps its sums alone
+-- After an upgrade marker buckets start again: A trips at four errors again, and B has only its sums.
 abbrev marked_part : History
 marked_part = with_entries (with_mark unmarked) (in_boot 3 2 1000 (item Ce a None 3 ∷ []) ∷ in_boot 3 3 1001 (item Ce a None 1 ∷ []) ∷ [])
 
@@ -235,6 +233,6 @@ marked_modules = refl
 marked_ordered : orders marked_part ≡ OrderSoft 7 ∷ OrderModule 0 ∷ OrderModule 3 ∷ OrderModule 0 ∷ []
 marked_ordered = refl
 
--- and the account continued says the same
+-- The continued account says the same.
 continued_same : account_after_history (account_of empty) marked_part ≡ account_of marked_part
 continued_same = refl

@@ -29,7 +29,7 @@ names_of (other ∷ entries) = names_of entries
 abbrev pub kept_names : ℕ → List Name → List Name
 kept_names floor names = filter (λ name. not (is_retired floor name)) names
 
--- the items of a history's fresh entries that have a label, in order
+-- the items of a history's new entries that have a label, in order
 abbrev pub module_items : History → Bytes → List Sighting
 module_items history label = filter (is_labeled label) (sightings history)
 
@@ -38,7 +38,7 @@ module_items history label = filter (is_labeled label) (sightings history)
 abbrev pub module_errors : History → Bytes → List Sighting
 module_errors history label = errors_of label (sightings_since_mark history)
 
--- what is counted of a module and a class: the weights of its items of that class
+-- the weights of a label's items of a class, together
 abbrev pub module_count : History → Bytes → ItemClass → ℕ
 module_count history label class = class_weight (module_items history label) class
 
@@ -47,12 +47,12 @@ module_count history label class = class_weight (module_items history label) cla
 abbrev pub page_history : History → ℕ → List PageReport
 page_history history page = page_history_of (reports_of (sightings history)) page
 
--- the modules that all items and those since the last mark give: each label in first-seen order
+-- the modules that all items and those since the last upgrade marker give: each label in first-seen order
 abbrev pub modules_of : List Sighting → List Sighting → List (Bytes × Module)
 modules_of all since_mark =
     map {B = Bytes × Module} (λ label. (label, module_by_items all since_mark label)) (distinct_keys same_label (map label_of all))
 
--- what is counted
+-- the account: what is counted of all reports
 pub record State : Type 0 where
   -- the names of facts, except for retired boots
   pub names : List Name
@@ -66,7 +66,7 @@ pub record State : Type 0 where
   pub entries : ℕ
   -- the weights of all items together
   pub total : ℕ
-  -- the labels in first-seen order, each with what is counted of its module
+  -- the labels in first-seen order, each with its module's sums, bucket and whether it is to be replaced
   pub modules : List (Bytes × Module)
   -- the pages in first-seen order, each with its bucket and its state
   pub pages : List (ℕ × PageRow)
@@ -88,28 +88,28 @@ account_of history = record {
 abbrev pub weight_in : List (Bytes × Module) → ℕ
 weight_in modules = sum_by (λ row. sum row.1.sums) modules
 
--- an account is the account of a history
+-- This account is the account of a history.
 abbrev pub IsAccountOf : History → State → Type 0
 IsAccountOf history a = a ≡ account_of history
 
--- two histories have the same account
+-- Two histories have the same account.
 abbrev pub AreSame : History → History → Type 0
 AreSame one other = account_of one ≡ account_of other
 
--- an entry after a history changes nothing
+-- An entry after a history changes nothing.
 abbrev pub ChangesNothing : History → Entry → Type 0
 ChangesNothing history entry = AreSame (with_entry history entry) history
 
--- a name of one of the history's facts whose boot isn't retired
+-- A name of one of the history's facts whose boot isn't retired.
 abbrev pub IsKeptAfter : History → Name → Type 0
 IsKeptAfter history name =
     Contains (names_in history) name × IsFalse (is_retired (floor_after history) name)
 
--- whether an item has a label, and what is counted of the label's module
+-- Whether an item of the history has this label.
 abbrev pub is_seen : History → Bytes → Bool
 is_seen history label = list_any (same_label label) (map label_of (sightings history))
 
--- what is counted of the module with this label
+-- the row of the module with this label
 abbrev pub module_of : History → Bytes → Module
 module_of history label =
     module_by_items (sightings history) (sightings_since_mark history) label

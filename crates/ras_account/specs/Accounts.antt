@@ -1,4 +1,4 @@
--- What holds of every account, whether it was counted or read: its rows can be written and read again.
+-- What every account is, whether it was counted or read: its rows can be written and read again.
 use Rattle.std.specs.Prelude.{◌≡◌, ℕ, ◌<◌, ◌≤◌, ◌^◌, nat_eq, None, [], length, All, IfSome, IsTrue}
 use Rattle.std.specs.Bool.{IsFalse}
 use Rattle.std.specs.List.{IsDistinct}
@@ -17,17 +17,17 @@ use Rattle.ras_account.specs.Modules.{Module}
 use Rattle.ras_account.specs.Account.{State, weight_in}
 use Rattle.ras_account.specs.Numbers.{IsWithin}
 
--- a name that an account with this floor may have: each number fits its field, and its boot isn't retired
+-- An account with this floor may have this name: each number fits its field, and the name's boot isn't retired.
 pub record IsKeptName (floor : ℕ) (name : Name) : Type 0 where
   pub valid : IsValidName name
   pub kept : IsFalse (is_retired floor name)
 
--- a bucket holds at most the most errors, and its stamp is a time of 64 bits
+-- A bucket has at most the most errors, and its stamp is a time of 64 bits.
 pub record IsBucket (bucket : Bucket) : Type 0 where
   pub count : bucket.count ≤ MOST_COUNT
   pub stamp : bucket.stamp < 2 ^ 64
 
--- a row of a module: ten sums, no bucket without a label, and nothing to replace without a bucket
+-- A row of a module is valid: ten sums, no bucket without a label, and nothing to replace without a bucket.
 pub record IsModuleRow (row : Bytes × Module) : Type 0 where
   pub label : IsTrue (is_label_or_none row.0)
   pub ten : length row.1.sums ≡ CLASS_COUNT
@@ -35,13 +35,13 @@ pub record IsModuleRow (row : Bytes × Module) : Type 0 where
   pub unlabeled : row.0 ≡ [] → row.1.bucket ≡ None
   pub replace : row.1.bucket ≡ None → IsFalse row.1.replace
 
--- a row of a page: one of the pages that 64 bits address
+-- A row of a page is valid: its page is one that 64 bits can address.
 pub record IsPageRow (row : ℕ × PageRow) : Type 0 where
   pub page : IsPage row.0
   pub bucket : IsBucket row.1.bucket
 
--- an account: each name, label and page is there once, each row is valid, the numbers are within their bounds, and the
--- rows of modules add up to the total weight
+-- An account is valid: no name, label or page is there twice, each row is valid, the numbers are within their bounds,
+-- and the rows of modules add up to the total weight.
 pub record IsAccount (a : State) : Type 0 where
   pub within : IsWithin a
   pub limit : IsLimit a.limit

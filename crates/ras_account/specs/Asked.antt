@@ -1,4 +1,4 @@
--- What the laws on orders speak of: the orders for one page, and those for one module.
+-- The orders for one page and the orders for one module, for the laws on orders.
 use Rattle.std.specs.Prelude.{ℕ, Bool, false, not, ◌&&◌, nat_eq, List, filter, IsTrue}
 use Rattle.std.specs.List.{list_any}
 use Rattle.std.specs.Map.{keys_of}
@@ -11,13 +11,13 @@ use Rattle.ras_account.specs.Modules.{has_tripped}
 use Rattle.ras_account.specs.Account.{account_of, module_errors}
 use Rattle.ras_account.specs.Orders.{place_of, orders_behind, orders_since_mark}
 
--- whether an order is for a page
+-- Whether an order is for a page.
 abbrev pub is_for_page : ℕ → Order → Bool
 is_for_page page (Soft other) = nat_eq page other
 is_for_page page (Hard other) = nat_eq page other
 is_for_page page (Module place) = false
 
--- whether an order is for the module at an index
+-- Whether an order is for the module at an index.
 abbrev pub is_for_module : ℕ → Order → Bool
 is_for_module place (Soft page) = false
 is_for_module place (Hard page) = false
@@ -27,7 +27,7 @@ is_for_module place (Module other) = nat_eq place other
 abbrev pub orders_for_page : ℕ → List Order → List Order
 orders_for_page page orders = filter (is_for_page page) orders
 
--- the orders of a list for the module at a place, in order
+-- the orders of a list for the module at an index, in order
 abbrev pub orders_for_module : ℕ → List Order → List Order
 orders_for_module place orders = filter (is_for_module place) orders
 
@@ -35,13 +35,13 @@ orders_for_module place orders = filter (is_for_module place) orders
 abbrev pub module_place : History → Bytes → ℕ
 module_place history label = place_of label (keys_of (account_of history).modules)
 
--- a label has a row in the account of a history
+-- A label has a row in the account of a history.
 abbrev pub HasRow : History → Bytes → Type 0
 HasRow history label =
     IsTrue (list_any (same_label label) (keys_of (account_of history).modules))
 
--- whether an entry after a history makes a module's bucket trip for the first time since the last upgrade marker, by
--- the module's own corrected errors
+-- Whether an entry after a history makes a module's bucket trip for the first time since the last upgrade marker, by
+-- the module's own corrected errors.
 abbrev pub trips_with : History → Entry → Bytes → Bool
 trips_with history entry label =
     not (has_tripped (module_errors history label))

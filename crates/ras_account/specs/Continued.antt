@@ -1,4 +1,4 @@
--- How one more entry or upgrade marker continues an account, even an account that no history gives.
+-- How one more entry or upgrade marker continues an account, even an account that isn't the account of a history.
 use Rattle.std.specs.Prelude.{ℕ, ◌+◌, Bool, false, ◌&&◌, ◌||◌, not, nat_lt, if◌then◌else◌, None, Some, List, [], ◌∷◌, ◌++◌, fold, map, replicate, slice_index, slice_set}
 use Rattle.std.specs.Option.{option_map_or}
 use Rattle.mca_status.specs.Classes.{class_number}
@@ -17,19 +17,19 @@ use Rattle.ras_account.specs.Sightings.{Sighting, sightings_in, label_of, report
 use Rattle.ras_account.specs.Modules.{Module, fills_bucket, bucket_with, trips_at}
 use Rattle.ras_account.specs.Account.{State, kept_names}
 
--- whether an account knows a name: the name is in the account, or its boot is retired
+-- Whether an account knows a name: the name is in the account, or its boot is retired.
 abbrev pub knows : State → Name → Bool
 knows a name = is_among a.names name || is_retired a.floor name
 
--- whether an entry is new in an account: a fact whose name it doesn't know, a limit other than the one of its kind in
--- force, or a retire above the floor
+-- Whether an entry is new in an account: a fact whose name the account doesn't know, a limit that isn't in force, or a
+-- retire above the floor.
 abbrev pub is_fresh_in : State → Entry → Bool
 is_fresh_in a (Fact fact) = not (knows a fact.name)
 is_fresh_in a (PageLimit limit) = not (same_limit limit a.limit)
 is_fresh_in a (Retire boot) = nat_lt a.floor boot
 is_fresh_in a (ModuleLimit limit) = not (same_limit limit a.module_limit)
 
--- a module of which nothing was seen
+-- a module without items
 abbrev pub no_sums : List ℕ
 no_sums = replicate CLASS_COUNT 0
 
@@ -41,7 +41,8 @@ abbrev pub sums_after : List ℕ → Item → List ℕ
 sums_after sums item =
     slice_set sums (class_number item.class) (slice_index sums (class_number item.class) + item.weight)
 
--- a module after an item: one that fills the bucket steps it, and a trip asks for the replacement
+-- A module after an item: an item that fills the bucket is added to it, and if the bucket trips, the module is to be
+-- replaced.
 abbrev pub module_after : Module → Sighting → Module
 module_after m s = record {
   sums = sums_after m.sums s.item;
@@ -49,12 +50,12 @@ module_after m s = record {
   replace = m.replace || (fills_bucket s && trips_at m.bucket s);
 }
 
--- the modules after an item: it changes its label's row, or begins one after the others
+-- The modules after an item: the item changes the row of its label, or appends a row.
 abbrev pub modules_after : List (Bytes × Module) → Sighting → List (Bytes × Module)
 modules_after modules s =
     updated_rows same_label (label_of s) (module_after new_module s) (λ m. module_after m s) modules
 
--- the rows of pages after an item: it goes to its page, if it names one
+-- The rows of pages after an item: the item changes the row of its page, if it names a page.
 abbrev pub pages_after : List (ℕ × PageRow) → Sighting → List (ℕ × PageRow)
 pages_after pages s = option_map_or (rows_after pages) (report_of s) pages
 
@@ -83,7 +84,7 @@ account_after_fresh a (ModuleLimit limit) = record a { module_limit = limit }
 abbrev pub account_with_count : State → State
 account_with_count a = record a { entries = a.entries + 1 }
 
--- an account continued by an entry: it counts the entry if it is new, and otherwise stays the same
+-- an account continued by an entry: it counts the entry if it is new, and otherwise is unchanged
 abbrev pub account_after : State → Entry → State
 account_after a entry = if is_fresh_in a entry then account_after_fresh (account_with_count a) entry else a
 
@@ -91,7 +92,7 @@ account_after a entry = if is_fresh_in a entry then account_after_fresh (account
 abbrev pub account_after_all : State → List Entry → State
 account_after_all a entries = fold account_after a entries
 
--- a module without a bucket, which nothing asks to replace
+-- a module without a bucket, which isn't to be replaced
 abbrev pub without_bucket : Module → Module
 without_bucket m = record m { bucket = None; replace = false }
 

@@ -1,4 +1,4 @@
--- Which entries are new at their place in a history: only these count.
+-- Which entries are new at their place in a history: only these are counted.
 use Rattle.std.specs.Prelude.{Bool, ◌&&◌, ◌==◌, not, nat_lt, if◌then◌else◌, List, [], ◌∷◌, ◌++◌}
 use Rattle.std.specs.List.{list_any}
 use Rattle.page_policy.specs.declared.buckets.Limit.{Limit}
@@ -8,16 +8,16 @@ use Rattle.ras_facts.specs.declared.entry.Entry.TheVariants.{Fact, Limit as Page
 use Rattle.ras_facts.specs.Names.{same_name}
 use Rattle.ras_account.specs.History.{History, empty, with_entry, with_mark, names_in, limit_after, module_limit_after, floor_after, is_retired}
 
--- two limits are the same if both their numbers are
+-- Two limits are the same if both their numbers are.
 abbrev pub same_limit : Limit → Limit → Bool
 same_limit one other = (one.capacity == other.capacity) && (one.period == other.period)
 
--- whether a name is among names
+-- Whether a name is among names.
 abbrev pub is_among : List Name → Name → Bool
 is_among names name = list_any (same_name name) names
 
--- an entry is new after a history: a fact whose name no fact of the history has and whose boot isn't retired, a limit
--- other than the one of its kind in force, or a retire above the floor
+-- Whether an entry is new after a history: a fact whose name no fact of the history has and whose boot isn't retired,
+-- a limit that isn't in force, or a retire above the floor.
 abbrev pub is_fresh_behind : History → Entry → Bool
 is_fresh_behind history (Fact fact) =
     not (is_among (names_in history) fact.name) && not (is_retired (floor_after history) fact.name)

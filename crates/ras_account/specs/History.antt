@@ -7,8 +7,8 @@ use Rattle.ras_facts.specs.declared.entry.Entry.TheVariants.{Fact, Limit as Page
 pub use Rattle.ras_facts.specs.Names.{is_retired}
 use Rattle.ras_account.specs.declared.limits.TheConstants.{FIRST_LIMIT, FIRST_MODULE_LIMIT}
 
--- a list of entries and upgrade markers, the latest last. An upgrade marker is where an account was taken over from a
--- journal of version 1, which stored no buckets of modules: they start again after it.
+-- Entries and upgrade markers, the latest last. An upgrade marker is where an account was taken over from a journal of
+-- version 1, which stored no buckets of modules: they start again after it.
 pub data History : Type 0 where
   empty : History
   with_entry : History → Entry → History
@@ -22,17 +22,17 @@ with_entries history entries = fold with_entry history entries
 abbrev pub history_of : List Entry → History
 history_of entries = with_entries empty entries
 
--- a history with a retire of the boots below a number after it
+-- a history followed by a retire of the boots below a number
 abbrev pub with_retire : History → ℕ → History
 with_retire history boot = with_entry history (Retire boot)
 
--- a history with another one after it
+-- a history followed by another history
 abbrev pub followed_by : History → History → History
 followed_by history empty = history
 followed_by history (with_entry more entry) = with_entry (followed_by history more) entry
 followed_by history (with_mark more) = with_mark (followed_by history more)
 
--- a history without upgrade markers
+-- A history has no upgrade markers.
 abbrev pub IsUnmarked : History → Type 0
 IsUnmarked empty = Unit {0}
 IsUnmarked (with_entry history entry) = IsUnmarked history

@@ -1,4 +1,4 @@
--- The three numbers that an account keeps small, and the numbers that a list of entries would bring it to.
+-- The three numbers of an account that have bounds, and these numbers after a list of entries.
 use Rattle.std.specs.Prelude.{ℕ, ◌+◌, ◌≤◌, Bool, ◌||◌, nat_lt, if◌then◌else◌, List, [], ◌∷◌, length, IsTrue}
 use Rattle.std.specs.List.{sum_by, flat_map}
 use Rattle.ras_facts.specs.declared.items.Item.{Item}
@@ -8,19 +8,19 @@ use Rattle.ras_account.specs.declared.limits.TheConstants.{MOST_NAMES, MOST_ENTR
 use Rattle.ras_account.specs.Account.{State, names_of}
 use Rattle.ras_account.specs.Continued.{is_fresh_in, account_after}
 
--- how many names, how many entries, and how much weight
+-- the number of names, the number of entries, and the total weight
 pub record Numbers : Type 0 where
   pub names : ℕ
   pub entries : ℕ
   pub total : ℕ
 
--- numbers within what an account counts, and whether they are past it
+-- The numbers are within an account's bounds.
 pub record AreWithin (numbers : Numbers) : Type 0 where
   pub names : numbers.names ≤ MOST_NAMES
   pub entries : numbers.entries ≤ MOST_ENTRIES
   pub total : numbers.total ≤ MOST_TOTAL
 
--- whether one of the numbers is above its bound
+-- Whether one of the numbers is above its bound.
 abbrev pub are_past : Numbers → Bool
 are_past numbers =
     nat_lt MOST_NAMES numbers.names || (nat_lt MOST_ENTRIES numbers.entries || nat_lt MOST_TOTAL numbers.total)
@@ -29,11 +29,11 @@ are_past numbers =
 abbrev pub numbers_of : State → Numbers
 numbers_of a = record { names = length a.names; entries = a.entries; total = a.total }
 
--- an account within its numbers
+-- An account is within its bounds.
 abbrev pub IsWithin : State → Type 0
 IsWithin a = AreWithin (numbers_of a)
 
--- the account is within its numbers after each entry of the list
+-- The account is within its bounds after each entry of the list.
 abbrev pub StaysWithin : State → List Entry → Type 0
 StaysWithin a [] = Unit {0}
 StaysWithin a (entry ∷ entries) = IsWithin (account_after a entry) × StaysWithin (account_after a entry) entries
@@ -48,7 +48,7 @@ fresh_entries_in a (entry ∷ entries) =
 abbrev pub items_of : List Entry → List Item
 items_of entries = flat_map items_in entries
 
--- the numbers of an account with all new entries of a list; a retire in the list removes no name here
+-- The numbers of an account with all new entries of a list. A retire in the list removes no name here.
 abbrev pub numbers_with : State → List Entry → Numbers
 numbers_with a entries = record {
   names = length a.names + length (names_of (fresh_entries_in a entries));
@@ -56,7 +56,7 @@ numbers_with a entries = record {
   total = a.total + sum_by (λ (item : Item). item.weight) (items_of (fresh_entries_in a entries));
 }
 
--- there is room for all new entries of a list, or there isn't
+-- There is room for all new entries of a list.
 abbrev pub HasRoomFor : State → List Entry → Type 0
 HasRoomFor a entries = AreWithin (numbers_with a entries)
 

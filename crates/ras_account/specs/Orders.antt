@@ -1,5 +1,5 @@
--- The orders that an entry gives. An item first orders its page offline, if the page's state rises, and then its module
--- replaced, if that module's bucket trips for the first time.
+-- The orders that an entry gives. An item first orders its page offline, if the page's state rises, and then its
+-- module's replacement, if the module's bucket trips for the first time.
 use Rattle.std.specs.Prelude.{ℕ, zero, suc, Bool, false, ◌&&◌, not, if◌then◌else◌, Option, None, Some, List, [], ◌∷◌, ◌++◌, map, flat_map, option_and_then, option_to_list}
 use Rattle.std.specs.Map.{keys_of, lookup}
 use Rattle.std.specs.Option.{option_map_or}
@@ -28,15 +28,15 @@ abbrev pub page_order : List Sighting → Sighting → Option Order
 page_order earlier s =
     option_and_then (λ (r : PageReport). order_behind r.page (page_history (reports_of earlier) r.page) r) (report_of s)
 
--- whether an item is the one at which its module's bucket trips for the first time since the last upgrade marker, which
--- depends only on the earlier errors of that module
+-- Whether an item makes its module's bucket trip for the first time since the last upgrade marker. This depends only
+-- on the earlier errors of the module.
 abbrev pub trips_first : List Sighting → Sighting → Bool
 trips_first since_mark s =
     not (has_tripped (errors_of (label_of s) since_mark))
     && has_tripped (errors_of (label_of s) (since_mark ++ s ∷ []))
 
--- the order for the module of an item after all earlier items and the items since the last upgrade marker; a module is
--- named by the index of its label among all labels in first-seen order
+-- the order for the module of an item after all earlier items and the items since the last upgrade marker. The order
+-- names the module by the index of its label among all labels in first-seen order
 abbrev pub module_order : List Sighting → List Sighting → Sighting → Option Order
 module_order earlier since_mark s =
     if trips_first since_mark s
@@ -48,7 +48,7 @@ abbrev pub item_orders : List Sighting → List Sighting → Sighting → List O
 item_orders earlier since_mark s =
     option_to_list (page_order earlier s) ++ option_to_list (module_order earlier since_mark s)
 
--- the orders of items that come one after the other
+-- the orders of items, one after the other
 abbrev pub orders_of_items : List Sighting → List Sighting → List Sighting → List Order
 orders_of_items earlier since_mark ss =
     flat_map (λ p. item_orders (earlier ++ p.0) (since_mark ++ p.0) p.1) (places ss)
@@ -69,7 +69,7 @@ orders_since_mark empty = []
 orders_since_mark (with_entry history entry) = orders_since_mark history ++ orders_behind history entry
 orders_since_mark (with_mark history) = []
 
--- whether a label's module is to be replaced, by the rows of an account
+-- Whether a label's module is to be replaced, by the rows of an account.
 abbrev pub is_replaced : List (Bytes × Module) → Bytes → Bool
 is_replaced modules label = option_map_or (λ (m : Module). m.replace) (lookup (same_label label) modules) false
 
@@ -87,12 +87,12 @@ module_order_in modules s =
     then Some (Ordered.TheVariants.Module (place_of (label_of s) (keys_of (modules_after modules s))))
     else None
 
--- the orders of items by which an account is continued, in order
+-- the orders of items that continue an account, in order
 abbrev pub orders_along : State → List Sighting → List Order
 orders_along a [] = []
 orders_along a (s ∷ ss) =
     option_to_list (page_order_in a.pages s) ++ (option_to_list (module_order_in a.modules s) ++ orders_along (account_after_item a s) ss)
 
--- the orders of an entry by which an account is continued
+-- the orders of an entry that continues an account
 abbrev pub orders_at : State → Entry → List Order
 orders_at a entry = if is_fresh_in a entry then orders_along a (sightings_in a.limit a.module_limit entry) else []

@@ -1,4 +1,4 @@
--- An account made again from its numbers and rows, as they are read back one after the other.
+-- An account rebuilt from its numbers and rows, which are read one after the other.
 use Rattle.std.specs.Prelude.{ℕ, ◌+◌, Bool, nat_eq, List, [], ◌∷◌, ◌++◌, fold, sum}
 use Rattle.std.specs.List.{list_any}
 use Rattle.dimm_topology.specs.Labels.{Bytes, same_label}
@@ -10,22 +10,22 @@ use Rattle.ras_account.specs.History.{empty, is_retired}
 use Rattle.ras_account.specs.Modules.{Module}
 use Rattle.ras_account.specs.Account.{State, account_of}
 
--- a module's row as contracts see it: its label, and what is counted of it
+-- A module's row as contracts see it: its label, and its sums, bucket and whether it is to be replaced.
 abbrev pub row_of : ModuleRow → Bytes × Module
 row_of row = (row.label, record { sums = row.sums; bucket = row.bucket; replace = row.replace })
 
--- whether one of the names is of a boot below a floor
+-- Whether one of the names is of a boot below a floor.
 abbrev pub has_retired : ℕ → List Name → Bool
 has_retired floor names = list_any (is_retired floor) names
 
--- whether an account has a row for a label, or for a page
+-- Whether an account has a row for a label, or for a page.
 abbrev pub has_module : State → Bytes → Bool
 has_module a label = is_held same_label a.modules label
 
 abbrev pub has_page : State → ℕ → Bool
 has_page a page = is_held nat_eq a.pages page
 
--- an account with one more name, module or page; a module adds its weight
+-- An account with one more name, module or page. A module adds its weight.
 abbrev pub with_name : State → Name → State
 with_name a name = record a { names = a.names ++ name ∷ [] }
 

@@ -1,4 +1,4 @@
--- The items of a history's new facts, each with its time and the limits in force when it came.
+-- The items of a history's new facts, each with the time and the limits in force at the fact.
 use Rattle.std.specs.Prelude.{ℕ, Option, if◌then◌else◌, List, [], ◌++◌, map, filter_map, option_map}
 use Rattle.dimm_topology.specs.Labels.{Bytes}
 use Rattle.page_policy.specs.declared.buckets.Limit.{Limit}
@@ -9,24 +9,24 @@ use Rattle.ras_facts.specs.declared.entry.Entry.TheVariants.{Fact}
 use Rattle.ras_account.specs.History.{History, empty, with_entry, with_mark, limit_after, module_limit_after}
 use Rattle.ras_account.specs.Fresh.{is_fresh_behind}
 
--- an item, with the time of its fact in seconds, and the limits in force for pages and modules when it came
+-- An item, with the time of its fact in seconds, and the limits for pages and modules in force at the fact.
 pub record Sighting : Type 0 where
   pub item : Item
   pub seconds : ℕ
   pub limit : Limit
   pub module_limit : Limit
 
--- the items of a fact that came at this time, in order, if these limits are in force
+-- the items of a fact with this time, in order, if these limits are in force
 abbrev pub sightings_of : Limit → Limit → ℕ → List Item → List Sighting
 sightings_of limit module_limit seconds items =
     map (λ item. record { item = item; seconds = seconds; limit = limit; module_limit = module_limit }) items
 
--- the items of an entry: only a fact has some
+-- The items of an entry. Only facts have items.
 abbrev pub sightings_in : Limit → Limit → Entry → List Sighting
 sightings_in limit module_limit (Fact fact) = sightings_of limit module_limit fact.seconds fact.items
 sightings_in limit module_limit other = []
 
--- the items that an entry adds after a history: none if it isn't new
+-- The items that an entry adds after a history. An entry that isn't new adds no items.
 abbrev pub sightings_behind : History → Entry → List Sighting
 sightings_behind history entry =
     if is_fresh_behind history entry then sightings_in (limit_after history) (module_limit_after history) entry else []
@@ -37,7 +37,7 @@ sightings empty = []
 sightings (with_entry history entry) = sightings history ++ sightings_behind history entry
 sightings (with_mark history) = sightings history
 
--- the items that came after the last upgrade marker
+-- the items after the last upgrade marker
 abbrev pub sightings_since_mark : History → List Sighting
 sightings_since_mark empty = []
 sightings_since_mark (with_entry history entry) = sightings_since_mark history ++ sightings_behind history entry

@@ -1,4 +1,4 @@
--- A tally of entries that may follow an account: what then waits, and the numbers they bring it to.
+-- A tally of entries that may follow an account: what is reserved for them, and the numbers of the account after them.
 use Rattle.std.specs.Prelude.{◌≡◌, ℕ, ◌+◌, min, ◌||◌, List, [], ◌++◌, length, Result, Err, OnOk}
 use Rattle.std.specs.List.{sum_by}
 use Rattle.std.specs.Map.{keys_of}
@@ -21,8 +21,8 @@ use Rattle.ras_account.specs.View.{View, labels_in, pages_in, added_by}
 abbrev pub greatest : ℕ
 greatest = 18446744073709551615
 
--- the new entries of a list that bring an account to another: their names and labels wait, and the tally has their
--- pages, their numbers, and what is in force after them
+-- New entries lead an account to another: their names and labels are reserved, and the tally has their pages, their
+-- numbers, and what is in force after them.
 pub record Tallies (account : View) (after : State) (fresh : List Entry) (tally : Tally) : Type 0 where
   pub names : account.waiting.names ≡ names_of fresh
   pub labels : account.waiting.labels ≡ added_keys same_label (keys_of account.state.modules) (labels_in (items_of fresh))
@@ -40,7 +40,7 @@ abbrev pub IsTallyOf : View → Tally → List Entry → Type 0
 IsTallyOf account tally entries =
     Tallies account (account_after_all account.state entries) (fresh_entries_in account.state entries) tally
 
--- what entries add waits, if there is room for it
+-- What entries add is reserved, if there is room for it.
 pub record Reserves (result : Result (Unit {0}) ReserveRefused) (before : State) (account : View) (entries : List Entry) : Type 0 where
   pub state : account.state ≡ before
   pub ok : OnOk result (account.waiting ≡ added_by before entries)

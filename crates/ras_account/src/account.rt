@@ -28,11 +28,11 @@ use ras_facts::{Entry, Fact, Item, Name};
 use std::alloc::Global;
 use std::marker::Model;
 
-/// What was counted so far: the names of the reports in the order in which they came, what the
-/// reports say of memory modules and of pages, and the limits and the floor in force.
+/// The account: the names of the reports in the order in which they were counted, what the reports
+/// say about memory modules and pages, and the limits and the floor in force.
 ///
-/// Names, labels and pages can wait after those that are counted, so that their entries can be
-/// taken without allocating memory. No call returns anything that waits.
+/// Memory can be reserved for further names, labels and pages, so that their entries can be counted
+/// without allocating memory. No call returns anything reserved.
 #[derive(Drop)]
 pub struct Account {
     pub(crate) names: Names,
@@ -98,8 +98,7 @@ impl Account {
     }
 
     /// Returns whether `take` would count this entry: a fact whose name isn't in the account and
-    /// whose boot isn't retired, a limit other than the one of its kind in force, or a retire above
-    /// the floor.
+    /// whose boot isn't retired, a limit that isn't in force, or a retire above the floor.
     pub fn is_fresh(&self, entry: &Entry) -> bool
         ensures fresh { result ≡ is_fresh_in self.now.state entry.now }
         ensures history { (history : History) → IsAccountOf history self.now.state
@@ -119,7 +118,7 @@ impl Account {
         self.names.holds(name) || name.is_retired(self.in_force.floor)
     }
 
-    // Whether an entry is a fact whose name is held.
+    // Returns whether an entry is a fact whose name is in the account.
     fn holds_name_of(&self, entry: &Entry) -> bool
         ensures { result ≡ holds_name self.now.state entry.now }
     {
@@ -132,9 +131,9 @@ impl Account {
     /// Counts the entry if it is new, and appends the orders it gives to `orders`. Allocates
     /// nothing.
     ///
-    /// Requires a valid entry; that what it adds waits, before everything else that waits; room in
-    /// `orders` for `Entry::most_orders`; and that the account stays within `MOST_NAMES`,
-    /// `MOST_ENTRIES` and `MOST_TOTAL`. What the entry adds no longer waits afterwards.
+    /// Requires a valid entry; that what it adds is the first reservation; room in `orders` for
+    /// `Entry::most_orders`; and that the account stays within `MOST_NAMES`,
+    /// `MOST_ENTRIES` and `MOST_TOTAL`. This reservation is used up.
     pub fn take(&mut self, entry: Entry, orders: &mut Orders)
         requires valid { IsValidEntry entry }
         requires waits { WaitsFirst (added_by self.old.state (entry ∷ [])) self.old.waiting }
@@ -146,7 +145,8 @@ impl Account {
         ensures orders { orders.new.orders ≡ orders.old.orders ++ orders_at self.old.state entry }
         ensures room { orders.new.room + length (orders_at self.old.state entry) ≡ orders.old.room }
 
-        // If what a list of entries adds waits, the entries can be taken one after the other.
+        // If what a list of entries adds is reserved, the entries can be counted one after the
+        // other.
         ensures in_turn { (entries : List Entry) → IsReservedFor self.old (entry ∷ entries)
             → IsReservedFor self.new entries }
 
@@ -178,8 +178,8 @@ impl Account {
         }
     }
 
-    // Whether an entry is new, if what it adds waits first. A name in the account never waits, so
-    // no name needs to be hashed.
+    // Returns whether an entry is new, if what it adds is reserved first. A name in the account is
+    // never reserved, so no name needs to be hashed.
     fn is_next(&self, entry: &Entry) -> bool
         requires { WaitsFirst (added_by self.now.state (entry.now ∷ [])) self.now.waiting }
         ensures { result ≡ is_fresh_in self.now.state entry.now }
@@ -187,7 +187,8 @@ impl Account {
         self.in_force.admits(entry) && self.has_name_waiting(entry)
     }
 
-    // Whether the name of an entry is the first that waits; an entry other than a fact has none.
+    // Returns whether the name of an entry is the first reserved name; false for an entry other
+    // than a fact.
     fn has_name_waiting(&self, entry: &Entry) -> bool
         ensures first { result ≡ name_waits_first self.now.waiting.names entry.now }
         ensures apart { OnTrue result (IsFalse (holds_name self.now.state entry.now)) }
@@ -210,7 +211,7 @@ impl Account {
         self.take_items(fact.items.as_slice(), fact.seconds, orders);
     }
 
-    // Counts the first name that waits, and one entry.
+    // Counts the first reserved name, and one entry.
     fn count_name(&mut self)
         requires { CanCountName self.old }
         ensures { self.new ≡ view_after_name self.old }
@@ -219,7 +220,7 @@ impl Account {
         self.names.count_next();
     }
 
-    // Counts the items of a fact that came at this time, in order.
+    // Counts the items of a fact with this time, in order.
     fn take_items(&mut self, items: &[Item], seconds: u64, orders: &mut Orders)
         requires next { (rest : Waiting) × AreNext self.old items.now rest }
         requires room { 2 * length items.now ≤ orders.old.room }
@@ -232,7 +233,7 @@ impl Account {
         }
     }
 
-    // Counts an item of a fact that came at this time.
+    // Counts an item of a fact with this time.
     fn take_item(&mut self, item: &Item, seconds: u64, orders: &mut Orders)
         requires next { IsNext self.old item.now }
         requires room { 2 ≤ orders.old.room }
@@ -260,7 +261,7 @@ impl Account {
         self.in_force.put(entry);
     }
 
-    // Retires the boots below a number: drops their names.
+    // Retires the boots below a number: removes their names.
     fn retire(&mut self, boot: u64)
         requires { self.old.state.entries < MOST_ENTRIES }
         ensures state { self.new.state ≡ account_after_fresh (account_with_count self.old.state) (Entry.Retire boot) }
@@ -271,8 +272,8 @@ impl Account {
         self.names.retire(boot);
     }
 
-    /// Takes an upgrade marker: from now on no module has a bucket or is to be replaced, and
-    /// everything else stays. Requires that nothing waits.
+    /// Counts an upgrade marker: from now on no module has a bucket or is to be replaced, and
+    /// everything else is unchanged. Requires that nothing is reserved.
     pub fn mark(&mut self)
         requires { self.old.waiting ≡ nothing }
         ensures state { self.new.state ≡ account_after_mark self.old.state }
@@ -371,7 +372,7 @@ impl Account {
     }
 }
 
-// Takes an item of a fact that came at this time as a report of its page, if it names one.
+// Counts an item of a fact with this time as a report of its page, if it names a page.
 fn order_for_page(pages: &mut Pages, item: &Item, seconds: u64, limit: Limit) -> Option<Order>
     requires ready { IfSome item.now.page (λ page. IsTrue (is_ready nat_eq pages.old page)) }
     requires limit { IsLimit limit }

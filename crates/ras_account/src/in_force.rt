@@ -18,8 +18,8 @@ pub(crate) struct InForce {
 }
 
 impl InForce {
-    // Whether an entry is new, apart from a name that is counted: a name whose boot isn't retired,
-    // a retire above the floor, or another limit.
+    // Returns whether an entry is new, unless its name is counted already: its name's boot isn't
+    // retired, it is a retire above the floor, or it sets another limit.
     pub(crate) fn admits(&self, entry: &Entry) -> bool
         ensures { result ≡ is_news self.now.floor self.now.limit self.now.module_limit entry.now }
     {

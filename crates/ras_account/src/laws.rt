@@ -1,4 +1,4 @@
-//! What an account is, in words that don't follow its definitions.
+//! What an account is, stated without its own definitions.
 
 ghost use Rattle.std.specs.Prelude.{◌≡◌, ◌≤◌, ◌+◌, ◌==◌, ◌&&◌, ◌||◌, ◌^◌, not, ◌↔◌, ℕ, max, List, [], ◌∷◌, ◌++◌, if◌then◌else◌, IsTrue, All, Contains, Some, None, map, nat_eq, nat_le, length};
 ghost use Rattle.std.specs.Bool.{IsFalse};
@@ -31,9 +31,9 @@ ghost use Rattle.ras_account.specs.Accounts.{IsAccount};
 
 use crate::{FIRST_LIMIT, FIRST_MODULE_LIMIT, MOST_ENTRIES, MOST_NAMES, MOST_TOTAL};
 
-/// What holds of the account of a history.
+/// The laws of the account of a history.
 pub fn account_laws()
-    // The account of a history with an entry or an upgrade marker after it is the account of the
+    // The account of a history followed by an entry or an upgrade marker is the account of the
     // history, continued by it.
     ensures entry { (history : History) (entry : Entry)
         → account_of (with_entry history entry) ≡ account_after (account_of history) entry }
@@ -58,7 +58,7 @@ pub fn account_laws()
     ensures stale_orders { (history : History) (entry : Entry)
         → IsFalse (is_fresh_behind history entry) → orders_behind history entry ≡ [] }
 
-    // The new entries by themselves give the same account, as if they were all that was kept.
+    // The new entries alone give the same account.
     ensures refreshed { (history : History) → IsUnmarked history
         → AreSame (history_of (fresh_entries history)) history }
     ensures unmarked { (entries : List Entry) → IsUnmarked (history_of entries) }
@@ -73,8 +73,8 @@ pub fn account_laws()
     ensures pages_once { (history : History)
         → IsDistinct nat_eq (keys_of (account_of history).pages) }
 
-    // The row of a label says what is counted of it, and the sums of all rows add up to the total
-    // weight.
+    // The row of a label has its module's sums and bucket, and the sums of all rows add up to the
+    // total weight.
     ensures counts { (history : History) (label : Bytes)
         → lookup (same_label label) (account_of history).modules
         ≡ (if is_seen history label then Some (module_of history label) else None) }
@@ -82,7 +82,7 @@ pub fn account_laws()
         → weight_in (account_of history).modules ≡ (account_of history).total }
 {}
 
-/// What holds of the names that an account knows.
+/// The laws of the names that an account knows.
 pub fn known_laws()
     // The account of a history knows the names of the history's facts, and all names of retired
     // boots.
@@ -103,7 +103,7 @@ pub fn known_laws()
         → IsTrue (knows (account_after_all a entries) fact.name) }
 {}
 
-/// What holds of retired boots.
+/// The laws of retired boots.
 pub fn retire_laws()
     // The floor never falls, so a retired boot stays retired.
     ensures floor { (history more : History)
@@ -132,10 +132,10 @@ pub fn retire_laws()
         ≡ (account_of (with_retire history (max one other))).names }
 {}
 
-/// What holds of the orders of a history.
+/// The laws of the orders of a history.
 pub fn order_laws()
-    // The orders that an entry gives after a history are the orders with which its account is
-    // continued.
+    // The orders that an entry gives after a history are the orders that it gives when it continues
+    // the account.
     ensures ordered { (history : History) (entry : Entry)
         → orders_behind history entry ≡ orders_at (account_of history) entry }
 
@@ -147,15 +147,15 @@ pub fn order_laws()
     ensures page_once { (history : History) (page : ℕ)
         → AreOnceInOrder page (orders_for_page page (orders history)) }
 
-    // Since the last upgrade marker a module was ordered replaced once if its own corrected errors
-    // made its bucket trip, and otherwise never, whatever other modules do.
+    // Since the last upgrade marker a module's replacement was ordered once if its own corrected
+    // errors made its bucket trip, and otherwise never, whatever other modules do.
     ensures module { (history : History) (label : Bytes) → HasRow history label
         → replace_orders history label
         ≡ (if has_tripped (module_errors history label)
         then replace_order history label ∷ [] else []) }
 
-    // An entry orders a module replaced if and only if, with the entry's items, the module's own
-    // corrected errors make its bucket trip for the first time since the last upgrade marker.
+    // An entry orders a module's replacement if and only if, with the entry's items, the module's
+    // own corrected errors make its bucket trip for the first time since the last upgrade marker.
     ensures module_at { (history : History) (entry : Entry) (label : Bytes)
         → HasRow (with_entry history entry) label
         → replace_orders_at history entry label
@@ -163,9 +163,9 @@ pub fn order_laws()
         then replace_order (with_entry history entry) label ∷ [] else []) }
 {}
 
-/// What holds of the buckets of modules.
+/// The laws of the buckets of modules.
 pub fn module_laws()
-    // Single corrected errors of a module within one period order it replaced once their number
+    // Single corrected errors of a module within one period order its replacement once their number
     // reaches the capacity, and not before.
     ensures capacity { (history : History) (label : Bytes) (limit : Limit) → IsLimit limit
         → AreSingleErrors limit (module_errors history label)
@@ -182,10 +182,10 @@ pub fn module_laws()
         → trips_at (Some bucket) s ≡ trips_at None s }
 {}
 
-/// What holds of every account, even if no history gives it.
+/// The laws of every account, even of an account that isn't the account of a history.
 pub fn kept_laws()
-    // The empty account is an account, and a valid entry or an upgrade marker leaves one, within
-    // the three numbers.
+    // The empty account is a valid account. A valid entry or an upgrade marker keeps an account
+    // valid, within the three bounds.
     ensures empty { IsAccount (account_of empty) }
     ensures entry { (a : State) (entry : Entry) → IsAccount a → IsValidEntry entry
         → IsWithin (account_after a entry) → IsAccount (account_after a entry) }
@@ -193,28 +193,28 @@ pub fn kept_laws()
         → StaysWithin a entries → IsAccount (account_after_all a entries) }
     ensures mark { (a : State) → IsAccount a → IsAccount (account_after_mark a) }
 
-    // An account can be made again from its numbers and rows.
+    // An account can be rebuilt from its numbers and rows.
     ensures rows { (a : State) → IsAccount a → account_from_rows a ≡ a }
 {}
 
-/// Why each entry of a list can be taken in turn once the list was reserved.
+/// The laws by which each entry of a list can be counted in turn once the list is reserved.
 pub fn reserve_laws()
     // What a list adds is what its first entry adds, followed by what the other entries then add.
     ensures in_turn { (a : State) (entry : Entry) (entries : List Entry)
         → added_by a (entry ∷ entries)
         ≡ then_waits (added_by a (entry ∷ [])) (added_by (account_after a entry) entries) }
 
-    // If what a list adds waits, what its first entry adds waits first.
+    // If what a list adds is reserved, what its first entry adds is reserved first.
     ensures first { (account : View) (entry : Entry) (entries : List Entry)
         → IsReservedFor account (entry ∷ entries)
         → WaitsFirst (added_by account.state (entry ∷ [])) account.waiting }
 
-    // Numbers are within what an account counts, or past it.
+    // Numbers are either within an account's bounds or past them.
     ensures past { (a : State) (entries : List Entry)
         → IsFalse (are_past (numbers_with a entries)) ↔ HasRoomFor a entries }
     ensures now_past { (a : State) → IsFalse (are_past (numbers_of a)) ↔ IsWithin a }
 
-    // If there is room for all that a list adds, the account stays within its numbers after each
+    // If there is room for all that a list adds, the account stays within its bounds after each
     // entry of the list, and there is then room for what the remaining entries add.
     ensures stays { (a : State) (entries : List Entry)
         → HasRoomFor a entries → StaysWithin a entries }
@@ -224,7 +224,7 @@ pub fn reserve_laws()
         → HasRoomFor a (entry ∷ entries) → HasRoomFor (account_after a entry) entries }
 {}
 
-/// The numbers that the definitions cite by name have these digits.
+/// The numbers behind the names that the definitions use.
 pub fn numbers_in_digits()
     ensures names { MOST_NAMES ≡ 200_000 }
     ensures entries { MOST_ENTRIES ≡ 2 ^ 62 }

@@ -1,9 +1,9 @@
-//! What was counted so far: each report once, by its name, with what it says of memory modules and
-//! of pages.
+//! The account: each report is counted once, by its name, with what it says about memory modules
+//! and pages.
 //!
-//! An account is a function of its history: the entries and the upgrade markers that it took. The
-//! definitions in `specs/` say which function, and the contracts of `Account` say that each call
-//! keeps to it.
+//! An account is a function of its history: the entries and the upgrade markers that it was given.
+//! The definitions in `specs/` say which function, and the contracts of `Account` say that each
+//! call obeys it.
 //!
 //! A public function with an empty body is a law: its clauses are the point.
 #![tactic(auto)]

@@ -1,4 +1,4 @@
-//! The rows of memory modules, and after them the labels that wait for a row.
+//! The rows of memory modules, and after them the labels for which a row is reserved.
 ghost use Rattle.std.specs.Prelude.{◌≡◌, ◌↔◌, ◌+◌, ◌<◌, ◌≤◌, ◌++◌, [], ◌∷◌, IsTrue, None, Some, Err, OnOk, OnErr, ◌&&◌, not, false, if◌then◌else◌, length, map, sum, slice_get};
 ghost use Rattle.std.specs.List.{list_any};
 ghost use Rattle.std.specs.Map.{keys_of};
@@ -24,7 +24,7 @@ use row_tables::RowTable;
 use std::alloc::Global;
 use std::marker::Model;
 
-/// What was counted of a memory module.
+/// The row of a memory module.
 #[derive(Clone, Copy, Debug, PartialEq, Eq)]
 pub struct ModuleRow {
     /// The module's label, or `Label::none()`.
@@ -38,7 +38,7 @@ pub struct ModuleRow {
 }
 
 impl ModuleRow {
-    // A module of which nothing was seen.
+    // Returns the row of a module without items.
     fn new(label: Label) -> ModuleRow
         ensures row { row_of result ≡ (label, new_module) }
         ensures counting { IsCounting result }
@@ -51,7 +51,7 @@ impl ModuleRow {
         }
     }
 
-    // The row after an item of the module that came at this time, with this limit in force for
+    // Returns the row after an item of the module with this time, and with this limit in force for
     // modules.
     fn after(self, item: &Item, seconds: u64, limit: Limit) -> ModuleRow
         requires counting { IsCounting self }
@@ -116,8 +116,8 @@ fn order_for(place: usize, before: bool, after: bool) -> Option<Order>
     None
 }
 
-// The modules that items named, in first-seen order, each with its row. Labels can wait after them,
-// so that their items can be counted without allocating memory.
+// The modules that items named, in first-seen order, each with its row. Rows can be reserved after
+// them for further labels, so that their items can be counted without allocating memory.
 #[derive(Drop)]
 pub(crate) struct Modules {
     table: RowTable<Label, ModuleRow>,
@@ -145,8 +145,8 @@ impl Modules {
         }
     }
 
-    // Counts an item that came at this time, with this limit in force for modules. Returns the
-    // order to replace its module, if this item gives it.
+    // Counts an item with this time, with this limit in force for modules. Returns the order to
+    // replace its module, if this item gives it.
     pub(crate) fn count(&mut self, item: &Item, seconds: u64, limit: Limit) -> Option<Order>
         requires next { IsTrue (is_next_label self.old item.now.label) }
         requires limit { IsLimit limit }
@@ -166,7 +166,7 @@ impl Modules {
         order_for(place, was_asked, is_asked)
     }
 
-    // Removes all labels that wait.
+    // Removes all reservations.
     pub(crate) fn give_up(&mut self)
         ensures rows { self.new.rows ≡ self.old.rows }
         ensures waiting { self.new.waiting ≡ [] }
@@ -174,7 +174,7 @@ impl Modules {
         self.table.give_up();
     }
 
-    // Lets a label wait that neither has a row nor waits yet.
+    // Reserves a row for a label that has neither a row nor a reservation.
     pub(crate) fn let_wait(&mut self, label: &Label) -> Result<(), NoMemory>
         ensures rows { self.new.rows ≡ self.old.rows }
         ensures ok { OnOk result (self.new.waiting
@@ -184,7 +184,7 @@ impl Modules {
         Ok(())
     }
 
-    // Removes the bucket of each module, and no module is to be replaced.
+    // Removes the bucket of each module; no module is to be replaced then.
     pub(crate) fn mark(&mut self)
         ensures rows { self.new.rows
             ≡ map {B = Bytes × Module} (λ row. (row.0, without_bucket row.1)) self.old.rows }
@@ -196,7 +196,7 @@ impl Modules {
         }
     }
 
-    // Appends a row. Requires that no label waits. After an error the rows are unchanged.
+    // Appends a row. Requires that nothing is reserved. After an error the rows are unchanged.
     pub(crate) fn push(&mut self, row: ModuleRow) -> Result<(), RowRefused>
         requires waiting { self.old.waiting ≡ [] }
         requires counting { IsCounting row }

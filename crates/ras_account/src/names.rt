@@ -1,4 +1,4 @@
-//! The names that are counted, and after them the names that wait.
+//! The counted names, and after them the reserved names.
 ghost use Rattle.std.specs.Prelude.{◌≡◌, ◌↔◌, ◌<◌, ◌++◌, [], ◌∷◌, not, IsTrue, Some, Err, IfOk, OnOk, OnErr, length, take, drop, slice_get};
 ghost use Rattle.std.specs.Bool.{IsFalse, OnTrue};
 ghost use Rattle.std.specs.List.{list_any, flat_map};
@@ -19,12 +19,12 @@ use row_tables::{KeyTest, RowTable};
 use std::alloc::Global;
 use std::marker::Model;
 
-// Names in the order in which they came. Names can wait after those that are counted, so that they
-// can be counted without allocating memory.
+// Names in the order in which they were counted. Names can be reserved after them, so that they can
+// be counted without allocating memory.
 #[derive(Drop)]
 pub(crate) struct Names {
     table: RowTable<Name, ()>,
-    // The counted names, with memory for those that wait.
+    // The counted names, with memory for the reserved ones.
     spelled: Spelled,
 }
 
@@ -73,7 +73,7 @@ impl Names {
         self.table.holds(name)
     }
 
-    // Whether a name is the first that waits. A counted name never waits.
+    // Whether a name is the first reserved name. A counted name is never reserved.
     pub(crate) fn waits_first(&self, name: &Name) -> bool
         ensures first { result ≡ is_among (take 1 self.now.waiting) name.now }
         ensures apart { OnTrue result (IsFalse (is_among self.now.held name.now)) }
@@ -88,14 +88,14 @@ impl Names {
         self.table.len()
     }
 
-    // How many names are counted or wait.
+    // How many names are counted or reserved.
     pub(crate) fn len_with_waiting(&self) -> usize
         ensures { result ≡ length (all_names self.now) }
     {
         self.table.len_with_waiting()
     }
 
-    // The counted name at a place.
+    // The counted name at an index.
     pub(crate) fn get(&self, i: usize) -> &Name
         requires { i < length self.now.held }
         ensures { slice_get self.now.held i ≡ Some result.now }
@@ -110,7 +110,7 @@ impl Names {
         self.spelled.bytes.as_slice()
     }
 
-    // Counts the first name that waits.
+    // Counts the first reserved name.
     pub(crate) fn count_next(&mut self)
         requires { 0 < length self.old.waiting }
         ensures held { self.new.held ≡ self.old.held ++ take 1 self.old.waiting }
@@ -120,7 +120,7 @@ impl Names {
         self.spelled.add_last(&self.table);
     }
 
-    // Removes all names that wait.
+    // Removes all reservations.
     pub(crate) fn give_up(&mut self)
         ensures held { self.new.held ≡ self.old.held }
         ensures waiting { self.new.waiting ≡ [] }
@@ -128,7 +128,7 @@ impl Names {
         self.table.give_up();
     }
 
-    // Lets a name wait unless it is counted or waits already, and returns whether it was new.
+    // Reserves a name unless it is counted or reserved already, and returns whether it was neither.
     pub(crate) fn let_wait(&mut self, name: Name) -> Result<bool, NoMemory>
         ensures held { self.new.held ≡ self.old.held }
         ensures ok { OnOk result (self.new.waiting
@@ -153,7 +153,7 @@ impl Names {
         false
     }
 
-    // Removes the counted names of boots below a floor. Names that wait stay.
+    // Removes the counted names of boots below a floor. Reserved names stay.
     pub(crate) fn retire(&mut self, floor: u64)
         ensures held { self.new.held ≡ kept_names floor self.old.held }
         ensures waiting { self.new.waiting ≡ self.old.waiting }
@@ -171,7 +171,8 @@ impl Names {
         self.table.make_room(additional)
     }
 
-    // Appends a counted name. Requires that no name waits. After an error the names are unchanged.
+    // Appends a counted name. Requires that no name is reserved. After an error the names are
+    // unchanged.
     pub(crate) fn push(&mut self, name: Name) -> Result<(), RowRefused>
         requires { self.old.waiting ≡ [] }
         ensures ok { OnOk result (self.new.held ≡ self.old.held ++ name ∷ []) }

@@ -1,4 +1,4 @@
-//! The account made again from its numbers and rows, as they are read back one after the other.
+//! Rebuilds an account from its numbers and rows, which are read one after the other.
 ghost use Rattle.std.specs.Prelude.{◌≡◌, ◌↔◌, ◌+◌, ◌<◌, ◌≤◌, ◌^◌, ◌++◌, [], ◌∷◌, None, Err, IsTrue, IfSome, IfNone, OnOk, OnErr, not, sum, length};
 ghost use Rattle.std.specs.Bool.{IsFalse, OnTrue, OnFalse};
 ghost use Rattle.mca_status.specs.declared.classes.TheConstants.{CLASS_COUNT};
@@ -54,7 +54,7 @@ impl From<RowRefused> for PushRefused {
     }
 }
 
-/// An account that is made again from its rows. Nothing waits in it.
+/// An account that is rebuilt from its rows. Nothing is reserved in it.
 #[derive(Drop)]
 pub struct Rebuilt {
     account: Account,
@@ -117,7 +117,8 @@ impl Rebuilt {
     /// Appends a name. Requires that its boot isn't retired. After an error the account is
     /// unchanged.
     ///
-    /// `Repeated`: if and only if the name is there already. `Full`: if it isn't and there are
+    /// `Repeated`: if and only if the name is there already. `Full`: if it isn't there and there
+    /// are
     /// `MOST_NAMES` names, unless memory runs out; never otherwise.
     pub fn push_name(&mut self, name: Name) -> Result<(), PushRefused>
         requires { IsFalse (is_retired self.old.floor name) }
@@ -189,7 +190,7 @@ impl Rebuilt {
         self.account.pages.push_row(page, bucket, state)
     }
 
-    /// Returns the account that was made again. Nothing waits in it.
+    /// Returns the rebuilt account. Nothing is reserved in it.
     pub fn into_account(self) -> Account
         ensures state { result.state ≡ self }
         ensures waiting { result.waiting ≡ nothing }
@@ -200,7 +201,7 @@ impl Rebuilt {
     }
 }
 
-// The types of a name's fields give the clause that each number fits its field.
+// The types of a name's fields prove that each number fits its field.
 fn tell_valid_name(name: &Name)
     ensures { IsValidName name.now }
 {
@@ -221,7 +222,7 @@ fn tell_valid_name(name: &Name)
     }
 }
 
-// The types of these numbers give the clause that each fits its field.
+// The types of these numbers prove that each fits its field.
 fn tell_ranges(boot: u64, cpu: u16, bank: u8, tsc: u64)
     ensures boot { boot < 2 ^ 64 }
     ensures cpu { cpu < 2 ^ 16 }
@@ -231,14 +232,14 @@ fn tell_ranges(boot: u64, cpu: u16, bank: u8, tsc: u64)
     let _ = (boot, cpu, bank, tsc);
 }
 
-// The type of a bucket's time gives the clause that it fits its field.
+// The type of a bucket's time proves that it fits its field.
 fn tell_valid_bucket(bucket: Bucket)
     ensures { bucket.stamp < 2 ^ 64 }
 {
     let _ = bucket.stamp;
 }
 
-// The types of a row's label, sums and time give the clause that they fit their fields.
+// The types of a row's label, sums and time prove that they fit their fields.
 fn tell_valid_row(row: &ModuleRow)
     ensures label { IsTrue (is_label_or_none row.now.label) }
     ensures ten { length row.now.sums ≡ CLASS_COUNT }

@@ -1,4 +1,4 @@
-//! What a list of entries adds to an account, reserved before any of them is taken.
+//! Reserves what a list of entries adds to an account, before any of them is counted.
 ghost use Rattle.std.specs.Prelude.{◌≡◌, List, [], ◌∷◌, ◌++◌, Err, IfOk, OnOk, OnErr};
 ghost use Rattle.ras_account.specs.declared.reserve.ReserveRefused.TheVariants.{NoMemory as NoMemoryForEntries, Full};
 ghost use Rattle.ras_facts.specs.declared.entry.Entry.{Entry};
@@ -36,9 +36,9 @@ impl From<NoMemory> for ReserveRefused {
 }
 
 impl Account {
-    /// Reserves what these entries add, so that each can be taken in turn without allocating
-    /// memory: the names, labels and pages that they bring first then wait. What waited before no
-    /// longer does. What is counted doesn't change, and after an error nothing waits.
+    /// Reserves what these entries add, so that each can be counted in turn without allocating
+    /// memory: their names, and the labels and pages that have no row yet. Earlier reservations are
+    /// dropped. What is counted doesn't change, and after an error nothing is reserved.
     ///
     /// `Full`: if and only if the number of names, the number of entries or the total weight, with
     /// all new entries of the list, would exceed `MOST_NAMES`, `MOST_ENTRIES` or `MOST_TOTAL`,
@@ -59,7 +59,7 @@ impl Account {
         }
     }
 
-    // Reserves what these entries add, instead of what waited before.
+    // Reserves what these entries add, and drops earlier reservations.
     fn let_wait(&mut self, entries: &[Entry]) -> Result<(), ReserveRefused>
         ensures { Reserves result self.old.state self.new entries.now }
     {
@@ -70,7 +70,7 @@ impl Account {
         self.end_tally(&tally)
     }
 
-    /// Removes all names, labels and pages that wait.
+    /// Removes all reservations.
     pub fn give_up(&mut self)
         ensures { self.new ≡ record self.old { waiting = nothing } }
     {
@@ -79,7 +79,7 @@ impl Account {
         self.pages.give_up();
     }
 
-    /// Returns an empty tally of entries. What waited before no longer does.
+    /// Returns an empty tally of entries. Earlier reservations are dropped.
     pub fn begin_tally(&mut self) -> Tally
         ensures state { self.new.state ≡ self.old.state }
         ensures tally { IsTallyOf self.new result [] }
@@ -94,7 +94,7 @@ impl Account {
     }
 
     /// Appends an entry to a tally if it is new after the tally's entries, and returns whether it
-    /// is. Its name and its labels then wait, and its pages are in the tally.
+    /// is. Its name and its labels are then reserved, and its pages are in the tally.
     ///
     /// # Errors
     ///
@@ -121,7 +121,7 @@ impl Account {
         Ok(true)
     }
 
-    /// Reserves the pages of a tally too, so that its entries can be taken in turn without
+    /// Reserves the pages of a tally too, so that its entries can be counted in turn without
     /// allocating memory.
     ///
     /// `Full`: if and only if the number of names, the number of entries or the total weight, with
@@ -153,7 +153,7 @@ pub struct Tally {
 }
 
 impl Tally {
-    // Notes items: their labels wait, and their pages and weights are in the tally.
+    // Records items: reserves their labels, and adds their pages and weights to the tally.
     fn note_items(&mut self, modules: &mut Modules, items: &[Item]) -> Result<(), NoMemory>
         ensures rows { modules.new.rows ≡ modules.old.rows }
         ensures noted { OnOk result (NotesItems modules.old modules.new self.old self.new items.now) }

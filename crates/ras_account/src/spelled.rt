@@ -13,15 +13,15 @@ use std::alloc::Global;
 /// The most bytes of a name.
 const NAME_BYTES: usize = 20;
 
-// The bytes of names, one after the other, with memory for more. So each checkpoint copies them
-// instead of spelling each name anew.
+// The bytes of names, one after the other, with memory for more. Each checkpoint copies them, so
+// that it doesn't have to spell each name again.
 #[derive(Drop)]
 pub(crate) struct Spelled {
     pub(crate) bytes: Vec<u8>,
 }
 
 impl Spelled {
-    // The bytes of no names.
+    // Returns the bytes of an empty list of names.
     pub(crate) fn new(alloc: Global) -> Spelled
         ensures { result.bytes.items ≡ [] }
     {
@@ -51,7 +51,7 @@ impl Spelled {
     {
         let mut room = [0; NAME_BYTES];
         let end = put_name(&mut room, 0, name);
-        // There is memory for it, so this allocates nothing and doesn't fail.
+        // Memory for it is reserved, so this allocates nothing and doesn't fail.
         let _ = self.bytes.extend_from_slice(&room[..end]);
     }
 
@@ -67,7 +67,7 @@ impl Spelled {
         self.add(table.key(table.len() - 1));
     }
 
-    // Spells the names of a table, instead of those that were spelled before.
+    // Spells the names of a table, and drops the earlier bytes.
     pub(crate) fn spell(&mut self, table: &RowTable<Name, ()>)
         requires { 20 * length table.now.rows ≤ vec_capacity self.old.bytes }
         ensures bytes { self.new.bytes.items ≡ flat_map name_bytes (keys_of table.now.rows) }

@@ -1,5 +1,5 @@
 //! What several crates share: running out of memory, bits and little-endian numbers, the sum of a
-//! table, numbers in printed text, and words that their contracts cite.
+//! table, numbers in printed text, and definitions that their contracts cite.
 #![tactic(auto)]
 
 ghost use Rattle.std.specs.Prelude.{◌≡◌};

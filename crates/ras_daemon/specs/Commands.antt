@@ -57,9 +57,9 @@ ByTask exit (Some Pcie) script left before now old new =
 ByTask exit (Some (Klog boot cap)) script left before now old new =
     Leaves (OfBoth (Filters (klog_filter boot cap) exit) script left before now)
     (StopsFiltering (klog_filter boot cap) script before old new) before now old new
-ByTask exit (Some (TraceFeed boot cap began)) script left before now old new =
-    Leaves (OfBoth (Feeds (trace_feed boot cap began) exit) script left before now)
-    (StopsFeeding (trace_feed boot cap began) script before old new) before now old new
+ByTask exit (Some (TraceFeed boot cap began drivers)) script left before now old new =
+    Leaves (OfBoth (Feeds (trace_feed boot cap began drivers) exit) script left before now)
+    (StopsFeeding (trace_feed boot cap began drivers) script before old new) before now old new
 ByTask exit (Some (LogFeed boot cap began borders)) script left before now old new =
     Leaves (OfBoth (Feeds (log_feed boot cap began borders) exit) script left before now)
     (StopsFeeding (log_feed boot cap began borders) script before old new) before now old new
@@ -100,7 +100,7 @@ MayEnd (Some (Report listing)) exit = IsReportExit exit
 MayEnd (Some (Load n)) exit = IsLoadExit exit
 MayEnd (Some Pcie) exit = IsFilterExit exit
 MayEnd (Some (Klog boot cap)) exit = IsFilterExit exit
-MayEnd (Some (TraceFeed boot cap began)) exit = IsFeedExit exit
+MayEnd (Some (TraceFeed boot cap began drivers)) exit = IsFeedExit exit
 MayEnd (Some (LogFeed boot cap began borders)) exit = IsFeedExit exit
 MayEnd (Some (TraceLines boot)) exit = IsFilterExit exit
 MayEnd (Some (KlogLines boot cap)) exit = IsFilterExit exit

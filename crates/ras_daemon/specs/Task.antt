@@ -1,5 +1,5 @@
 -- What the program's arguments ask for.
-use Rattle.std.specs.Prelude.{ℕ, ◌-◌, ◌^◌, ◌==◌, ◌&&◌, ◌≤◌, List, [], ◌∷◌, codes, Option, None, Some, if◌then◌else◌, ⊤}
+use Rattle.std.specs.Prelude.{ℕ, ◌-◌, ◌^◌, ◌==◌, ◌&&◌, ◌≤◌, Bool, false, true, List, [], ◌∷◌, codes, Option, None, Some, if◌then◌else◌, ⊤}
 use Rattle.std.specs.Option.{option_and_then, option_map}
 use Rattle.std.specs.Str.{bytes_eq}
 use Rattle.bank_lines.specs.declared.log_line.TheConstants.{LAST_SECOND}
@@ -46,13 +46,13 @@ ghes_lines_of boot began =
     option_and_then (λ number. option_map (λ second. GhesLines number second) (decimal_of LAST_SECOND began))
     (decimal_of (2 ^ 64 - 1) boot)
 
--- a boot's number, IA32_MCG_CAP, and the second at which the boot began
-abbrev pub trace_feed_of : List ℕ → List ℕ → List ℕ → Option Task
-trace_feed_of boot cap began =
-    option_and_then (λ number. option_and_then (λ mask. option_map (λ second. TraceFeed number mask second)
+-- a boot's number, IA32_MCG_CAP, and the second at which the boot began; whether every driver's events are read
+abbrev pub trace_feed_of : List ℕ → List ℕ → List ℕ → Bool → Option Task
+trace_feed_of boot cap began drivers =
+    option_and_then (λ number. option_and_then (λ mask. option_map (λ second. TraceFeed number mask second drivers)
     (decimal_of LAST_SECOND began)) (hexadecimal_of cap)) (decimal_of (2 ^ 64 - 1) boot)
 
--- and the borders
+-- the three numbers, and the borders
 abbrev pub log_feed_of : List ℕ → List ℕ → List ℕ → Borders → Option Task
 log_feed_of boot cap began borders =
     option_and_then (λ number. option_and_then (λ mask. option_map (λ second. LogFeed number mask second borders)
@@ -77,8 +77,8 @@ load_of word =
 
 -- The commands: `run`; `pcie`; `report` with a listing; `load` with a number; `klog` with a boot and
 -- IA32_MCG_CAP; `lines trace` and `lines mce` with a boot, `lines klog` with both, `lines ghes` with a boot and
--- the second at which it began, `lines trace` and `lines log` with all three, and `lines log` also with both borders;
--- `--help`; `--version`. Other arguments aren't a command.
+-- the second at which it began, `lines trace` and `lines log` with all three, `lines trace` also with `edac`, and
+-- `lines log` also with both borders; `--help`; `--version`. Other arguments aren't a command.
 abbrev pub task_of : List (List ℕ) → Option Task
 task_of [] = None
 task_of (word ∷ []) =
@@ -101,10 +101,13 @@ task_of (word ∷ form ∷ boot ∷ cap ∷ []) =
     else if bytes_eq word (codes "lines") && bytes_eq form (codes "ghes") then ghes_lines_of boot cap
     else None
 task_of (word ∷ form ∷ boot ∷ cap ∷ began ∷ []) =
-    if bytes_eq word (codes "lines") && bytes_eq form (codes "trace") then trace_feed_of boot cap began
+    if bytes_eq word (codes "lines") && bytes_eq form (codes "trace") then trace_feed_of boot cap began false
     else if bytes_eq word (codes "lines") && bytes_eq form (codes "log") then log_feed_of boot cap began no_borders
     else None
-task_of (word ∷ form ∷ boot ∷ cap ∷ began ∷ more ∷ []) = None
+task_of (word ∷ form ∷ boot ∷ cap ∷ began ∷ more ∷ []) =
+    if bytes_eq word (codes "lines") && (bytes_eq form (codes "trace") && bytes_eq more (codes "edac"))
+    then trace_feed_of boot cap began true
+    else None
 task_of (word ∷ form ∷ boot ∷ cap ∷ began ∷ checks ∷ reports ∷ []) =
     if bytes_eq word (codes "lines") && bytes_eq form (codes "log")
     then option_and_then (λ borders. log_feed_of boot cap began borders) (borders_of checks reports)
@@ -115,7 +118,7 @@ task_of (word ∷ form ∷ boot ∷ cap ∷ began ∷ checks ∷ reports ∷ mor
 abbrev pub IsTask : Task → Type 0
 IsTask (Load n) = n ≤ MOST_LINES
 IsTask (GhesLines boot began) = began ≤ LAST_SECOND
-IsTask (TraceFeed boot cap began) = began ≤ LAST_SECOND
+IsTask (TraceFeed boot cap began drivers) = began ≤ LAST_SECOND
 IsTask (LogFeed boot cap began borders) = began ≤ LAST_SECOND
 IsTask task = ⊤
 
@@ -126,7 +129,7 @@ abbrev pub ReadsBy : Option Task → Type 0 → Type 0 → Type 0 → Type 0 →
 ReadsBy (Some Run) Takes Input Record Same = Takes
 ReadsBy (Some Pcie) Takes Input Record Same = Takes
 ReadsBy (Some (Klog boot cap)) Takes Input Record Same = Takes
-ReadsBy (Some (TraceFeed boot cap began)) Takes Input Record Same = Input
+ReadsBy (Some (TraceFeed boot cap began drivers)) Takes Input Record Same = Input
 ReadsBy (Some (LogFeed boot cap began borders)) Takes Input Record Same = Input
 ReadsBy (Some (TraceLines boot)) Takes Input Record Same = Takes
 ReadsBy (Some (KlogLines boot cap)) Takes Input Record Same = Takes

@@ -100,8 +100,15 @@ pub fn rasd<S: Source, B: Board>(
             let mut filter = KlogFilter::new(boot, cap);
             filter_lines(alloc, &mut filter, source, board)
         }
-        Some(Task::TraceFeed { boot, cap, began }) => {
-            let mut filter = TraceFeed::new(alloc, boot, cap, began);
+        Some(
+            Task::TraceFeed {
+                boot,
+                cap,
+                began,
+                drivers,
+            },
+        ) => {
+            let mut filter = TraceFeed::new(alloc, boot, cap, began, drivers);
             feed_lines(alloc, &mut filter, source, board)
         }
         Some(

@@ -21,7 +21,7 @@ pub const HELP: &[u8] = b"\
     rasd lines klog BOOT CAP < LOG convert a kernel log to a script\n\
     rasd lines ghes BOOT SEC < LOG convert the firmware's reports to a script\n\
     rasd lines mce BOOT < RECORD   convert a saved machine check to a script\n\
-    rasd lines trace BOOT CAP SEC < TRACE                convert all of a trace\n\
+    rasd lines trace BOOT CAP SEC [edac] < TRACE         convert all of a trace\n\
     rasd lines log BOOT CAP SEC [CHECKS REPORTS] < LOG   convert all of a log\n\
     rasd klog BOOT CAP < LOG       print the machine checks of a log, decoded\n\
     rasd pcie < SCRIPT             print the PCI Express errors of a script\n\
@@ -33,6 +33,7 @@ pub const HELP: &[u8] = b"\
     SEC is the second since 1970 at which the boot began, decimal. CHECKS and\n\
     REPORTS are the microseconds of the boot from which a trace that the same run\n\
     gets has machine checks and the firmware's memory errors; - means never.\n\
+    edac adds the memory errors of all EDAC drivers, for processors not of Intel.\n\
     The account is in the working folder: the journal rasd.0 and rasd.1, and the\n\
     record store rasd.store. The installed command goes to /var/lib/rasd, or to\n\
     the folder that RASD_FOLDER names. Only run and report use files.\n\

@@ -82,6 +82,8 @@ pub enum Task {
         cap: u64,
         /// The second since 1970 at which the boot began.
         began: u64,
+        /// Whether the memory errors of all EDAC drivers are read, and not only the firmware's.
+        drivers: bool,
     },
     /// Convert all hardware errors of a kernel log of any length to lines of script.
     LogFeed {
@@ -139,6 +141,7 @@ pub enum Task {
 /// - `lines` with `ghes`, the number of the boot, and the second at which it began, up to
 ///   999,999,999,999
 /// - `lines` with `log` or `trace` and all three of these numbers
+/// - `lines` with `trace`, all three, and `edac`
 /// - `lines` with `log`, all three, and two borders, each in microseconds of the boot up to 2^64-1,
 ///   or `-`
 /// - `--help`, and `--version`
@@ -176,7 +179,13 @@ pub fn task_of(words: &[RasWord]) -> Option<Task>
         }
         [word, form, boot, cap, began]
             if word.bytes() == b"lines".as_slice() && form.bytes() == b"trace".as_slice() => {
-            trace_feed_of(boot.bytes(), cap.bytes(), began.bytes())
+            trace_feed_of(boot.bytes(), cap.bytes(), began.bytes(), false)
+        }
+        [word, form, boot, cap, began, more]
+            if word.bytes() == b"lines".as_slice()
+                && form.bytes() == b"trace".as_slice()
+                && more.bytes() == b"edac".as_slice() => {
+            trace_feed_of(boot.bytes(), cap.bytes(), began.bytes(), true)
         }
         [word, form, boot, cap, began]
             if word.bytes() == b"lines".as_slice() && form.bytes() == b"log".as_slice() => {
@@ -252,15 +261,17 @@ fn ghes_lines_of(boot: &[u8], began: &[u8]) -> Option<Task>
     })
 }
 
-// Returns the task for all of the trace of this boot, which began at this second.
-fn trace_feed_of(boot: &[u8], cap: &[u8], began: &[u8]) -> Option<Task>
-    ensures task { result ≡ trace_feed_of boot.now cap.now began.now }
+// Returns the task for all of the trace of this boot, which began at this second, with the events of
+// all EDAC drivers or without.
+fn trace_feed_of(boot: &[u8], cap: &[u8], began: &[u8], drivers: bool) -> Option<Task>
+    ensures task { result ≡ trace_feed_of boot.now cap.now began.now drivers }
     ensures range { IfSome result IsTask }
 {
     Some(Task::TraceFeed {
         boot: decimal(boot, u64::MAX)?,
         cap: hexadecimal(cap)?,
         began: decimal(began, LAST_SECOND)?,
+        drivers,
     })
 }
 

@@ -1,4 +1,4 @@
--- What lines ask for, by how each kind of line is judged.
+-- Properties of the event of a line, kind of line by kind.
 use Rattle.std.proofs.Common.{◌≡◌, ℕ, Bool, true, false, if◌then◌else◌, List, take, Option, None, Some, Result, Ok, Err, refl}
 use Rattle.std.specs.Option.{option_map_or}
 use Rattle.ras_base.specs.Chaining.{◌>>=◌}
@@ -27,7 +27,7 @@ use Rattle.ras_events.specs.declared.made.Piece.{Piece}
 use Rattle.ras_events.specs.declared.settings.Settings.{Settings}
 use Rattle.ras_events.specs.Events.{Lists, block_event, event_of, has_source, or_reason, panic_refusal, report_event, with_table}
 
--- what has to hold, so that it holds of what a line asks for, given that it holds if a line is refused
+-- If a property holds of every rejected line, this suffices for the property of a line's event.
 abbrev pub Asks : (Result Event LineRefusal → Type 0) → Settings → Line → Type 0
 Asks P settings (asks.Row row) = P (Ok Settled)
 Asks P settings (asks.Table table) = P (Ok Settled)

@@ -1,4 +1,4 @@
--- The lines of the entries of an event by the account before the event are those at their own places.
+-- The lines of an event's entries by the account before the event are their lines at their own places.
 use Rattle.std.proofs.Common.{◌≡◌, ◌+◌, inl, inr, Bool, true, false, if◌then◌else◌, List, [], ◌∷◌, ◌++◌, refl, ◌∙◌, length-append, arith}
 use Rattle.std.specs.List.{AllByRecursion}
 use Rattle.std.proofs.lemmas.List.Elements.{recursion_from_All}
@@ -15,11 +15,11 @@ use Rattle.ras_texts.specs.Text.{repeat_line}
 use Rattle.ras_events.specs.Steps.Beside.{AreAlike}
 use Rattle.ras_events.specs.Sizes.{IsFact}
 
--- an account continued by an entry that is fresh or not
+-- an account after an entry that is new or not
 abbrev pub after_if : State → Entry → Bool → State
 after_if a e b = if b then account_after_fresh (account_with_count a) e else a
 
--- facts leave the floor
+-- Facts don't change the floor.
 floor_fact : (a : State) (fact : Told) → (account_after a (Fact fact)).floor ≡ a.floor
 floor_fact a fact = by (is_fresh_in a (Fact fact))
   where
@@ -42,7 +42,7 @@ all_rest : (front rest : List Entry) → AllByRecursion IsFact (front ++ rest) �
 all_rest [] rest all = all
 all_rest (e ∷ front) rest all = all_rest front rest all.1
 
--- an entry behind others that are all facts or none has the lines that it has without them
+-- After facts, or after nothing, an entry has the lines that it has for the account before them.
 pub record IsBeside (a : State) (taken : List Entry) (e : Entry) : Type 0 where
   pub log : (details : List Detail) → entry_lines details (account_after_all a taken) e ≡ entry_lines details a e
   pub repeat : repeat_line (account_after_all a taken) e ≡ repeat_line a e

@@ -1,4 +1,4 @@
--- The bytes of numbers are no line feeds.
+-- The digits of numbers and the other bytes of printed texts are no line feeds.
 use Rattle.std.proofs.Common.{◌≡◌, ℕ, zero, suc, ◌+◌, ◌-◌, ◌/◌, ◌%◌, ◌≤◌, ◌==◌, ◌&&◌, nat_lt, Bool, true, false, cond, not, List, [], ◌∷◌, ◌++◌, decimal, refl, ◌∙◌, arith, IsTrue, slice_index, slice_index_or, drop}
 use Rattle.std.specs.List.{list_all}
 use Rattle.std.proofs.lemmas.List.Folds.{list_all-append}
@@ -22,7 +22,7 @@ pub second_of : (a b : Bool) → (a && b) ≡ true → b ≡ true
 second_of true b h = h
 second_of false b h = cc
 
--- a text that passes the test
+-- A text that passes the test has no line feed.
 pub lacks_from : (text : List ℕ) → is_unbroken text ≡ true → Lacks 10 text
 lacks_from [] all = tt
 lacks_from (b ∷ text) all =
@@ -77,7 +77,7 @@ pub guid_lacks : (guid : List ℕ) → Lacks 10 (hyphenated_text lower guid)
 guid_lacks guid =
     by_index_lacks 36 _ (λ k. guid_digit_by (nibble guid (digit_place k)) (is_hyphen_place k) (nat_lt (nibble guid (digit_place k)) 10))
 
--- the same by the test
+-- A text without a line feed passes the test.
 pub unbroken_from : (text : List ℕ) → Lacks 10 text → is_unbroken text ≡ true
 unbroken_from [] lacks = refl
 unbroken_from (b ∷ text) lacks =
@@ -99,13 +99,13 @@ hexadecimal_unbroken bytes = unbroken_from (encode_lower bytes) (hexadecimal_lac
 pub guid_unbroken : (guid : List ℕ) → is_unbroken (hyphenated_text lower guid) ≡ true
 guid_unbroken guid = unbroken_from (hyphenated_text lower guid) (guid_lacks guid)
 
--- what is left of a text behind its first bytes
+-- A text without its first bytes has no line feed either.
 pub drop_unbroken : (n : ℕ) (text : List ℕ) → is_unbroken text ≡ true → is_unbroken (drop n text) ≡ true
 drop_unbroken zero text all = all
 drop_unbroken (suc n) [] all = refl
 drop_unbroken (suc n) (b ∷ text) all = drop_unbroken n text (second_of (not (b == 10)) (is_unbroken text) all)
 
--- the word of a table, or another one past its last
+-- The word of a table at an index, or another word past the table's end, has no line feed.
 pub table_unbroken : (words : List (List ℕ)) (place : ℕ) (other : List ℕ) → list_all is_unbroken words ≡ true → is_unbroken other ≡ true → is_unbroken (slice_index_or words place other) ≡ true
 table_unbroken [] place other all rest = rest
 table_unbroken (word ∷ words) zero other all rest = first_of (is_unbroken word) (list_all is_unbroken words) all

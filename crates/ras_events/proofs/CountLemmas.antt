@@ -1,4 +1,4 @@
--- How many events are done in a beginning of what is printed of events.
+-- How many events are done in a beginning of what events print.
 use Rattle.std.proofs.Common.{◌≡◌, ℕ, suc, ◌+◌, ◌≤◌, ◌⊎◌, inl, inr, List, [], ◌∷◌, ◌++◌, length, take, drop, get_or, All, refl, sym, ap, ◌∙◌, arith, append_assoc, one-add}
 use Rattle.std.proofs.lemmas.List.Elements.{All-head, All-tail}
 use Rattle.ras_texts.specs.Text.{done_line}
@@ -18,7 +18,7 @@ events_count (event ∷ events) more all =
     ∙ event_counts event (printed_events events ++ more) (All-head IsPrintedEvent event events all)
     ∙ omega (arith, events_count events more (All-tail IsPrintedEvent event events all))
 
--- a beginning of two texts ends before the end of the first, or holds the first
+-- A beginning of two texts ends before the end of the first, or contains the first.
 abbrev IsCut : List ℕ → List ℕ → List ℕ → List ℕ → Type 0
 IsCut part rest first second =
     ((left : List ℕ) × (1 ≤ length left) × (part ++ left ≡ first)) ⊎ ((more : List ℕ) × (part ≡ first ++ more) × (more ++ rest ≡ second))

@@ -1,4 +1,4 @@
--- What lines tell of the machine, a line at a time.
+-- The machine description that lines give, a line at a time.
 use Rattle.std.proofs.Common.{◌≡◌, ℕ, List, [], ◌∷◌, ◌++◌, Option, None, Some, Result, Ok, Err, ap, refl, sym, ◌∙◌, append-nil, append_assoc}
 use Rattle.std.proofs.lemmas.List.Elements.{filter_map-append}
 use Rattle.std.specs.List.{cons_option, filter_map, fold}
@@ -14,18 +14,18 @@ use Rattle.dimm_topology.specs.declared.row.Row.{Row}
 use Rattle.ras_events.specs.Events.{Lists, admitted_in, no_settings, settings_after, with_driver, with_sources}
 use Rattle.ras_events.specs.Described.{NumberedLine, driver_by, last_of, row_by, settings_read, settings_told, sources_by, sources_in_table}
 
--- the last of a list with one more
+-- The last of a list with one more item is this item.
 last-snoc : {X : Type 0} (xs : List X) (x : X) → last_of (xs ++ x ∷ []) ≡ Some x
 last-snoc [] x = refl
 last-snoc (y ∷ []) x = refl
 last-snoc (y ∷ z ∷ xs) x = last-snoc (z ∷ xs) x
 
--- the last of a list with one more, if there is one more
+-- The last of a list with at most one more item.
 last-found : {X : Type 0} (xs : List X) (found : Option X) → last_of (xs ++ cons_option found []) ≡ option_map_or Some found (last_of xs)
 last-found xs None = ap last_of (append-nil xs)
 last-found xs (Some x) = last-snoc xs x
 
--- settings with what a line tells
+-- settings after the parts of the machine description that a line gives
 abbrev with_told : Settings → Option Row → Option Sources → Option Lists → Settings
 with_told settings row sources lists = record {
   topology = settings.topology ++ cons_option row [];
@@ -45,7 +45,7 @@ settings-snoc before read =
     )
     refl
 
--- a line that tells nothing of the machine
+-- A line that gives no part of the machine description changes nothing.
 same : (settings : Settings) → with_told settings None None None ≡ settings
 same settings = λ i. record settings { topology = append-nil settings.topology i }
 
@@ -67,7 +67,7 @@ settings-line before (number, Ok line) = settings-snoc before (number, Ok line) 
     by s (asks.Table (Erst bytes)) = with-driver s (admitted_in (erst_of bytes))
     by s line = same s
 
--- a table of error sources leaves the lists that drive the record store
+-- A table of error sources leaves the lists that drive the record store.
 pub sources-leave : (settings : Settings) (bytes : List ℕ) → (settings_after settings (asks.Table (Hest bytes))).driver ≡ settings.driver
 sources-leave settings bytes = by (hest_of bytes)
   where

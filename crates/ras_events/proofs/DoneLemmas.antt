@@ -1,4 +1,4 @@
--- The lines of texts that follow one another, and how many of them say that an event is done.
+-- The lines of joined texts, and how many of them say that an event is done.
 use Rattle.std.proofs.Common.{◌≡◌, ℕ, ◌+◌, ◌<◌, ◌≤◌, ◌==◌, Bool, true, false, cond, List, [], ◌∷◌, ◌++◌, length, drop, get_or, codes, decimal, filter, flat_map, refl, sym, ap, ◌∙◌, arith, append_assoc, append-nil, length-append}
 use Rattle.std.specs.List.{AllByRecursion, slice_split, onto_first}
 use Rattle.std.proofs.lemmas.List.Elements.{filter-append}
@@ -12,7 +12,7 @@ use Rattle.ras_script.proofs.LineAndWordLemmas.{some_part, split_between, split_
 use Rattle.ras_script.proofs.ReaderLemmas.{lacks_both}
 use Rattle.ras_events.proofs.ByteLemmas.{lacks_from, decimal_lacks}
 
--- the parts of a text round line feeds
+-- the parts of a text between line feeds
 abbrev parts : List ℕ → List (List ℕ)
 parts text = slice_split (λ b. b == 10) text
 
@@ -124,7 +124,7 @@ none_done text part rest quiet is =
     let all : done_count (part ++ rest) ≡ 0 = ap done_count is ∙ whole in
     omega (arith, front_count part rest, all)
 
--- a beginning that isn't the whole stands before the last byte
+-- A beginning of a text that isn't the whole text is a beginning of the text without its last byte.
 pub before_last : (part rest xs : List ℕ) (x : ℕ) → part ++ rest ≡ xs ++ x ∷ [] → 1 ≤ length rest → (left : List ℕ) × (part ++ left ≡ xs)
 before_last [] rest xs x is some = (xs, refl)
 before_last (b ∷ part) rest [] x is some = absurd (omega (arith, ap length is, length-append part rest, some))

@@ -1,4 +1,4 @@
--- The text of an event is quiet: the lines of its entries, and those of the orders that they give.
+-- The text of an event is quiet: the lines of its entries, and the lines of the orders that they give.
 use Rattle.std.proofs.Common.{◌≡◌, ℕ, ◌==◌, Bool, true, false, if◌then◌else◌, List, [], ◌∷◌, ◌++◌, codes, decimal, length, All, count_by, flat_map, refl, subst}
 use Rattle.std.specs.List.{zip}
 use Rattle.std.proofs.lemmas.List.Elements.{All-nil, All-cons, All-head, All-tail, All-weaker}
@@ -96,7 +96,7 @@ unreadable_quiet id why =
     quiet_line (codes "unreadable record=" ++ encode_lower (to_be_bytes w64 id) ++ codes " reason=" ++ unreadable_word why)
     (simp (unbroken-append, hexadecimal_unbroken, reason_unbroken)) refl
 
--- the lines of pieces by whose entries an account is continued in turn
+-- The lines of pieces are quiet.
 text_quiet : (a : State) (pieces : List Piece) → All IsValidEntry (entries_in pieces) → AreQuietLines (text_along a pieces)
 text_quiet a [] all = quiet_none
 text_quiet a (Counted entry details ∷ pieces) all =

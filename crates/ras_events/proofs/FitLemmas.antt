@@ -1,4 +1,4 @@
--- What a line makes can be one link.
+-- The pieces of a line can be one link.
 use Rattle.std.proofs.Common.{◌≡◌, ◌==◌, ℕ, ◌+◌, ◌≤◌, nat_lt, Bool, true, false, List, [], ◌∷◌, ◌++◌, length, drop, Option, Some, None, Result, Ok, Err, IfSome, arith, length-append, length-take, length-drop, inr, ap, refl, subst, sym, if◌then◌else◌}
 use Rattle.std.specs.List.{concat, list_any, AllByRecursion}
 use Rattle.std.specs.Option.{option_map_or}
@@ -95,11 +95,11 @@ few_entries bytes = one (nat_lt (length bytes) BLOCK_HEADER_LENGTH)
     one true = omega arith
     one false = two (block_status bytes == 0)
 
--- a block has no more entries than bytes
+-- A block has no more entries than bytes.
 pub block_few : (bytes : List ℕ) (block : BlockParts) → Ok block ≡ block_of bytes → length block.entries ≤ length bytes
 block_few bytes block is = subst (λ (r : Result BlockParts BlockRefused). length (entries_got r) ≤ length bytes) (sym is) (few_entries bytes)
 
--- an entry that a line asks for is valid
+-- An entry that a line asks for is valid.
 pub asked_valid : (e : Entry) → IsEntryInRange e → IsValidEntry e
 asked_valid (entry.Fact fact) range = absurd range
 asked_valid (entry.Limit limit) range = range

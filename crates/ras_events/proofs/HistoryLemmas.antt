@@ -1,4 +1,4 @@
--- What an event makes, by the history that it is prepared for.
+-- The text and orders of an event, by the history that it is prepared for.
 use Rattle.std.proofs.Common.{◌≡◌, Bool, true, false, if◌then◌else◌, List, [], ◌∷◌, ◌++◌, refl, sym, ap, ◌∙◌, append_assoc, append-nil}
 use Rattle.std.specs.List.{flat_map}
 use Rattle.std.proofs.lemmas.List.Elements.{filter_map-append}
@@ -27,9 +27,9 @@ use Rattle.ras_events.specs.Preparing.{event_text_in, orders_along_entries, text
 use Rattle.ras_events.proofs.BesideLemmas.{after_if}
 use Rattle.ras_events.specs.Texts.{event_text, orders_of_entries, piece_text, pieces_text}
 
--- ---- the news alone
+-- ---- the new entries alone
 
--- the orders of an entry that is fresh or not
+-- the orders of an entry that is new or not
 abbrev orders_if : State → Entry → Bool → List Order
 orders_if a e b = if b then orders_along a (sightings_in a.limit a.module_limit e) else []
 
@@ -108,7 +108,7 @@ orders_by_history h es = orders_from h [] es
 pub account_by_history : (h : History) (es : List Entry) → account_after_all (account_of h) es ≡ account_of (with_entries h es)
 account_by_history h es = sym (account_of-entries h es)
 
--- the whole text of an event, with the orders of its news or of all its entries
+-- The whole text of an event is the same with the orders of its new entries and with the orders of all its entries.
 pub event_by_news : (a : State) (made : List Piece)
     → text_along a made ++ order_lines (account_after_all a (fresh_entries_in a (entries_in made))).modules (orders_along_entries a (fresh_entries_in a (entries_in made))) ≡ event_text_in a made
 event_by_news a made =

@@ -1,4 +1,4 @@
--- The lines and the news of an event, piece by piece.
+-- The lines and the new entries of an event, piece by piece.
 use Rattle.std.proofs.Common.{◌≡◌, ℕ, ◌+◌, Bool, if◌then◌else◌, List, [], ◌∷◌, ◌++◌, length, refl, sym, ap, subst, ◌∙◌, append_assoc, append-nil, arith}
 use Rattle.std.proofs.lemmas.List.Elements.{filter_map-append}
 use Rattle.cper_records.specs.declared.refusals.Unreadable.{Unreadable}
@@ -21,7 +21,7 @@ use Rattle.ras_events.specs.Making.{entries_in, entry_in}
 use Rattle.ras_events.specs.Preparing.{text_along}
 use Rattle.ras_events.proofs.BesideLemmas.{IsBeside, beside}
 
--- the lines of pieces with one more
+-- The lines of pieces with one more.
 text_along-snoc : (a : State) (taken : List Piece) (p : Piece)
     → text_along a (taken ++ p ∷ []) ≡ text_along a taken ++ text_along (account_after_all a (entries_in taken)) (p ∷ [])
 text_along-snoc a [] p = refl
@@ -33,7 +33,7 @@ text_along-snoc a (Unread id why ∷ taken) p =
     ap (λ text. unreadable_line id why ++ text) (text_along-snoc a taken p)
     ∙ sym (append_assoc (unreadable_line id why) (text_along a taken) (text_along (account_after_all a (entries_in taken)) (p ∷ [])))
 
--- what stays of pieces with one more: how many are left, and all of them
+-- The processed pieces and the pieces left are all pieces, also after one more piece.
 whole : (all taken left rest : List Piece) (p : Piece) → taken ++ left ≡ all → left ≡ p ∷ rest → taken ++ p ∷ rest ≡ all
 whole all taken left rest p pieces is = ap (λ ps. taken ++ ps) (sym is) ∙ pieces
 

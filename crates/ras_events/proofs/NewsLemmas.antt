@@ -1,4 +1,4 @@
--- The news of an event: its fresh entries add what all its entries add, and are as fit.
+-- The new entries of an event add what all its entries add, and can be one link if all can.
 use Rattle.std.proofs.Common.{◌≡◌, ℕ, ◌+◌, ◌≤◌, Bool, true, false, if◌then◌else◌, List, [], ◌∷◌, ◌++◌, length, All, refl, sym, ap, subst, ◌∙◌, length-append, arith}
 use Rattle.std.specs.List.{AllByRecursion, flat_map}
 use Rattle.std.proofs.lemmas.List.Elements.{All-from_recursion, recursion_from_All}
@@ -14,7 +14,7 @@ use Rattle.entry_format.specs.Spelling.{entry_bytes}
 use Rattle.journal_format.specs.Links.{payload_bytes}
 use Rattle.ras_events.proofs.BesideLemmas.{after_if}
 
--- the fresh entries of a list are all fresh at their places among themselves
+-- The new entries of a list are all new at their places among themselves.
 pub fresh_again : (a : State) (es : List Entry) → fresh_entries_in a (fresh_entries_in a es) ≡ fresh_entries_in a es
 fresh_again a [] = refl
 fresh_again a (e ∷ es) = by (is_fresh_in a e) refl (fresh_again (account_after a e) es)
@@ -26,13 +26,13 @@ fresh_again a (e ∷ es) = by (is_fresh_in a e) refl (fresh_again (account_after
         ap (λ c. if c then e ∷ fresh_entries_in (after_if a e c) fresh else fresh_entries_in a fresh) is ∙ ap (λ fs. e ∷ fs) ih
     by false is ih = ih
 
--- so are their numbers those of all
+-- The numbers of the new entries are the numbers of all entries.
 pub numbers_news : (a : State) (es : List Entry) → numbers_with a (fresh_entries_in a es) ≡ numbers_with a es
 numbers_news a es = ap (with_fresh_ones a) (fresh_again a es)
 
--- ---- some entries of a list
+-- ---- a part of a list's entries
 
--- a property of each entry
+-- A property of each entry is a property of each new entry.
 each_fresh : (P : Entry → Type 0) (a : State) (es : List Entry) → AllByRecursion P es → AllByRecursion P (fresh_entries_in a es)
 each_fresh P a [] all = tt
 each_fresh P a (e ∷ es) all = by (is_fresh_in a e) (each_fresh P (account_after a e) es all.1)

@@ -128,7 +128,7 @@ code_unbroken (Bus pp t rrrr ii ll filter) =
     (word_at level_words ll ∷ word_at participation_words pp ∷ word_at request_words rrrr ∷ word_at target_words ii ∷ word_at timeout_words t ∷ []) filter refl
     (rw (level_unbroken ll, participation_unbroken pp, request_unbroken rrrr, target_unbroken ii, timeout_unbroken t) refl)
 
--- ---- what is told of a bank
+-- ---- the texts of a bank
 
 threshold_unbroken : (threshold : Threshold) → is_unbroken (threshold_text threshold) ≡ true
 threshold_unbroken Untold = refl
@@ -157,7 +157,7 @@ flags_unbroken global = simp (unbroken-append, bit_unbroken)
 pub bank_unbroken : (bank : BankReport) → is_unbroken (bank_detail bank) ≡ true
 bank_unbroken bank = simp (unbroken-append, error_unbroken, flags_unbroken)
 
--- ---- what is told of sections
+-- ---- the texts of sections
 
 told_unbroken : (text : ℕ → List ℕ) → ((value : ℕ) → is_unbroken (text value) ≡ true) → (value : Option ℕ) → is_unbroken (told_text text value) ≡ true
 told_unbroken text all None = refl

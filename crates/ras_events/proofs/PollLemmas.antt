@@ -1,4 +1,4 @@
--- What a poll makes of the record of a panic.
+-- The piece that a poll makes from the record of a panic.
 use Rattle.std.proofs.Common.{◌≡◌, ◌∙◌, ℕ, ◌-◌, ◌==◌, ◌<◌, ◌^◌, true, IsTrue, List, [], ◌∷◌, length, replicate, unwrap_or, Option, None, Some, Result, Ok, refl, ap, arith}
 use Rattle.std.specs.Option.{option_and_then, option_map, option_map_or}
 use Rattle.std.proofs.lemmas.Bool.Decides.{nat_tests}
@@ -22,13 +22,13 @@ use Rattle.ras_facts.specs.Reports.{bank_report, record_report}
 use Rattle.ras_events.specs.declared.made.Piece.{Piece}
 use Rattle.ras_events.specs.Making.{made_by_report, piece_of, piece_of_report, polled}
 
--- a record of its own identifier
+-- A record that has the identifier under which it is stored is read.
 own_read : (id : ℕ) (own : List ℕ) → record_id own ≡ id → own_under id (Ok own) ≡ Ok own
 own_read id own is =
     let same : (record_id own == id) ≡ true = grind (arith, nat_tests) in
     rw same refl
 
--- the report of a bank whose snapshot holds an error, in place of another
+-- The report of a bank whose snapshot has an error takes precedence over another report.
 in_place : (bank : BankReport) (rows : List Row) (found : Fact) (other : Report) → Some found ≡ bank_fact bank rows
     → ◌≡◌ {A = List Piece} (piece_of_report (unwrap_or (bank_report bank rows) other) ∷ []) (option_map_or made_by_report (bank_report bank rows) [])
 in_place bank rows found other is = by (bank_fact bank rows) is

@@ -1,4 +1,4 @@
--- Texts of whole lines that follow one another.
+-- Joined texts of whole lines.
 use Rattle.std.proofs.Common.{◌≡◌, ℕ, true, false, List, [], ◌∷◌, ◌++◌, All, flat_map, sym, ◌∙◌, append-nil}
 use Rattle.std.specs.List.{AllByRecursion}
 use Rattle.std.proofs.lemmas.List.Concat.{flat_map-append}
@@ -40,7 +40,7 @@ each_lacks (line ∷ lines) all = (all.0.0, each_lacks lines all.1)
 pub lines_quiet : (text : List ℕ) → AreQuietLines text → AreLines text
 lines_quiet text quiet = record { lines = quiet.lines; each = each_lacks quiet.lines quiet.each; whole = quiet.whole }
 
--- ---- quiet ones
+-- ---- quiet lines
 
 pub quiet_none : AreQuietLines []
 quiet_none = record { lines = []; each = tt; whole = λ i. [] }
@@ -58,7 +58,7 @@ quiet_alone text lacks other = record { lines = text ∷ []; each = ((lacks, oth
 pub quiet_line : (text : List ℕ) → is_unbroken text ≡ true → is_done_line text ≡ false → AreQuietLines (line_with text)
 quiet_line text unbroken other = quiet_alone text (lacks_from text unbroken) other
 
--- the lines of each element of a list
+-- The lines of each element of a list are quiet.
 pub quiet_all : {X : Type 0} (line : X → List ℕ) → ((x : X) → AreQuietLines (line x)) → (xs : List X) → AreQuietLines (flat_map line xs)
 quiet_all line quiet [] = quiet_none
 quiet_all line quiet (x ∷ xs) = quiet_both (line x) (flat_map line xs) (quiet x) (quiet_all line quiet xs)

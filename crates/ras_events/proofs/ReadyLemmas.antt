@@ -1,4 +1,4 @@
--- An event that is prepared can be counted with no memory.
+-- A prepared event can be counted without allocating memory.
 use Rattle.std.proofs.Common.{◌≡◌, ℕ, Option, None, Some, IfSome, List, All, sym, ap, subst, ◌∙◌, arith}
 use Rattle.std.specs.Global.{Vec}
 use Rattle.std.specs.List.{sum_by}

@@ -1,4 +1,4 @@
--- A bank's report that is no news.
+-- A machine-check report that isn't new.
 use Rattle.std.proofs.Common.{◌≡◌, ◌∙◌, true, false, not, if◌then◌else◌, List, [], ◌∷◌, ◌++◌, Option, None, Some, Ok, IfSome, refl, sym, ap, subst, append-nil, arith}
 use Rattle.std.specs.Option.{option_map}
 use Rattle.ras_account.specs.Account.{State}
@@ -25,7 +25,7 @@ use Rattle.ras_events.specs.Making.{made_by_report}
 use Rattle.ras_events.specs.Repeats.{IsRepeat}
 use Rattle.ras_events.proofs.FitLemmas.{report_fits}
 
--- an account has room for nothing more
+-- An account has room for no more entries.
 room_for_none : (account : State) → IsAccount account → AreWithin (with_fresh_ones account [])
 room_for_none account is = record {
   names = omega (arith, is.within.names);
@@ -52,7 +52,7 @@ fact_repeats account settings bank fact is valid known within =
           ∙ ap (λ b. (if b then entry_lines report.details account (entry.Fact fact) else known_line account fact.name) ++ []) (sym stale);
     }
 
--- The report of a bank whose fact has this name.
+-- A bank's report whose fact has a known name is a repeat.
 pub bank_repeats : (account : State) (settings : Settings) (bank : BankReport) (name : Name)
     → Some name ≡ option_map (λ (fact : Fact). fact.name) (bank_fact bank settings.topology) → IfSome (bank_fact bank settings.topology) IsValidFact
     → knows account name ≡ true → IsAccount account

@@ -12,7 +12,7 @@ same_id a b is = grind (arith, nat_tests)
 pub same_bytes : (xs ys : List ℕ) → Some xs ≡ Some ys → xs ≡ ys
 same_bytes xs ys is = cc
 
--- a record that can't be read stays over a poll
+-- A poll leaves a record that can't be read.
 module _ (k : ℕ) (bytes : List ℕ) (not_read : is_ok (read_under k (filled bytes)) ≡ false) where
   pub unreadable-leaves : (rs : List Stored) → bytes_under k rs ≡ Some bytes → bytes_under k (unreadable rs) ≡ Some bytes
   unreadable-leaves [] found = found

@@ -1,4 +1,4 @@
--- The news of an event, counted in turn.
+-- The new entries of an event, counted in turn.
 use Rattle.std.proofs.Common.{◌≡◌, ℕ, ◌+◌, ◌≤◌, ◌*◌, Bool, true, false, if◌then◌else◌, Option, None, Some, option_to_list, List, [], ◌∷◌, ◌++◌, length, sym, ap, subst, ◌∙◌, append_assoc, length-append, arith}
 use Rattle.std.proofs.lemmas.List.{length-map}
 use Rattle.std.proofs.lemmas.List.Sums.{sum_by-cons}
@@ -49,7 +49,7 @@ few_orders a e = by (is_fresh_in a e)
 
 -- ---- entries in turn
 
--- what the first of entries needs
+-- what counting the first of some entries requires
 pub record CanTakeFirst (account : View) (orders : OrderList) (e : Entry) : Type 0 where
   pub valid : IsValidEntry e
   pub waits : WaitsFirst (added_by account.state (e ∷ [])) account.waiting

@@ -65,7 +65,7 @@ state_quiet page Hard = quiet_line (codes "order hard page=" ++ address_text pag
 module_quiet : (label : Bytes) → IsTrue (is_label_or_none label) → AreQuietLines (module_line label)
 module_quiet label is = quiet_line (codes "order module label=" ++ label_text label) (label_text_unbroken label is) refl
 
--- rows of modules whose labels are labels
+-- Whether the label of a module's row is a valid label or empty.
 abbrev pub HasLabel : Bytes × Module → Type 0
 HasLabel row = IsTrue (is_label_or_none row.0)
 
@@ -103,7 +103,7 @@ pub end_quiet : (a : State) → AreQuietLines (end_line a)
 end_quiet a =
     quiet_line (codes "end entries=" ++ decimal a.entries ++ codes " names=" ++ decimal (length a.names)) (simp (unbroken-append, decimal_unbroken)) refl
 
--- why a line was refused
+-- The line that gives the reason for a rejected line is quiet.
 pub refused_quiet : (line : ℕ) (reason : List ℕ) → Lacks 10 reason → AreQuietLines (line_with (codes "stop 2 line=" ++ decimal line ++ codes " reason=" ++ reason))
 refused_quiet line reason lacks =
     let told : is_unbroken reason ≡ true = unbroken_from reason lacks in

@@ -1,4 +1,4 @@
--- What the lines of a script tell of the machine, and what a line asks for under that.
+-- The machine description that a script's lines give, and what a line asks for under it.
 use Rattle.std.specs.Prelude.{ℕ, List, [], ◌∷◌, Option, None, Some, Result, Ok, Err}
 use Rattle.std.specs.List.{filter_map}
 use Rattle.apei_sources.specs.Hest.{Sources, hest_of}
@@ -19,7 +19,7 @@ use Rattle.ras_events.specs.Events.{Lists, admitted_in, event_of, settings_after
 abbrev pub NumberedLine : Type 0
 NumberedLine = ℕ × Result Line LineRefused
 
--- the row of the machine that a line gives, and the rows that lines give, in order
+-- the row of the machine description that a line gives, and the rows that lines give, in order
 abbrev pub row_by : NumberedLine → Option Row
 row_by (number, Ok (asks.Row row)) = Some row
 row_by read = None
@@ -41,7 +41,7 @@ abbrev pub driver_by : NumberedLine → Option Lists
 driver_by (number, Ok (asks.Table (Erst bytes))) = admitted_in (erst_of bytes)
 driver_by read = None
 
--- the last of a list
+-- the last item of a list
 abbrev pub last_of : {X : Type 0} → List X → Option X
 last_of [] = None
 last_of (x ∷ []) = Some x
@@ -56,12 +56,12 @@ settings_told reads = record {
   driver = last_of (filter_map driver_by reads);
 }
 
--- the machine description after a line; a line that can't be read changes nothing
+-- The machine description after a line. A line that can't be read changes nothing.
 abbrev pub settings_read : Settings → NumberedLine → Settings
 settings_read settings (number, Ok line) = settings_after settings line
 settings_read settings (number, Err refused) = settings
 
--- what a line asks for under a machine description, or why it is refused
+-- what a line asks for under a machine description, or why it is rejected
 abbrev pub event_read : Settings → NumberedLine → Result Event LineRefusal
 event_read settings (number, Ok line) = event_of settings line
 event_read settings (number, Err refused) = Err (Bad (reason.Line refused))

@@ -3,7 +3,7 @@ use Rattle.std.specs.Prelude.{ℕ, ◌==◌, Bool, List, codes, length, nat_eq, 
 use Rattle.std.specs.List.{slice_split, starts_with}
 use Rattle.ras_script.specs.Lines.{without_last}
 
--- the lines of a text that end with a line feed, each without it: bytes after the last line feed aren't a line
+-- The lines of a text that end with a line feed, each without it. Bytes after the last line feed aren't a line.
 abbrev pub ended_lines : List ℕ → List (List ℕ)
 ended_lines text = without_last (slice_split (λ b. b == 10) text)
 

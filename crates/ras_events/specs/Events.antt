@@ -1,4 +1,4 @@
--- What a line asks a run to do, given the machine description of the lines before it; or why it is refused.
+-- What a line asks a run to do, given the machine description of the lines before it; or why the line is rejected.
 use Rattle.std.specs.Prelude.{◌≡◌, ℕ, Bool, false, List, [], ◌∷◌, ◌++◌, take, Option, None, Some, is_some, Result, Ok, Err, if◌then◌else◌, ⊤}
 use Rattle.std.specs.Option.{option_map_or}
 use Rattle.ras_base.specs.Chaining.{◌>>=◌}
@@ -40,40 +40,40 @@ use Rattle.ras_events.specs.Making.{made_by_report, made_of_entry}
 abbrev pub no_settings : Settings
 no_settings = record { topology = []; sources = None; driver = None }
 
--- what was read, or the reason why the line is refused
+-- the value that was read, or the reason why the line is rejected
 abbrev pub or_reason : {A E : Type 0} → (E → Reason) → Result A E → Result A LineRefusal
 or_reason why (Ok x) = Ok x
 or_reason why (Err refused) = Err (Bad (why refused))
 
--- a row of the machine, which the rows before it accept or refuse
+-- the event of a row of the machine description, which the rows before it accept or reject
 abbrev pub row_event : List Row → Row → Result Event LineRefusal
 row_event rows row = option_map_or (λ why. Err (Bad (reason.Topology why))) (row_refusal rows row) (Ok Settled)
 
--- a table of error sources
+-- the event of a table of error sources
 abbrev pub hest_event : List ℕ → Result Event LineRefusal
 hest_event bytes = or_reason reason.Hest (hest_of bytes) >>= λ sources. Ok Settled
 
--- what is stored of a table that drives the record store: for each action the list of its entries
+-- the instruction lists of a table that drives the record store: for each action the list of its entries
 abbrev pub Lists : Type 0
 Lists = List (List InstructionEntry)
 
--- a table that drives the record store, if it is admitted
+-- the event of a table that drives the record store, if the table is admitted
 abbrev pub erst_event : List ℕ → Result Event LineRefusal
 erst_event bytes =
     or_reason reason.Erst (erst_of bytes) >>= λ lists. if is_admitted lists then Ok Settled else Err NoTable
 
--- an event that needs a table that drives the record store
+-- an event that needs a table that drives the record store, if there is one
 abbrev pub with_table : Option Lists → Event → Result Event LineRefusal
 with_table None event = Err NoTable
 with_table (Some lists) event = Ok event
 
--- why no panic record can be made of a bank's report under an identifier, if none can
+-- why a bank's report can't be a panic record under this identifier, if so
 abbrev pub panic_refusal : ℕ → BankReport → Option PanicRefused
 panic_refusal id bank =
     if is_reserved_identifier id then Some ReservedId
     else (if valid (status_in bank) then None else Some NotValid)
 
--- the report of a bank that is to be saved as a record, by the table that drives the store
+-- the event of a bank's report that is to be saved as a record, by the table that drives the store
 abbrev pub panic_event : Option Lists → ℕ → BankReport → Result Event LineRefusal
 panic_event driver id bank =
     option_map_or (λ why. Err (Bad (reason.Panic why))) (panic_refusal id bank)
@@ -83,7 +83,7 @@ panic_event driver id bank =
 abbrev pub counts_report : Option Report → Event
 counts_report report = Counted (option_map_or made_by_report report [])
 
--- a status block, which counts under a name and at a time
+-- the event of a status block, which is counted under a name and at a time
 abbrev pub block_event : List Row → Name → ℕ → List ℕ → Result Event LineRefusal
 block_event rows name seconds bytes =
     or_reason reason.Block (block_of bytes) >>= λ block. Ok (counts_report (block_report rows name seconds block))
@@ -92,8 +92,8 @@ block_event rows name seconds bytes =
 abbrev pub has_source : Option Sources → ℕ → Bool
 has_source sources id = option_map_or (λ listed. is_some (type_with_id id listed)) sources false
 
--- A report. A status block has to come from a source in the table. In a region of boot errors, the block has as many
--- bytes as its table says, or all bytes if there are fewer.
+-- The event of a report. A status block has to come from a source in the table. In a region of boot errors, the block
+-- has as many bytes as its table says, or all bytes if there are fewer.
 abbrev pub report_event : Settings → ErrorReport → Result Event LineRefusal
 report_event settings (Bank bank) = Ok (counts_report (bank_report bank settings.topology))
 report_event settings (Block boot seconds source number bytes) =
@@ -104,7 +104,7 @@ report_event settings (Boot boot seconds table region) =
     or_reason reason.Bert (bert_of table) >>= λ bert.
     block_event settings.topology (names.Boot boot) seconds (take bert.length region)
 
--- What a line asks for. Whether the record store accepts a put depends only on the store.
+-- The event of a line. Whether the record store accepts a put depends only on the store.
 abbrev pub event_of : Settings → Line → Result Event LineRefusal
 event_of settings (asks.Row row) = row_event settings.topology row
 event_of settings (asks.Table (Hest bytes)) = hest_event bytes
@@ -138,7 +138,7 @@ settings_after settings (asks.Table (Hest bytes)) = with_sources settings (hest_
 settings_after settings (asks.Table (Erst bytes)) = with_driver settings (admitted_in (erst_of bytes))
 settings_after settings line = settings
 
--- a call returns this, unless memory runs out
+-- A call returns this event or this refusal, unless memory runs out.
 abbrev pub AnswersEvent : Result Event EventRefused → Result Event LineRefusal → Type 0
 AnswersEvent (Ok event) asked = asked ≡ Ok event
 AnswersEvent (Err (Refused why)) asked = asked ≡ Err why

@@ -31,11 +31,11 @@ piece_of_report report = Counted (Fact report.fact) report.details
 abbrev pub made_by_report : Report → List Piece
 made_by_report report = piece_of_report report ∷ []
 
--- the piece that a poll makes of what it read under an identifier at this time, by the rows of the machine
+-- the piece that a poll makes from what it read under an identifier at this time, by the machine description
 abbrev pub piece_of : List Row → ℕ → ℕ → Result (List ℕ) Why → Piece
 piece_of rows seconds id (Ok own) = piece_of_report (stored_report rows seconds own)
 piece_of rows seconds id (Err why) = Unread id why
 
--- the pieces that a poll makes of the records of a store, in their order
+-- the pieces that a poll makes from the records of a store, in their order
 abbrev pub polled : List Row → ℕ → List Stored → List Piece
 polled rows seconds store = map (λ (r : Stored). piece_of rows seconds r.id (read_stored r)) store

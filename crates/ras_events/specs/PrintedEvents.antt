@@ -1,10 +1,10 @@
--- What is printed of events that are done one after the other.
+-- What events print that are done one after the other.
 use Rattle.std.specs.Prelude.{◌≡◌, ℕ, ◌≤◌, List, ◌++◌, flat_map, length, take}
 use Rattle.ras_texts.specs.Text.{done_line}
 use Rattle.ras_events.specs.DoneLines.{done_count}
 use Rattle.ras_events.specs.QuietLines.{AreQuietLines}
 
--- an event as it is printed: its lines, and then its done line
+-- A printed event: its lines, and then its done line.
 pub record PrintedEvent : Type 0 where
   pub text : List ℕ
   pub number : ℕ
@@ -15,11 +15,11 @@ printed_event event = event.text ++ done_line event.number
 abbrev pub printed_events : List PrintedEvent → List ℕ
 printed_events events = flat_map printed_event events
 
--- no line of an event but its last is a done line
+-- No line of an event is a done line, except the last.
 abbrev pub IsPrintedEvent : PrintedEvent → Type 0
 IsPrintedEvent event = AreQuietLines event.text
 
--- a text contains all that is printed of the first of these events, of as many as it has done lines
+-- A text starts with the whole output of the first n of these events, where n is its number of done lines.
 pub record HoldsFirst (events : List PrintedEvent) (text : List ℕ) : Type 0 where
   pub few : done_count text ≤ length events
   pub left : List ℕ

@@ -1,4 +1,4 @@
--- A line that reports nothing new, recognized before an event is made of it.
+-- A line that reports nothing new, recognized before its event is built.
 use Rattle.std.specs.Prelude.{◌≡◌, false, List, [], Some, Ok, ℕ}
 use Rattle.ras_account.specs.Account.{State}
 use Rattle.ras_account.specs.Continued.{is_fresh_in}
@@ -18,8 +18,8 @@ use Rattle.ras_events.specs.Making.{entries_in}
 use Rattle.ras_events.specs.Preparing.{text_along}
 use Rattle.ras_events.specs.Sizes.{IsFit}
 
--- A line reports entries none of which is new to an account, and this text is their lines. So it changes neither the
--- account nor the settings, and there is room for it.
+-- A line reports entries none of which is new to an account, and this text is their lines. So the line changes neither
+-- the account nor the settings, and there is room for it.
 pub record IsRepeat (account : State) (settings : Settings) (line : Line) (text : List ℕ) : Type 0 where
   pub made : List Piece
   pub asked : event_of settings line ≡ Ok (Counted made)
@@ -29,7 +29,7 @@ pub record IsRepeat (account : State) (settings : Settings) (line : Line) (text 
   pub room : HasRoomFor account (entries_in made)
   pub lines : text ≡ text_along account made
 
--- A line reports a bank's error that an account knows: its fact isn't new.
+-- A line reports a machine-check error that the account already knows.
 pub record IsKnownBank (account : State) (settings : Settings) (line : Line) : Type 0 where
   pub bank : BankReport
   pub fact : Fact

@@ -1,5 +1,5 @@
--- The text of an event: the lines of its pieces in order, each entry compared with the history at its own place, and
--- then the lines of the orders that these entries give.
+-- The text of an event: the lines of its pieces in order, each entry compared with the history up to it, and then the
+-- lines of the orders that these entries give.
 use Rattle.std.specs.Prelude.{ℕ, List, ◌++◌, if◌then◌else◌}
 use Rattle.std.specs.List.{flat_map}
 use Rattle.page_policy.specs.declared.rows.Order.{Order}
@@ -17,8 +17,8 @@ use Rattle.ras_events.specs.declared.made.Piece.{Piece}
 use Rattle.ras_events.specs.declared.made.Piece.TheVariants.{Counted, Unread}
 use Rattle.ras_events.specs.Making.{entries_in}
 
--- the lines of a piece after a history: of a new entry its lines, of another entry the line of a repeat, of a record
--- that can't be read its own line
+-- the lines of a piece after a history: for a new entry its lines, for another entry the line of a repeat, for an
+-- unreadable record the line that says so
 abbrev pub piece_text : History → Piece → List ℕ
 piece_text history (Counted entry details) =
     if is_fresh_behind history entry

@@ -25,8 +25,8 @@ pub(crate) struct TextAndNews {
     pub(crate) news: Vec<Entry>,
 }
 
-/// Returns the lines of an event's pieces, in order, and its new entries, which then wait in the
-/// account. The other entries are dropped.
+/// Returns the lines of an event's pieces, in order, and its new entries, for which the account has
+/// then reserved memory. The other entries are dropped.
 ///
 /// # Errors
 ///
@@ -67,9 +67,9 @@ pub(crate) fn text_and_news(
     Ok(TextAndNews { text, news })
 }
 
-// Adds the lines of an entry, after the lines of the earlier entries of its event: of a new entry
-// all its lines, otherwise only its `repeat` or `stale` line. A new entry is added after the
-// earlier new entries.
+// Appends the lines of an entry, after the lines of the earlier entries of its event: all its lines
+// if the entry is new, otherwise only its `repeat` or `stale` line. A new entry is also appended to
+// the new entries.
 fn push_counted(
     account: &Account,
     is_news: bool,

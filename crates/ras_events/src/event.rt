@@ -17,7 +17,7 @@ pub enum Event {
     Settled,
     /// Pieces to be counted: their new entries.
     Counted(Made),
-    /// Put a record into the record store from outside, under an identifier.
+    /// Put a record into the record store under an identifier.
     Put { id: u64, bytes: Text },
     /// Write a panic record into the record store, under an identifier, by the table that drives
     /// the store.
@@ -25,11 +25,11 @@ pub enum Event {
     /// Count the records of the record store, as read at a time in seconds, by the table that
     /// drives the store.
     Polled { seconds: u64 },
-    /// Make the account again from its files.
+    /// Recover the account from its files again.
     Reopened,
 }
 
-/// Why a line is refused for what it asks for.
+/// Why a line's event is rejected.
 #[derive(Clone, Copy, Debug, Error, PartialEq, Eq)]
 pub enum LineRefusal {
     /// The line's request is invalid, for this reason.
@@ -44,7 +44,7 @@ pub enum LineRefusal {
 /// Why a line gives no event.
 #[derive(Clone, Copy, Debug, Error, PartialEq, Eq)]
 pub enum EventRefused {
-    /// The line is refused.
+    /// The line is rejected.
     #[error("{0}")]
     Refused(LineRefusal),
     /// Memory ran out.

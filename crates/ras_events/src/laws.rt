@@ -1,4 +1,4 @@
-//! What an event does, by the history of its account, in words that don't follow its definitions.
+//! What an event does to the account of a history, stated without the event's own definitions.
 
 ghost use Rattle.std.specs.Prelude.{◌≡◌, ◌<◌, ◌^◌, ℕ, List, [], ◌∷◌, ◌++◌, Ok, Some, IsTrue, IsFalse};
 ghost use Rattle.std.specs.Option.{option_map_or};
@@ -28,22 +28,22 @@ ghost use Rattle.ras_events.specs.Stores.{unreadable};
 ghost use Rattle.ras_events.specs.Preparing.{event_text_in, orders_along_entries, text_along};
 ghost use Rattle.ras_events.specs.Texts.{event_text, orders_of_entries, pieces_text};
 
-/// What holds of events.
+/// The laws of events.
 pub fn event_laws()
-    // The new entries by themselves count what all entries count, and give the same orders.
+    // The new entries alone change the account as all entries do, and give the same orders.
     ensures news { (a : State) (entries : List Entry)
         → account_after_all a (fresh_entries_in a entries) ≡ account_after_all a entries }
     ensures news_orders { (a : State) (entries : List Entry)
         → orders_along_entries a (fresh_entries_in a entries) ≡ orders_along_entries a entries }
 
-    // In the account of a history the new entries are the ones that are new at their places in the
-    // history.
+    // In the account of a history the new entries are the entries that are new at their places in
+    // the history.
     ensures fresh { (history : History) (entries : List Entry)
         → fresh_entries (with_entries history entries)
         ≡ fresh_entries history ++ fresh_entries_in (account_of history) entries }
 
-    // The account after entries, their lines and their orders are those of the history with each
-    // entry at its place.
+    // The account after entries, their lines and their orders are the account, lines and orders of
+    // the history, with each entry at its place.
     ensures account { (history : History) (entries : List Entry)
         → account_after_all (account_of history) entries
         ≡ account_of (with_entries history entries) }
@@ -52,8 +52,8 @@ pub fn event_laws()
     ensures orders { (history : History) (entries : List Entry)
         → orders_along_entries (account_of history) entries ≡ orders_of_entries history entries }
 
-    // What is prepared of an event, followed by the lines of the orders that its new entries give
-    // when they are counted, is the event's text. The text by a history is the text by the
+    // The prepared text of an event, followed by the lines of the orders that its new entries give
+    // when they are counted, is the event's text. The text for a history is the text for the
     // history's account.
     ensures prepared { (a : State) (made : List Piece)
         → text_along a made
@@ -64,14 +64,14 @@ pub fn event_laws()
         → event_text_in (account_of history) made ≡ event_text history made }
 {}
 
-/// What holds of the machine description: what each line says of the machine applies from the next
-/// line on, so after lines it is what all of them tell.
+/// The laws of the machine description: each line's part of it applies from the next line on, so
+/// the settings after lines are what all of them give.
 pub fn settings_laws()
     ensures told { (reads : List NumberedLine)
         → fold settings_read no_settings reads ≡ settings_told reads }
 {}
 
-/// What holds of the record store.
+/// The laws of the record store.
 pub fn store_laws()
     // A poll leaves bytes that can't be read under their identifier.
     ensures unread { (id : ℕ) (bytes : List ℕ) (store : List Stored)
@@ -79,9 +79,9 @@ pub fn store_laws()
         → bytes_under id store ≡ Some bytes → bytes_under id (unreadable store) ≡ Some bytes }
 {}
 
-/// What holds of polls.
+/// The laws of polls.
 pub fn poll_laws()
-    // The record of a panic gives the same piece as the report of its bank: an error that is
+    // The record of a panic gives the same piece as its machine-check report: an error that is
     // reported by both has one name, and the same lines.
     ensures panic { (rows : List Row) (seconds id : ℕ) (bank : BankReport) → id < 2 ^ 64
         → FitsFields bank → IsTrue (valid (status_in bank))

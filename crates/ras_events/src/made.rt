@@ -93,7 +93,7 @@ impl Made {
         self.push(Piece::Unread { id, why })
     }
 
-    // One piece, with room for no other.
+    // Returns one piece, without room for others.
     fn one(alloc: Global, piece: Piece) -> Result<Made, NoMemory>
         ensures { IfOk result (λ made. made ≡ piece ∷ []) }
     {
@@ -101,14 +101,14 @@ impl Made {
         Ok(Made { pieces })
     }
 
-    // The pieces, in order.
+    // Returns the pieces, in order.
     pub(crate) fn into_pieces(self) -> Vec<Piece>
         ensures { result.items ≡ self }
     {
         self.pieces
     }
 
-    // Puts a piece after the others.
+    // Appends a piece.
     fn push(&mut self, piece: Piece) -> Result<(), NoMemory>
         ensures { OnOk result (self.new ≡ self.old ++ piece ∷ []) }
     {
@@ -117,7 +117,7 @@ impl Made {
     }
 }
 
-// The piece of a report: its fact, and the details of its items.
+// Returns the piece of a report: its fact, and the details of its items.
 fn piece_of_report(report: Report) -> Piece
     ensures { result ≡ piece_of_report report }
 {

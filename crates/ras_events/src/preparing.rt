@@ -1,5 +1,4 @@
-//! Preparing an event that counts entries: everything that allocates memory, before anything is
-//! done.
+//! Prepares an event that counts entries: allocates everything, before anything is done.
 
 ghost use Rattle.std.specs.Prelude.{◌≡◌, ◌+◌, ◌*◌, ◌≤◌, ◌++◌, length, All, Err, IfOk, IfSome, OnOk};
 ghost use Rattle.std.specs.List.{sum_by};
@@ -111,7 +110,7 @@ fn link_told(alloc: Global, number: u64, told: TextAndNews) -> Result<Prepared, 
     Ok(Prepared { news, text, done })
 }
 
-// The most orders that the entries of a link can give.
+// Returns the most orders that the entries of a link can give.
 fn orders_len(entries: &[Entry]) -> usize
     requires few { length entries.now ≤ MOST_LINK_ENTRIES }
     requires valid { All IsValidEntry entries.now }
@@ -125,8 +124,8 @@ fn orders_len(entries: &[Entry]) -> usize
     total
 }
 
-// The new entries with their encoded link and room for `orders` orders, or `None` if there are no
-// new entries.
+// Returns the new entries with their encoded link and room for `orders` orders, or `None` if there
+// are no new entries.
 fn link_news(alloc: Global, entries: Vec<Entry>, orders: usize) -> Result<Option<News>, NoMemory>
     requires few { length entries.items ≤ MOST_LINK_ENTRIES }
     requires valid { All IsValidEntry entries.items }

@@ -1,4 +1,4 @@
-//! What is printed besides done lines.
+//! Events print no done line except their own.
 
 ghost use Rattle.ras_account.specs.Account.{State, account_of};
 ghost use Rattle.ras_account.specs.Accounts.{IsAccount};
@@ -11,13 +11,13 @@ ghost use Rattle.ras_events.specs.Sizes.{IsFit};
 ghost use Rattle.ras_events.specs.Texts.{event_text};
 ghost use Rattle.ras_events.specs.QuietLines.{AreQuietLines};
 
-/// What holds of printed texts.
+/// The laws of printed texts.
 pub fn printed_lines_are_quiet()
-    // No line of an event's text is a done line, whatever the event makes that can be counted.
+    // No line of an event's text is a done line, if its entries can be one link.
     ensures event { (history : History) (made : List Piece) → IsAccount (account_of history)
         → IsFit made → AreQuietLines (event_text history made) }
 
-    // Neither is a line of an account's orders, or the line that a whole run ends with.
+    // No line of an account's orders is a done line, and the last line of a whole run isn't either.
     ensures standing { (account : State) → IsAccount account
         → AreQuietLines (standing_lines account) }
     ensures end { (account : State) → AreQuietLines (end_line account) }

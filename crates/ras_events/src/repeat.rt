@@ -1,4 +1,4 @@
-//! Repeated reports, of which only a line is printed.
+//! Repeated reports, for which only a line is printed.
 
 ghost use Rattle.std.specs.Prelude.{◌≡◌, IfNone, IfSome, IsSome};
 ghost use Rattle.ras_facts.specs.declared.bank.BankReport.{BankReport};
@@ -13,12 +13,12 @@ use ras_facts::{BankReport, Name, name_of_bank};
 use ras_script::{ErrorReport, Line};
 
 impl Settings {
-    /// Returns the name of a machine-check report that is already counted or of a retired boot. It
-    /// is the name in the line that is printed of the report. `None` for every other line, although
-    /// that line too may report nothing new.
+    /// Returns the name in the line that is printed for a machine-check report, if the name is
+    /// already counted or of a retired boot. `None` for every other line, although that line too
+    /// may report nothing new.
     ///
-    /// Most reports of a failing module are repeats, so this is asked before an event is made of
-    /// the line. Allocates nothing.
+    /// Most reports of a failing module are repeats, so the caller checks this before the line's
+    /// event is built. Allocates nothing.
     pub fn repeat_of(&self, line: &Line, account: &Account) -> Option<Name>
         ensures repeats { IfSome result (λ name. IsRepeat account.now.state self.now line.now
             (known_line account.now.state name)) }
@@ -35,7 +35,7 @@ impl Settings {
     }
 }
 
-// The snapshot of a bank that a line reports, if it reports one.
+// Returns the machine-check report of a line, if the line is one.
 fn bank_in(line: &Line) -> Option<&BankReport>
     ensures bank { IfSome result (λ bank.
         line.now ≡ LineFor.Report (ErrorReportFor.Bank bank.now)) }

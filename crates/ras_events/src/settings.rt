@@ -29,7 +29,7 @@ use ras_script::{ErrorReport, Line, Table};
 use std::alloc::Global;
 
 /// The machine description so far: the rows of the topology, the error sources of the last table
-/// that lists them, and the driver of the record store, by the last table that was admitted.
+/// that lists them, and the driver of the record store, by the last admitted table.
 #[derive(Drop)]
 pub struct Settings {
     pub topology: Topology,
@@ -82,7 +82,7 @@ impl Settings {
         }
     }
 
-    // Takes a row of the machine.
+    // Appends a row to the machine description.
     fn take_row(&mut self, row: Row) -> Result<Event, EventRefused>
         requires { IsRowInRange row }
         ensures event { AnswersEvent result (row_event self.old.topology row) }
@@ -98,7 +98,7 @@ impl Settings {
         }
     }
 
-    // Takes a table of error sources.
+    // Replaces the table of error sources.
     fn take_sources(&mut self, alloc: Global, bytes: &[u8]) -> Result<Event, EventRefused>
         ensures event { AnswersEvent result (hest_event bytes.now) }
         ensures settings { OnOk result (self.new ≡ with_sources self.old (hest_of bytes.now)) }
@@ -115,7 +115,7 @@ impl Settings {
         }
     }
 
-    // Takes a table that drives the record store, if it is admitted.
+    // Replaces the table that drives the record store, if the new table is admitted.
     fn take_driver(&mut self, alloc: Global, bytes: &[u8]) -> Result<Event, EventRefused>
         ensures event { AnswersEvent result (erst_event bytes.now) }
         ensures settings { OnOk result
@@ -136,7 +136,7 @@ impl Settings {
         }
     }
 
-    // The event of a bank's report that is to be saved as a record under an identifier.
+    // Returns the event of a bank's report that is to be saved as a record under an identifier.
     fn event_of_panic(&self, id: u64, bank: &BankReport) -> Result<Event, EventRefused>
         ensures event { AnswersEvent result (panic_event self.now.driver id bank.now) }
         ensures fit { IfOk result IsFitEvent }
@@ -147,7 +147,7 @@ impl Settings {
         }
     }
 
-    // The event of a panic record that is to be saved under its identifier.
+    // Returns the event of a panic record that is to be saved under its identifier.
     fn event_of_record(&self, id: u64, bytes: &[u8; 456]) -> Result<Event, EventRefused>
         requires told { record_length bytes.now ≡ 456 }
         requires named { record_id bytes.now ≡ id }
@@ -158,7 +158,7 @@ impl Settings {
         self.event_by_driver(Event::Saved { id, bytes: *bytes })
     }
 
-    // An event that needs a driver of the record store.
+    // Returns an event that needs a driver of the record store, if there is one.
     fn event_by_driver(&self, event: Event) -> Result<Event, EventRefused>
         requires { IsFitEvent event }
         ensures event { AnswersEvent result (with_table self.now.driver event) }
@@ -170,7 +170,7 @@ impl Settings {
         }
     }
 
-    // The event of a report.
+    // Returns the event of a report.
     fn event_of_report(&self, alloc: Global, report: &ErrorReport) -> Result<Event, EventRefused>
         requires range { IsReportInRange report.now }
         requires short { IsShortReport report.now }
@@ -221,7 +221,7 @@ impl Settings {
         }
     }
 
-    // Whether a table of error sources was read, and lists this identifier.
+    // Returns whether a table of error sources was read, and lists this identifier.
     fn has_source(&self, id: u16) -> bool
         ensures { result ≡ has_source self.now.sources id }
     {
@@ -231,7 +231,7 @@ impl Settings {
         }
     }
 
-    // The event of a status block, which counts under a name and at a time.
+    // Returns the event of a status block, which is counted under a name and at a time.
     fn event_of_block(
         &self,
         alloc: Global,

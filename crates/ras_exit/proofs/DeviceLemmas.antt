@@ -1,5 +1,4 @@
--- That prints leave the device alone, also if a stop before might have left something else than the
--- board tells.
+-- Prints don't change the device, even if a crash before might have left something other than the board's model says.
 use Rattle.std.proofs.Common.{◌≡◌, ℕ, List, Option, None, Some, ap, refl, sym, ◌∙◌}
 use Rattle.erst_store.specs.Store.{Stored}
 use Rattle.board_core.specs.Clock.{After, Clock, IsStored, Passes}
@@ -42,12 +41,12 @@ device_goes_on (Some t) (Some m) (Some n) a b c one two = (
       }),
 )
 
--- what is told by a step is so related
+-- If a step changes the model, the models before and after are related by it.
 pub steps_relate : (step : Told → Told) (told new : Option Told) → Steps step told new → Relates (λ old now. now ≡ step old) told new
 steps_relate step None new steps = steps
 steps_relate step (Some t) new steps = rw steps refl
 
--- calls of which is known what they tell, and that stops leave the store, if one before did
+-- Calls whose effect on the model is known, after which a crash leaves the model's store if a crash before did.
 pub device_by : (P : Told → Told → Type 0) (told new : Option Told) (a b : Clock) → ((u v : Told) → P u v → KeepsDevice u v) → Relates P told new
     → ((t : Told) → told ≡ Some t → IsStored t.here.store a → LeavesStore t.here.store a b) → LeavesDevice told new a b
 device_by P None new a b keeps told leaves = tt

@@ -18,7 +18,7 @@ answer_or_cut exit = by (is_answer exit) refl
 pub not_both : (exit : Exit) → IsCut exit → IsAnswer exit → ⊥
 not_both exit cut answer = cc
 
--- what holds anyway
+-- A statement that holds for every ending.
 pub on_answer : (exit : Exit) (P : Type 0) → P → OnAnswer exit P
 on_answer exit P holds = by (ending_of exit)
   where
@@ -40,7 +40,7 @@ on_whole exit P holds = by (ending_of exit)
     by (faulted kind) = tt
     by ending = holds
 
--- what holds at an answer
+-- A statement that holds if the call came to its end or to a refusal.
 pub at_answer : (exit : Exit) (P : Type 0) → IsAnswer exit → OnWhole exit P → P
 at_answer exit P answer holds = by (ending_of exit) answer holds
   where

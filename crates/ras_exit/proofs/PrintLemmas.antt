@@ -1,4 +1,4 @@
--- What a print does, told by each of its sides.
+-- What a print does, from each of its two sides.
 use Rattle.std.proofs.Common.{◌≡◌, ℕ, ◌==◌, true, false, List, [], ◌∷◌, ◌++◌, length, Option, None, Some, Result, Ok, Err, OnOk, OnErr, IfErr, refl, sym, ap, subst, append-nil, inl, inr, arith}
 use Rattle.std.proofs.lemmas.Bool.Decides.{nat_tests}
 use Rattle.board_core.specs.Cause.{Faults, Kind, print_call}
@@ -20,7 +20,7 @@ pub nothing_printed : {X : Type 0} (see : X → Seen) (text : List ℕ) (x : X) 
 nothing_printed see [] x none = does_nothing see x
 nothing_printed see (b ∷ text) x none = absurd (grind (arith, nat_tests))
 
--- where there is no text, a beginning of it is nothing, and so is all of it
+-- Of an empty text the only beginning is the empty text, which is also all of it.
 pub nothing_of : (text : List ℕ) (clock : Clock) → (length text == 0) ≡ true → (left : Left) → LeftNow clock left → After clock (InOut (λ old new. new ≡ old ++ text)) left
 nothing_of [] clock none left now = record { from = left; was = now; by = record { text = left.out; step = sym (append-nil left.out); rest = refl } }
 nothing_of (b ∷ text) clock none left now = absurd (grind (arith, nat_tests))
@@ -82,13 +82,13 @@ module _ {X T : Type 0} (see : X → Seen) (text : List ℕ) (result : Result T 
 
 -- ---- how it ends
 
--- a part that can only fail to print
+-- A part that can fail only by printing.
 pub as_part : {X T : Type 0} (see : X → Seen) (acts : List Act) (result : Result T Exit) (a b : X) → OnErr result (result ≡ Err PrintFault)
     → Does see acts (one_end print_call result) a b → Does see acts (part_end result) a b
 as_part see acts (Ok done) a b exit does = does
 as_part {X} {T} see acts (Err why) a b exit does = subst (λ (r : Result T Exit). Does see acts (part_end r) a b) (sym exit) does
 
--- what it does to the counts of faults
+-- What a part does to the counts of faults.
 pub part_causes : {X T : Type 0} (see : X → Seen) (acts : List Act) (result : Result T Exit) (a b : X) → Does see acts (part_end result) a b
     → Causes {C = Faults} BoardCause result (see a).faults (see b).faults
 part_causes see acts (Ok done) a b does = does.faults
@@ -100,11 +100,11 @@ part_causes see acts (Err exit) a b does = by (ending_of exit) does
     by source_failed same = ap (λ x. (see x).faults) same
     by (faulted kind) d = d.faults
 
--- no acts leave all as it is
+-- An empty list of acts changes nothing.
 pub none_still : (t : Told) → AreStill [] t
 none_still t = record { here = refl; moments = λ left never. absurd never }
 
--- a part that is refused only if it has no acts
+-- A part that is refused only if it has no acts.
 pub part_does : {X T : Type 0} (see : X → Seen) (acts : List Act) (result : Result T Exit) (a b : X) → IfErr result (λ exit. ending_of exit ≡ answered → acts ≡ [])
     → Does see acts (part_end result) a b → DoesBy see acts (ended_with result) a b
 part_does see acts (Ok done) a b none does = does

@@ -6,7 +6,7 @@ use Rattle.board_core.specs.Told.{Told}
 use Rattle.ras_exit.specs.declared.exit.Exit.{Exit}
 use Rattle.ras_exit.specs.Endings.{CallEnding, answered, ending_of, faulted}
 
--- a text is printed by one call, an empty text by none
+-- A text is printed by one call, an empty text by no call.
 abbrev pub print_acts : List ℕ → List Act
 print_acts [] = []
 print_acts (byte ∷ bytes) = prints (byte ∷ bytes) ∷ []

@@ -21,6 +21,6 @@ BoardCauseBy ending before now = now ≡ before
 abbrev pub BoardCause : Exit → Faults → Faults → Type 0
 BoardCause exit before now = BoardCauseBy (ending_of exit) before now
 
--- the cause of a part of a run; the run may go on after it, with unchanged counts
+-- The cause of a part of a run. If the part succeeds, the run continues with unchanged counts.
 abbrev pub Causes : {C T : Type 0} → (Exit → C → C → Type 0) → Result T Exit → C → C → Type 0
 Causes Cause result before now = MatchResult result (λ _. now ≡ before) (λ exit. Cause exit before now)

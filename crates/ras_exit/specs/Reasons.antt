@@ -1,4 +1,4 @@
--- The word and the number by which the reason is printed why a line is refused.
+-- The word and the number that are printed as the reason why a line is rejected.
 use Rattle.std.specs.Prelude.{ℕ, List, [], ◌++◌, Option, None, Some, codes, decimal}
 use Rattle.std.specs.Option.{option_map_or}
 use Rattle.apei_sources.specs.Refusals.{block_number, table_number}
@@ -12,7 +12,7 @@ use Rattle.ras_script.specs.Refusals.{line_number}
 use Rattle.ras_exit.specs.declared.reason.Reason.{Reason}
 use Rattle.ras_exit.specs.declared.reason.Reason.TheVariants.{Line, LongLine, Topology, Hest, Bert, Block, Source, Erst, Put, Panic}
 
--- the word for the reader that refuses
+-- the word for the reader that rejects the line
 abbrev pub reason_word : Reason → List ℕ
 reason_word (Line why) = codes "line"
 reason_word LongLine = codes "line"
@@ -25,7 +25,8 @@ reason_word (Erst why) = codes "erst"
 reason_word (Put why) = codes "put"
 reason_word (Panic why) = codes "panic"
 
--- the numbers of refusals by the record store, and of refusals to make a panic record; running out of memory has none
+-- The numbers of refusals by the record store, and of refusals to make a panic record. Running out of memory has no
+-- number.
 abbrev pub put_number : PutRefused → Option ℕ
 put_number put.ReservedId = Some 1
 put_number put.TooLong = Some 2
@@ -36,7 +37,7 @@ abbrev pub panic_number : PanicRefused → ℕ
 panic_number panics.ReservedId = 1
 panic_number panics.NotValid = 2
 
--- the number that the reader gives its refusal, if it gives one
+-- the number of the refusal, if the reader gives one
 abbrev pub reason_number : Reason → Option ℕ
 reason_number (Line why) = line_number why
 reason_number LongLine = Some 5

@@ -5,7 +5,7 @@ use Rattle.ras_exit.specs.Reasons.{reason_text}
 use Rattle.ras_exit.specs.declared.exit.Exit.{Exit}
 use Rattle.ras_exit.specs.declared.exit.Exit.TheVariants.{Done, Usage, BadLine, SourceFault, DiskFault, RegisterFault, PrintFault, Damaged, Full, ErstRefused, ErstBusy, ErstStatus, NoMemory, TooLong}
 
--- the `stop` line of a refused run; an exit that isn't a refusal has none
+-- The `stop` line of a refused run. An exit that isn't a refusal has no line.
 abbrev pub stop_line : Exit → List ℕ
 stop_line Done = []
 stop_line Usage = codes "stop 1 usage\n"

@@ -9,11 +9,11 @@ use ras_script::LineRefused;
 /// How a call ends.
 #[derive(Clone, Copy, Debug, PartialEq, Eq)]
 pub enum Exit {
-    /// The call came to its end.
+    /// The call completed.
     Done,
     /// The arguments aren't a command.
     Usage,
-    /// A line is refused: its number, from 1, and why.
+    /// A line is rejected: its number, from 1, and why.
     BadLine { line: u64, reason: Reason },
     /// Reading the source failed.
     SourceFault,
@@ -91,7 +91,7 @@ impl Exit {
         )
     }
 
-    /// Returns how a run ends whose line of this number can't be read.
+    /// Returns how a run ends if its line of this number can't be read.
     pub fn of_unread(line: u64, refused: LineRefused) -> Exit
         ensures { result ≡ unread_exit line refused }
     {

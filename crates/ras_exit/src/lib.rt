@@ -1,5 +1,5 @@
 //! How a call of the daemon ends: its exits with their numbers and last lines, why a line of a
-//! script is refused, and how a text is printed.
+//! script is rejected, and how a text is printed.
 #![tactic(auto)]
 
 mod exit;

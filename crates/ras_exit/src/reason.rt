@@ -1,4 +1,4 @@
-//! Why a line of a script is refused.
+//! Why a line of a script is rejected.
 
 ghost use Rattle.std.specs.Prelude.{◌≡◌};
 ghost use Rattle.ras_exit.specs.Reasons.{panic_number, put_number, reason_number, reason_word};
@@ -11,8 +11,8 @@ use ras_panic::PanicRefused;
 use ras_script::LineRefused;
 use thiserror::Error;
 
-/// Why a line of a script is refused: by the reader of lines, or by what the line asks for. Running
-/// out of memory isn't one of these reasons.
+/// Why a line of a script is rejected: by the reader of lines, or because of what the line asks
+/// for. Running out of memory isn't one of these reasons.
 #[derive(Clone, Copy, Debug, Error, PartialEq, Eq)]
 pub enum Reason {
     /// The line can't be read.
@@ -21,7 +21,7 @@ pub enum Reason {
     /// The line has more bytes than a line may have, so it wasn't read.
     #[error("the line has more than 40,000 bytes")]
     LongLine,
-    /// The machine description doesn't take the line's row.
+    /// The machine description rejects the line's row.
     #[error("the machine doesn't take the row: {0}")]
     Topology(TopologyRefused),
     /// The line's table of error sources can't be read.
@@ -48,7 +48,7 @@ pub enum Reason {
 }
 
 impl Reason {
-    /// Returns the word by which the reason is printed: which reader refuses.
+    /// Returns the word of the reason that is printed: which reader rejects the line.
     pub fn word(self) -> &'static [u8]
         ensures { result.now ≡ reason_word self }
     {
@@ -65,7 +65,7 @@ impl Reason {
         }
     }
 
-    /// Returns the number that the reader gives its refusal, or `None` if it gives none.
+    /// Returns the number of the refusal, or `None` if the reader gives no number.
     pub fn number(self) -> Option<u8>
         ensures { result ≡ reason_number self }
     {
@@ -83,7 +83,7 @@ impl Reason {
     }
 }
 
-// The number of a refusal by the record store. Running out of memory has none.
+// Returns the number of a refusal by the record store. Running out of memory has no number.
 fn put_number(refused: PutRefused) -> Option<u8>
     ensures { result ≡ put_number refused }
 {
@@ -95,7 +95,7 @@ fn put_number(refused: PutRefused) -> Option<u8>
     }
 }
 
-// The number of a refusal to make a panic record.
+// Returns the number of a refusal to make a panic record.
 fn panic_number(refused: PanicRefused) -> u8
     ensures { result ≡ panic_number refused }
 {

@@ -57,21 +57,21 @@ pub fn stop_line(alloc: Global, exit: Exit) -> Result<Vec<u8>, NoMemory>
     Ok(text)
 }
 
-/// Returns the line that a call ends with whose arguments aren't a command. Allocates nothing.
+/// Returns the line that a call ends with if its arguments aren't a command. Allocates nothing.
 pub fn usage_line() -> &'static [u8]
     ensures { result.now ≡ stop_line Exit.Usage }
 {
     b"stop 1 usage\n"
 }
 
-/// Returns the line that a run ends with whose device was busy for too long. Allocates nothing.
+/// Returns the line that a run ends with if its device was busy for too long. Allocates nothing.
 pub fn busy_line() -> &'static [u8]
     ensures { result.now ≡ stop_line Exit.ErstBusy }
 {
     b"stop 10 busy\n"
 }
 
-// Adds the reason why a line is refused.
+// Appends the reason why a line is rejected.
 fn push_reason(text: &mut Vec<u8>, reason: Reason) -> Result<(), NoMemory>
     ensures { OnOk result (text.new.items ≡ text.old.items ++ reason_text reason) }
 {

@@ -24,7 +24,7 @@ use Rattle.ras_facts.specs.Facts.{bank_fact, bank_item, bank_name, cap_in, misc_
 use Rattle.ras_facts.specs.Valid.{IsPage, IsValidFact, IsValidItem, IsValidName}
 use Rattle.ras_facts.specs.declared.bank.BankReport.{BankReport}
 
--- an address of 64 bits lies in one of the pages
+-- An address of 64 bits is in one of the pages.
 page_within : (cap : Cap) (status : Status) (address : ℕ) (misc : Misc) → address < 2 ^ 64 → IfSome (usable_page_of cap status address misc) IsPage
 page_within cap status address misc below = by (has_usable_address cap status misc)
   where
@@ -32,7 +32,7 @@ page_within cap status address misc below = by (has_usable_address cap status mi
     by false = tt
     by true = omega (arith, below, shr_split address (least_bit misc))
 
--- a report stands for 1 to 32,767 errors
+-- A report counts for 1 to 32,767 errors.
 record IsInField (weight : ℕ) : Type 0 where
   pub some : 1 ≤ weight
   pub most : weight ≤ 32767
@@ -51,7 +51,7 @@ weight_within cap status = by (count_applies cap status) (corrected_count status
       most = omega (arith, mod_below (status.0 / 2 ^ 38) (2 ^ 15) (omega arith));
     }
 
--- the label is that of an owner, or none
+-- The label is an owner's, or empty.
 label_within : (owner : Option Bytes) → IfSome owner (λ label. IsTrue (is_label_or_none label)) → IsTrue (is_label_or_none (unwrap_or owner []))
 label_within None is = refl
 label_within (Some label) is = is

@@ -1,4 +1,4 @@
--- A list of items that grows.
+-- A growing list of items.
 use Rattle.std.proofs.Common.{◌≡◌, ℕ, ◌+◌, ◌<◌, ◌∙◌, List, [], ◌∷◌, ◌++◌, map, length, take, get_or, Option, Some, Result, Ok, Err, IfOk, sym, ap, subst, arith}
 use Rattle.std.specs.Prelude.{All}
 use Rattle.std.specs.List.{range_with_len}
@@ -14,7 +14,7 @@ use Rattle.ras_facts.specs.Reported.{section_label, record_item, record_fact, la
 use Rattle.ras_facts.specs.declared.items.Item.{Item}
 use Rattle.ras_facts.specs.Valid.{IsValidItem}
 
--- items are these, each of them valid
+-- The items are these, each of them valid.
 pub record AreItems (items wanted : List Item) : Type 0 where
   pub same : items ≡ wanted
   pub valid : All IsValidItem items
@@ -23,7 +23,7 @@ pub valid_more : (items more : List Item) (item : Item) → All IsValidItem item
 valid_more items more item are is valid =
     subst (All IsValidItem) (sym is) (All-append IsValidItem items (item ∷ []) are (All-cons IsValidItem item [] valid (λ k d below. absurd (omega arith))))
 
--- one more of a list, which a function of the number gives
+-- A list that a function of the number gives, with one more element.
 pub numbered_more : {X : Type 0} (f : ℕ → X) (i : ℕ) (xs more : List X) (x : X) → xs ≡ map f (range_with_len 0 i)
     → more ≡ xs ++ x ∷ [] → x ≡ f i → more ≡ map f (range_with_len 0 (i + 1))
 numbered_more {X} f i xs more x are is same =
@@ -32,13 +32,13 @@ numbered_more {X} f i xs more x are is same =
 pub items_count : (f : ℕ → Item) (n : ℕ) (items : List Item) → AreItems items (map f (range_with_len 0 n)) → length items ≡ n
 items_count f n items are = ap (λ (xs : List Item). length xs) are.same ∙ length-map-range_with_len f 0 n
 
--- or a function of the element at the place
+-- A list that a function of each element gives, with one more element.
 pub mapped_more : {X : Type 0} (f : List ℕ → X) (ys : List (List ℕ)) (i : ℕ) (xs more : List X) (x : X) → i < length ys
     → xs ≡ map f (take i ys) → more ≡ xs ++ x ∷ [] → x ≡ f (get_or ys i []) → more ≡ map f (take (i + 1) ys)
 mapped_more f ys i xs more x below are is same =
     is ∙ (λ k. are k ++ same k ∷ []) ∙ sym (ap (map f) (take_more ys i [] below) ∙ map-append f (take i ys) (get_or ys i [] ∷ []))
 
--- the label of an item of a record's fact
+-- The label of an item of a record's fact.
 pub record_label : (rows : List Row) (seconds : ℕ) (bytes : List ℕ) (i : ℕ) → i < section_count bytes
     → label_at (record_fact rows seconds bytes) i ≡ Some (section_label rows (section_at bytes i))
 record_label rows seconds bytes i below =
@@ -48,7 +48,7 @@ record_label rows seconds bytes i below =
     ap (λ (found : Option Item). option_map (λ (item : Item). item.label) found)
     (slice_get-get_or (map f (range_with_len 0 n)) i (f i) long ∙ ap (λ x. Some x) (get_or-map-range_with_len f 0 n i i (f i) below (omega arith)))
 
--- what an answer is equal to may be said in other words
+-- A result that equals one value equals every equal value.
 pub ok_is : {T E : Type 0} (answer : Result T E) (a b : T) → IfOk answer (λ x. x ≡ a) → a ≡ b → IfOk answer (λ x. x ≡ b)
 ok_is (Ok value) a b is same = is ∙ same
 ok_is (Err error) a b is same = tt

@@ -1,4 +1,4 @@
--- The labels of items are those of their own details.
+-- Each item has the label of its own detail.
 use Rattle.std.proofs.Common.{◌≡◌, ◌∙◌, ◌==◌, ℕ, Bool, true, false, List, map, Some, None, IfSome, Ok, Err, if◌then◌else◌, refl, sym}
 use Rattle.std.specs.List.{range_with_len}
 use Rattle.std.specs.Option.{option_map}
@@ -15,7 +15,7 @@ use Rattle.ras_facts.specs.declared.items.Item.{Item}
 use Rattle.ras_facts.specs.declared.name.Name.{Name}
 use Rattle.ras_facts.specs.Reports.{OwnLabels, block_details, block_report, label_of_detail, record_report, section_detail}
 
--- the label of a section's item is that of its detail
+-- The label of a section's item is the label of its detail.
 label_of_read : (rows : List Row) (read : Read) → section_label rows read ≡ label_of_detail rows (section_detail read)
 label_of_read rows (Ok (Sections.TheVariants.Memory section)) = refl
 label_of_read rows (Ok (Sections.TheVariants.Processor section)) = refl
@@ -23,7 +23,7 @@ label_of_read rows (Ok (Sections.TheVariants.X64 section)) = refl
 label_of_read rows (Ok (Sections.TheVariants.Unknown guid)) = refl
 label_of_read rows (Err why) = refl
 
--- so it is over a list of what was read
+-- The labels of a list of sections are the labels of their details.
 labels_of_reads : {X : Type 0} (rows : List Row) (item : X → Item) (read : X → Read) (xs : List X)
     → ((x : X) → (item x).label ≡ section_label rows (read x))
     → map (λ (item : Item). item.label) (map item xs) ≡ map (label_of_detail rows) (map (λ x. section_detail (read x)) xs)

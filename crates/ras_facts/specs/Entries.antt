@@ -6,7 +6,7 @@ use Rattle.ras_facts.specs.declared.entry.Entry.{Entry}
 use Rattle.ras_facts.specs.declared.entry.Entry.TheVariants.{Fact, Limit, Retire, ModuleLimit}
 use Rattle.ras_facts.specs.Valid.{IsValidFact}
 
--- a valid fact, a limit in its ranges, the number of a boot, or a module limit in its ranges
+-- An entry is valid: a valid fact, a limit in its ranges, the number of a boot, or a module limit in its ranges.
 abbrev pub IsValidEntry : Entry → Type 0
 IsValidEntry (Fact fact) = IsValidFact fact
 IsValidEntry (Limit limit) = IsLimit limit
@@ -20,6 +20,6 @@ items_in (Limit limit) = []
 items_in (Retire boot) = []
 items_in (ModuleLimit limit) = []
 
--- the most orders that an entry can give: two an item, one for its page and one for its module
+-- the most orders that an entry can give: two for each item, one for its page and one for its module
 abbrev pub most_orders : Entry → ℕ
 most_orders entry = 2 * length (items_in entry)

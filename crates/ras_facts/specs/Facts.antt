@@ -50,7 +50,7 @@ bank_item bank rows class = record {
   weight = weight_of (cap_in bank) (status_in bank);
 }
 
--- the fact of a snapshot, if the bank has an error: it has one item
+-- The fact of a snapshot, if the bank has an error. It has one item.
 abbrev pub bank_fact : BankReport → List Row → Option Fact
 bank_fact bank rows =
     option_map (λ class. record { name = bank_name bank; seconds = bank.seconds; items = bank_item bank rows class ∷ [] })

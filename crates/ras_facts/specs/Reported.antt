@@ -25,7 +25,7 @@ use Rattle.ras_facts.specs.declared.fact.Fact.{Fact}
 abbrev pub severity_class : ℕ → ItemClass
 severity_class severity = slice_index_or (Recoverable ∷ Fatal ∷ Corrected ∷ Informational ∷ []) severity Odd
 
--- what a section reads as, or why it can't be read
+-- the section that was read, or why it can't be read
 abbrev pub Read : Type 0
 Read = Result Section SectionRefused
 
@@ -40,7 +40,7 @@ abbrev pub section_page : Read → Option ℕ
 section_page (Ok (Memory section)) = option_map page_of_address section.physical
 section_page _ = None
 
--- the item of a section of this severity; it counts for one error
+-- The item of a section of this severity. It counts for one error.
 abbrev pub section_item : List Row → ℕ → Read → Item
 section_item rows severity section = record {
   class = severity_class severity;

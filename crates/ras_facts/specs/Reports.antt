@@ -20,19 +20,19 @@ use Rattle.ras_facts.specs.declared.details.Detail.{Detail}
 use Rattle.ras_facts.specs.declared.details.Detail.TheVariants.{Bank, Memory, Processor, X64, Other}
 use Rattle.ras_facts.specs.declared.details.Report.{Report}
 
--- a bank's report: the fact of its snapshot, and the snapshot for the fact's one item
+-- A bank's report: the fact of its snapshot, and the snapshot as the detail of the fact's only item.
 abbrev pub bank_report : BankReport → List Row → Option Report
 bank_report bank rows = option_map (λ fact. record { fact = fact; details = Bank bank ∷ [] }) (bank_fact bank rows)
 
--- the detail of a section's item: what the section says, or only its type
+-- the detail of a section's item: the section's fields, or only its type
 abbrev pub detail_of : Section → Detail
 detail_of (Sections.TheVariants.Memory section) = Memory section
 detail_of (Sections.TheVariants.Processor section) = Processor section
 detail_of (Sections.TheVariants.X64 section) = X64 section
 detail_of (Sections.TheVariants.Unknown guid) = Other guid
 
--- the detail of a section that was read; a section that can't be read, which no record and no block has, would have one
--- of no type
+-- The detail of a section that was read. A section that can't be read, which no record and no block has, would have a
+-- detail without a type.
 abbrev pub section_detail : Read → Detail
 section_detail (Ok section) = detail_of section
 section_detail (Err why) = Other []
@@ -57,17 +57,17 @@ abbrev pub block_report : List Row → Name → ℕ → BlockParts → Option Re
 block_report rows name seconds block =
     option_map (λ fact. record { fact = fact; details = block_details block }) (block_fact rows name seconds block)
 
--- a report has a detail for each of its items
+-- A report has a detail for each of its items.
 abbrev pub TellsOfEachItem : Report → Type 0
 TellsOfEachItem report = length report.details ≡ length report.fact.items
 
--- the label of the module that owns the error of a detail, by the rows of a topology; as for a section's item, a memory
--- section decides it by itself
+-- the label of the module that owns the error of a detail, by the rows of a topology; the same as for the section's
+-- item
 abbrev pub label_of_detail : List Row → Detail → Bytes
 label_of_detail rows (Memory section) = section_label rows (Ok (Sections.TheVariants.Memory section))
 label_of_detail rows _ = []
 
--- each item of a report has the label of its own detail
+-- Each item of a report has the label of its own detail.
 abbrev pub OwnLabels : List Row → Report → Type 0
 OwnLabels rows report =
     map (λ (item : Item). item.label) report.fact.items ≡ map (label_of_detail rows) report.details

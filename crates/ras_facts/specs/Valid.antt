@@ -7,25 +7,25 @@ use Rattle.ras_facts.specs.declared.items.Item.{Item}
 use Rattle.ras_facts.specs.declared.items.TheConstants.{MOST_ITEMS, MOST_WEIGHT, PAGES}
 use Rattle.ras_facts.specs.declared.fact.Fact.{Fact}
 
--- a page is the number of one of the pages of 4,096 bytes that 64 bits address
+-- A page is the number of one of the pages of 4,096 bytes that 64 bits address.
 abbrev pub IsPage : ℕ → Type 0
 IsPage page = page < PAGES
 
--- an item counts for 1 to 32,767 errors, and its label is a label or none
+-- An item counts for 1 to 32,767 errors, and its label is valid or empty.
 pub record IsValidItem (item : Item) : Type 0 where
   pub label : IsTrue (is_label_or_none item.label)
   pub page : IfSome item.page IsPage
   pub some : 1 ≤ item.weight
   pub weight : item.weight ≤ MOST_WEIGHT
 
--- each number of a name fits its field
+-- Each number of a name fits its field.
 abbrev pub IsValidName : Name → Type 0
 IsValidName (Bank boot cpu bank tsc) = (boot < 2 ^ 64) × (cpu < 2 ^ 16) × (bank < 2 ^ 8) × (tsc < 2 ^ 64)
 IsValidName (Record id) = id < 2 ^ 64
 IsValidName (Block boot source number) = (boot < 2 ^ 64) × (source < 2 ^ 16) × (number < 2 ^ 64)
 IsValidName (Boot boot) = boot < 2 ^ 64
 
--- a fact has at most 65,535 items, each of them valid
+-- A fact has at most 65,535 items, each of them valid.
 pub record IsValidFact (fact : Fact) : Type 0 where
   pub name : IsValidName fact.name
   pub seconds : fact.seconds < 2 ^ 64

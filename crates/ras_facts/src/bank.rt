@@ -17,8 +17,7 @@ use mca_status::{Cap, Class, Misc, Status, class_of, usable_address, usable_page
 use ras_base::NoMemory;
 use std::alloc::Global;
 
-/// A snapshot of a machine-check bank: where and when it was taken, and the registers as they were
-/// read.
+/// A snapshot of a machine-check bank: where and when it was taken, and the registers' contents.
 #[derive(Clone, Copy, Debug, PartialEq, Eq)]
 pub struct BankReport {
     /// The boot in which the bank was read.
@@ -29,7 +28,7 @@ pub struct BankReport {
     pub cpu: u16,
     /// The bank's number.
     pub bank: u8,
-    /// The processor's time-stamp counter as the error was logged.
+    /// The processor's time-stamp counter when the error was logged.
     pub tsc: u64,
     /// IA32_MCG_CAP.
     pub cap: u64,
@@ -44,7 +43,7 @@ pub struct BankReport {
 }
 
 impl BankReport {
-    // The name of the report.
+    // Returns the name of the report.
     fn name(&self) -> Name
         ensures { result ≡ bank_name self.now }
     {
@@ -56,8 +55,8 @@ impl BankReport {
         }
     }
 
-    // The label of the module that the error belongs to: by the error's address, or else by the
-    // memory channel of its code.
+    // Returns the label of the module that the error belongs to: by the error's address, or else by
+    // the memory channel of its code.
     fn label(&self, alloc: Global, topology: &Topology) -> Result<Label, NoMemory>
         ensures label { IfOk result (λ label. label ≡ bank_label self.now topology.now) }
         ensures valid { IfOk result (λ label. IsTrue (is_label_or_none label)) }
@@ -71,7 +70,7 @@ impl BankReport {
         }
     }
 
-    // The item of an error of this class.
+    // Returns the item of an error of this class.
     fn item(&self, alloc: Global, class: Class, topology: &Topology) -> Result<Item, NoMemory>
         ensures item { IfOk result (λ item. item ≡ bank_item self.now topology.now class) }
         ensures valid { IfOk result IsValidItem }

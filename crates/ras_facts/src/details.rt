@@ -1,6 +1,7 @@
 //! The details of a report's items.
 //!
-//! A detail keeps what was read rather than a text, so that no text is made of a repeated report.
+//! A detail stores what was read rather than a text, so that a repeated report's text is never
+//! built.
 
 ghost use Rattle.std.specs.Prelude.{◌≡◌, ◌++◌, [], ◌∷◌, IfOk, OnOk, OnErr};
 ghost use Rattle.ras_facts.specs.Reports.{detail_of};
@@ -12,7 +13,7 @@ use std::alloc::Global;
 use std::marker::Model;
 use uuid::Uuid;
 
-/// What a log line prints of an item besides the item itself.
+/// What a log line prints about an item besides the item itself.
 #[derive(Clone, Copy, Debug, PartialEq, Eq)]
 pub enum Detail {
     /// The snapshot of the bank with the error.
@@ -27,7 +28,7 @@ pub enum Detail {
     Other(Uuid),
 }
 
-// The detail of a section's item.
+// Returns the detail of a section's item.
 pub(crate) fn detail_of(section: Section) -> Detail
     ensures { result ≡ detail_of section }
 {
@@ -64,7 +65,7 @@ impl Details {
         }
     }
 
-    /// Returns a list of one detail, with room for no other.
+    /// Returns a list of one detail, without room for others.
     pub fn one(alloc: Global, detail: Detail) -> Result<Details, NoMemory>
         ensures { IfOk result (λ details. details ≡ detail ∷ []) }
     {

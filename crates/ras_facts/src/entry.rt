@@ -11,7 +11,7 @@ pub enum Entry {
     Fact(Fact),
     /// From now on this limit is in force for pages.
     Limit(Limit),
-    /// From now on reports of the boots below this number are not counted any more, and their names
+    /// From now on reports of the boots below this number are no longer counted, and their names
     /// are dropped.
     Retire(u64),
     /// From now on this limit is in force for memory modules.
@@ -21,8 +21,8 @@ pub enum Entry {
 impl Entry {
     ghost use Rattle.ras_facts.specs.Entries.{IsValidEntry, most_orders};
 
-    /// Returns the most orders that the entry can give: two an item, one for its page and one for
-    /// its module.
+    /// Returns the most orders that the entry can give: two for each item, one for its page and one
+    /// for its module.
     pub fn most_orders(&self) -> usize
         requires { IsValidEntry self.now }
         ensures { result ≡ most_orders self.now }

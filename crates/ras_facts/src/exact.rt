@@ -1,4 +1,4 @@
-//! Names that are equal are the same name.
+//! Equal names are the same name.
 
 ghost use Rattle.ras_facts.specs.Steps.NameLemmas.{name-exact};
 

@@ -55,7 +55,7 @@ impl Items {
         }
     }
 
-    /// Returns a list of one item, with room for no other.
+    /// Returns a list of one item, without room for others.
     pub fn one(alloc: Global, item: Item) -> Result<Items, NoMemory>
         ensures { IfOk result (λ items. items ≡ item ∷ []) }
     {

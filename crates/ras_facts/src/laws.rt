@@ -1,4 +1,4 @@
-//! What holds of every fact and every report.
+//! The laws of every fact and every report.
 
 ghost use Rattle.std.specs.Prelude.{◌≡◌, ◌<◌, ◌^◌, ℕ, List, IfSome};
 ghost use Rattle.apei_sources.specs.Blocks.{BlockParts};
@@ -12,7 +12,7 @@ ghost use Rattle.ras_facts.specs.declared.bank.BankReport.{BankReport};
 ghost use Rattle.ras_facts.specs.declared.items.TheConstants.{MOST_ITEMS, MOST_WEIGHT, PAGES};
 ghost use Rattle.ras_facts.specs.declared.name.Name.{Name};
 
-/// The label of an item depends only on the rows of the machine and on the item's own section: not
+/// The label of an item depends only on the machine description and on the item's own section: not
 /// on the other sections, the record's header, the severity or the time.
 pub fn labels_are_of_their_sections()
     ensures { (rows : List Row) (seconds later i j : ℕ) (one other : List ℕ)
@@ -20,7 +20,7 @@ pub fn labels_are_of_their_sections()
         → label_at (record_fact rows seconds one) i ≡ label_at (record_fact rows later other) j }
 {}
 
-/// The numbers that the definitions cite by name have these digits.
+/// The numbers behind the names that the definitions use.
 pub fn numbers()
     ensures items { MOST_ITEMS ≡ 65535 }
     ensures weight { MOST_WEIGHT ≡ 32767 }
@@ -37,8 +37,8 @@ pub fn reports_tell_of_each_item()
         → TellsOfEachItem (record_report rows seconds own) }
 {}
 
-/// Each item that firmware reports has the label of its own section, by the rows of the machine and
-/// by what that section says. No other section, no severity and no time matters.
+/// Each item that firmware reports has the label of its own section, by the machine description and
+/// the section's fields. No other section, no severity and no time matters.
 pub fn items_have_their_own_labels()
     ensures record { (rows : List Row) (seconds : ℕ) (own : List ℕ)
         → OwnLabels rows (record_report rows seconds own) }

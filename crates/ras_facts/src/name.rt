@@ -6,15 +6,14 @@ ghost use Rattle.ras_facts.specs.Names.{boot_of, is_retired};
 #[derive(Clone, Copy, Debug, PartialEq, Eq, Hash)]
 pub enum Name {
     /// An error in a machine-check bank: the boot in which it was found, the processor's number,
-    /// the bank's number, and the processor's time-stamp counter as the error was logged.
+    /// the bank's number, and the processor's time-stamp counter when the error was logged.
     Bank {
         boot: u64,
         cpu: u16,
         bank: u8,
         tsc: u64,
     },
-    /// A record of the record store, by its identifier. A store uses each identifier once in its
-    /// life.
+    /// A record of the record store, by its identifier. A store uses each identifier only once.
     Record {
         id: u64,
     },

@@ -51,7 +51,7 @@ pub fn severity_class(severity: u32) -> ItemClass
     }
 }
 
-// The label of the module that owns the error of a section.
+// Returns the label of the module that owns the error of a section.
 fn section_label(alloc: Global, section: Section, topology: &Topology) -> Result<Label, NoMemory>
     ensures label { IfOk result (λ label. label ≡ section_label topology.now (Ok section)) }
     ensures valid { IfOk result (λ label. IsTrue (is_label_or_none label)) }
@@ -65,7 +65,7 @@ fn section_label(alloc: Global, section: Section, topology: &Topology) -> Result
     }
 }
 
-// The page of a memory section's physical address.
+// Returns the page of a memory section's physical address.
 fn section_page(section: Section) -> Option<u64>
     ensures page { result ≡ section_page (Ok section) }
     ensures valid { IfSome result IsPage }

@@ -56,7 +56,7 @@ in_step_begun law how (Some p) may = of_kept (λ k. IsInStep k p) (how == 1) (be
 pub off_begun : (how : ℕ) → how ≡ 0 → IsOff (kept_for how)
 off_begun how is = subst (λ (h : ℕ). IsOff (kept_for h)) (sym is) tt
 
--- a fact of a run's files and of a report's
+-- A property of a run's files and of a report's.
 of_files : (P : JournalFiles → Type 0) (is_run : Bool) → P Shut → P NotRead → P (if is_run then Shut else NotRead)
 of_files P true run report = run
 of_files P false run report = report
@@ -77,7 +77,7 @@ not_both e = cc
 usable_openable : (file : FileNo) (p : FolderPast) → IsUsable file p → IsOpenable file p
 usable_openable file p is gone = not_both (sym is.is_locked ∙ gone)
 
--- no sync of a file failed
+-- No sync of a file failed.
 openable : (files : JournalFiles) (p : FolderPast) → AreHeld files p → AreAllSound files → AreOpenable p
 openable Shut p held sound = held
 openable (Open flags) p held sound = record { zero = usable_openable Zero p (held.zero sound.0); one = usable_openable One p (held.one sound.1) }

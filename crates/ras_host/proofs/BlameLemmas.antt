@@ -1,4 +1,4 @@
--- Each call of a board keeps what is said of whose fault it is that its calls failed.
+-- Each call of a board keeps the statement about why its calls failed.
 use Rattle.std.proofs.Common.{◌≡◌, ℕ, ◌+◌, ◌-◌, ◌^◌, ◌<◌, ◌≤◌, min, refl, sym, ◌∙◌, subst, inl, inr, arith, lit<}
 use Rattle.std.specs.Prelude.{◌⊎◌, ◌==◌, if◌then◌else◌, Bool, true, false, List, Result, Ok, Err, OnOk, IsTrue}
 use Rattle.board_core.specs.Cause.{Faults, HasCause, Rose, put_failure}
@@ -25,8 +25,8 @@ rose_by most n n' some is = omega arith
 rose : (n n' : ℕ) → Rose n n' → 0 < n'
 rose n n' is = rose_by (2 ^ 64 - 1) n n' (lit< tt) is
 
--- A call of the board failed, of which the faults of one kind are d and the others rest: a call of the system
--- failed, or it was refused.
+-- A call of the board failed; d faults are of its kind, and rest are others. A call of the system failed, or the board
+-- refused the call.
 both_by : (most n n' m d d' rest : ℕ) → n' ≡ min (n + 1) most → d' ≡ min (d + 1) most → (d + rest < most → n + m ≡ d + rest) → d' + rest < most → n' + m ≡ d' + rest
 both_by most n n' m d d' rest is up each within =
     let before : n + m ≡ d + rest = each (omega (arith, up, within)) in omega (arith, before, is, up, within)
@@ -43,7 +43,7 @@ one_more n n' m m' d d' rest (Err why.System) faults refusals counts each = rw r
 one_more n n' m m' d d' rest (Err why.Refused) faults refusals counts each =
     rw faults.same (swapped m' n (d' + rest) (both m m' n d d' rest refusals.failed counts.failed (swapped n m (d + rest) each)))
 
--- the same counts, of faults in another order
+-- The same counts with the kinds of fault in another order.
 in_order : (n m x y : ℕ) → x ≡ y → AreCounted x n m → AreCounted y n m
 in_order n m x y is each = subst (λ (sum : ℕ). AreCounted sum n m) is each
 
@@ -53,7 +53,7 @@ devices_first d g p = omega arith
 prints_first : (d g p : ℕ) → d + (g + p) ≡ p + (d + g)
 prints_first d g p = omega arith
 
--- a part that isn't 0 stays so
+-- A count that isn't 0 stays so.
 still : (P : Type 0) (n n' : ℕ) → n ≤ n' → P ⊎ (0 < n) → P ⊎ (0 < n')
 still P n n' later (inl p) = inl p
 still P n n' later (inr some) = inr (omega arith)
@@ -70,7 +70,7 @@ blamed_later (Seen files sound) n n' later is = tt
 
 -- ---- a call of the journal's files
 
--- a call of the system, as one that was never refused
+-- A call of the system, as a call that was never refused.
 abbrev as_call : {T E : Type 0} → Result T E → Result T CallFailed
 as_call (Ok v) = Ok v
 as_call (Err e) = Err why.System
@@ -96,7 +96,7 @@ disk_failed : {T : Type 0} (how : ℕ) (old new : JournalFiles) (d d' g n n' : �
 disk_failed how old new d d' g n n' (Ok v) run cause counts was is = rw counts.same (more (d ≡ 0) n n' g g cause.counts.later (omega arith) (was is))
 disk_failed how old new d d' g n n' (Err e) run cause counts was is = inr (run_failed how old new n' g run cause.comes cause.cause is)
 
--- a disk call failed, or each file is as sound as it was
+-- A disk call failed, or each file is as sound as before.
 sound_later : {T : Type 0} (old new : JournalFiles) (d d' : ℕ) (r : Result T CallFailed) → OnOk r (AreAllSound old → AreAllSound new) → HasCause d d' r → (d ≡ 0 → AreAllSound old) → d' ≡ 0 → AreAllSound new
 sound_later old new d d' (Ok v) keeps counts was none = keeps (was (sym counts.same ∙ none))
 sound_later old new d d' (Err e) keeps counts was none = absurd (some_none d' (rose d d' counts.failed) none)
@@ -117,7 +117,7 @@ caused_files how old new kept f d' n n' m m' r c blamed cause counts refusals = 
   lost = c.lost;
 }
 
--- the system was asked, and the files stay
+-- The system was called, and the files are unchanged.
 asked : {T E : Type 0} (files : JournalFiles) (n n' : ℕ) (r : Result T E) → HasCause n n' r → FilesCause files files n n' (as_call r)
 asked files n n' (Ok v) c = record { counts = by_system n n' (Ok v) c; cause = tt; stays = λ is. is; comes = λ is. is; sound = λ is. is }
 asked files n n' (Err e) c = record { counts = by_system n n' (Err e) c; cause = inr (rose n n' c.failed); stays = λ is. is; comes = λ is. is; sound = tt }
@@ -127,14 +127,14 @@ pub caused_asked : {T E : Type 0} (how : ℕ) (files : JournalFiles) (kept : Kep
 caused_asked how files kept f d' n n' m r c cause counts =
     caused_files how files files kept f d' n n' m m (as_call r) c (blamed_later files n n' cause.later c.blamed) (asked files n n' r cause) (by_call f.disk d' r counts) (unrefused m r)
 
--- a file that may not be written: a report's
+-- A file that may not be written, because it is a report's.
 pub caused_unwritten : {T : Type 0} (how : ℕ) (files : JournalFiles) (kept : Kept) (f : Faults) (d' n m m' : ℕ) → AreCaused how files kept f n m → AreReports files
     → HasCause {T = T} {E = CallFailed} f.disk d' (Err why.Refused) → HasCause m m' (refusal {T = T} (Err why.Refused)) → AreCaused how files kept (record f { disk = d' }) n m'
 caused_unwritten how files kept f d' n m m' c reports counts refusals =
     caused_files how files files kept f d' n n m m' (Err why.Refused) c c.blamed
     (record { counts = record { later = omega arith; failed = tt; same = refl }; cause = inl reports; stays = λ is. is; comes = λ is. is; sound = tt }) counts refusals
 
--- a sync that isn't asked, since a change of the device may not have come into its file
+-- A sync for which the system isn't called, because a change of the device may not have reached its file.
 is_lost : (kept : Kept) → (IsSaved kept → ⊥) → IsLost kept
 is_lost NotRead never = absurd (never tt)
 is_lost (Here saved) never = absurd (never tt)

@@ -1,4 +1,4 @@
--- What a call over a kernel counts, by the answers of the kernel's calls.
+-- What a call over a kernel counts, by the results of the kernel's calls.
 use Rattle.std.proofs.Common.{◌≡◌, ◌∙◌, ℕ, ◌+◌, refl, sym, subst, arith}
 use Rattle.std.specs.Prelude.{Option, Result, Ok, Err, OnOk, OnErr}
 use Rattle.std.specs.Result.{result_or}
@@ -18,7 +18,7 @@ kept_one name NotOpen = refl
 kept_one name Interrupted = refl
 kept_one name Other = refl
 
--- a sync of a file that is kept, after its length was asked for
+-- A sync of a kept file, after a call for its length.
 pub kept_counts : {T : Type 0} (name : FileName) (found : Result T Refusal) (result : Result (Unit {0}) Refusal) (old mid new : ℕ) → mid ≡ old + failed_any found
     → OnOk found (new ≡ mid + failed_sync (Kept name) result) → OnErr found ((result ≡ Err Other) × (new ≡ mid)) → new ≡ old + failed_any result
 kept_counts name (Ok b) (Ok done) old mid new asked ok err = omega (arith, asked, ok)
@@ -28,7 +28,7 @@ kept_counts name (Err e) result old mid new asked ok err = subst (λ (r : Result
 err_ok : {T : Type 0} {E : Type 0} (why : E) (value : T) → Err why ≡ Ok value → ⊥
 err_ok why value e = cc
 
--- a call whose answer without its reason is `Ok`
+-- A call whose result is `Ok` if the kernel's call is.
 pub or_ok : {T E F : Type 0} (A : Type 0) (answer : Result T E) (why : F) (result : Result T F) (value : T) → result ≡ result_or answer (Err why) → result ≡ Ok value → OnOk answer A → A
 or_ok A (Ok v) why result value is ok holds = holds
 or_ok A (Err e) why result value is ok holds = absurd (err_ok why value (sym is ∙ ok))

@@ -1,5 +1,5 @@
--- What a disk call and a print of a board over a system come to. A disk call is listed and its file made ready, and then the
--- system is called.
+-- What a disk call and a print of a board over a system lead to. A disk call is listed and its file opened or read,
+-- and then the system is called.
 use Rattle.std.proofs.Common.{◌≡◌, ℕ, List, length, Some, refl, sym, ap, subst, ◌∙◌, inr}
 use Rattle.std.specs.Prelude.{Option, None, IfSome, IfOk, Result, Ok, Err, OnOk, OnErr, IsErr, true, false}
 use Rattle.std.specs.Option.{option_map}
@@ -37,7 +37,7 @@ on_any_err : {T E : Type 0} (P : Type 0) (r : Result T E) → P → OnErr r P
 on_any_err P (Ok x) holds = tt
 on_any_err P (Err e) holds = holds
 
--- a call that is counted ends as it did
+-- A counted call ends as the call did.
 counted_is : {T : Type 0} (answer result : Result T Failed) → IfOk answer (λ value. result ≡ Ok value) → OnErr answer (IsErr result) → answer ≡ result
 counted_is (Ok x) result ok err = sym ok
 counted_is (Err e) (Ok y) ok err = absurd (not_ok err)
@@ -67,14 +67,14 @@ relates_called : (call : DiskCall) (old new : Option Told) → Steps (with_call 
 relates_called call None new is = is
 relates_called call (Some t) new is = subst (λ (o : Option Told). Relates (MayList call) (Some t) o) (sym is) (inr refl)
 
--- a board whose system was asked, with so many disk calls failed
+-- The board after a call of the system, with this number of failed disk calls.
 abbrev pub asked_to : Option FolderPast → ℕ → ℕ → BoardState → BoardState
 asked_to past disk count b = record b { past = past; faults = record b.faults { disk = disk }; count = count }
 
 caused : {T E : Type 0} (disk : ℕ) (old now : Faults) (r : Result T E) → now ≡ old → HasCause now.disk disk r → FailsAs disk_call old (record now { disk = disk }) r
 caused disk old now r same counts = rw same (record { own = subst (λ (f : Faults). HasCause f.disk disk r) same counts; others = refl })
 
--- its file isn't ready
+-- The call's file isn't ready.
 pub made_unready : {T U E F : Type 0} (call : DiskCall) (r : Result T E) (e : F) → IsErr r → (old new : BoardState) → Steps (with_call call) (told_of old) (told_of new) → Passes Same (clock_of old) (clock_of new)
     → FailsAs {T = U} disk_call old.faults new.faults (Err e) → ActMade (calls call) r (seen_of old) (seen_of new)
 made_unready call r e is old new told stops cause = record {
@@ -85,7 +85,7 @@ made_unready call r e is old new told stops cause = record {
   cause = fails_as r e is old.faults new.faults cause;
 }
 
--- the system was asked, and a board sees the same
+-- The system was called, and a board sees the same.
 pub made_asked : {T : Type 0} (call : DiskCall) (answer result : Result T Failed) (disk count : ℕ) (a b : BoardState) (past : Option FolderPast) → Begun call a b → past ≡ b.past
     → IfOk answer (λ value. result ≡ Ok value) → OnErr answer (IsErr result) → HasCause b.faults.disk disk answer
     → OnOk answer (ActSettles (calls call) (seen_of a) (seen_of (asked_to past disk count b))) → ActMade (calls call) result (seen_of a) (seen_of (asked_to past disk count b))
@@ -106,7 +106,7 @@ same_told b None after sees = ap (λ (o : Option FolderPast). option_map (told_w
 same_told b (Some p) None sees = absurd sees
 same_told b (Some p) (Some q) sees = ap (λ (l : Left). Some (told_with b l)) sees
 
--- what holds of a file's bytes held of them before the call was listed
+-- A property of a file's bytes held before the call was listed.
 of_file : (file : FileNo) (call : DiskCall) (P : List ℕ → Type 0) (b : BoardState) (before : Option FolderPast) (old : Option Told) → Steps (with_call call) old (option_map (told_with b) (told_over before))
     → IfSome before (λ p. P (file_in file (seen_now p))) → IfSome old (λ t. P (file_of file t))
 of_file file call P b before None steps holds = tt
@@ -119,7 +119,7 @@ of_file file call P b (Some p) (Some t) steps holds = subst (λ (l : Left). P (f
     some_is : (s t : Told) → Some s ≡ Some t → s ≡ t
     some_is s t e = cc
 
--- what held of a file's bytes holds of them once the call is listed
+-- A property of a file's bytes holds once the call is listed.
 pub begun_file : (file : FileNo) (call : DiskCall) (P : List ℕ → Type 0) (b : BoardState) (before : Option FolderPast) (old : Option Told) → Steps (with_call call) old (option_map (told_with b) (told_over before))
     → IfSome old (λ t. P (file_of file t)) → IfSome before (λ p. P (file_in file (seen_now p)))
 begun_file file call P b None old steps holds = tt
@@ -170,7 +170,7 @@ same_file : (file : FileNo) (t : Told) → with_file file (file_of file t) t ≡
 same_file Zero t = refl
 same_file One t = refl
 
--- a write that failed, and isn't listed
+-- A write failed and isn't listed.
 record FailsToWrite (file : FileNo) (place count : ℕ) (old new : Told) : Type 0 where
   bytes : List ℕ
   torn : Torn place count (file_of file old) bytes
@@ -192,7 +192,7 @@ relates_nothing : (file : FileNo) (place count : ℕ) (o : Option Told) → Rela
 relates_nothing file place count None = refl
 relates_nothing file place count (Some t) = nothing_torn file place count t
 
--- its file isn't ready, or isn't a run's
+-- The write's file isn't ready, or isn't a run's.
 pub write_unready : {T U E F : Type 0} (file : FileNo) (place : ℕ) (bytes : List ℕ) (r : Result T E) (e : F) → IsErr r → (old new : BoardState)
     → Steps (with_call (WriteAt file place (length bytes))) (told_of old) (told_of new) → Passes Same (clock_of old) (clock_of new) → FailsAs {T = U} disk_call old.faults new.faults (Err e)
     → ActMade (writes file place bytes) r (seen_of old) (seen_of new)
@@ -205,7 +205,7 @@ write_unready file place bytes r e is old new told stops cause = record {
   cause = fails_as r e is old.faults new.faults cause;
 }
 
--- a report's file isn't written
+-- A report's file isn't written.
 pub made_refused : {E : Type 0} (file : FileNo) (place : ℕ) (bytes : List ℕ) (result : Result (Unit {0}) Failed) (failed : E) (disk count : ℕ) (a b : BoardState) → Begun (WriteAt file place (length bytes)) a b → IsErr result
     → HasCause {T = Unit {0}} b.faults.disk disk (Err failed) → ActMade (writes file place bytes) result (seen_of a) (seen_of (asked_to b.past disk count b))
 made_refused file place bytes result failed disk count a b begun is counts = record {
@@ -233,7 +233,7 @@ torn_told file place count b None after sees = ap (λ (o : Option FolderPast). o
 torn_told file place count b (Some p) None sees = absurd sees
 torn_told file place count b (Some p) (Some q) sees = record { bytes = sees.bytes; torn = sees.step; is = told_file file sees.bytes b (seen_now p) (seen_now q) sees.rest }
 
--- the system was asked
+-- The system was called.
 pub made_wrote : (file : FileNo) (place : ℕ) (bytes : List ℕ) (answer result : Result (Unit {0}) Failed) (disk count : ℕ) (a b : BoardState) (past : Option FolderPast) → Begun (WriteAt file place (length bytes)) a b
     → WritesFile file place bytes answer b.past past → IfOk answer (λ value. result ≡ Ok value) → OnErr answer (IsErr result) → HasCause b.faults.disk disk answer
     → ActMade (writes file place bytes) result (seen_of a) (seen_of (asked_to past disk count b))

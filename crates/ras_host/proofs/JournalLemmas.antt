@@ -1,4 +1,4 @@
--- What a call of the journal's files comes to, by what it asks of the system.
+-- What a call on the journal's files leads to, by its calls of the system.
 use Rattle.std.proofs.Common.{◌≡◌, ℕ, List, Some, refl, sym, ◌∙◌, subst, OnOk, inl, inr}
 use Rattle.std.specs.Prelude.{◌⊎◌, Bool, true, false, IsTrue, Option, None, IfSome, IfOk, Result, Ok, Err}
 use Rattle.std.specs.Result.{is_ok, result_or}
@@ -16,11 +16,11 @@ use Rattle.ras_host.specs.declared.journal.JournalFiles.TheVariants.{Open, Seen,
 use Rattle.ras_host.specs.declared.reading.Pair.{Pair}
 use Rattle.ras_host.specs.declared.reading.ReadFile.{ReadFile}
 
--- what a board sees of a call, by what it saw before and sees now
+-- What a board sees of a call, by what it saw before and sees now.
 abbrev pub SeesBy : (Left → Left → Type 0) → FolderPast → FolderPast → Type 0
 SeesBy R old new = R (seen_now old) (seen_now new)
 
--- what holds if the system's call succeeded
+-- What holds if the system's call succeeded.
 pub ok_or : {T E F : Type 0} (P : Type 0) (r : Result T E) (f : F) → OnOk r P → OnOk (result_or r (Err f)) P
 ok_or P (Ok x) f is = is
 ok_or P (Err e) f is = tt
@@ -38,7 +38,7 @@ store_others file None b keeps = keeps
 store_others file (Some x) None keeps = keeps
 store_others file (Some x) (Some y) keeps = record { same = keeps.same; settled = keeps.settled; whole = keeps.whole }
 
--- a call of one file
+-- A call on one file.
 pub moves_open : (file : FileNo) (R Step : Left → Left → Type 0) (f g : JournalFiles) (a b : Option FolderPast)
     → (IsOneSound g → IsOneSound f) → IfTold (SeesBy R) a b → IfTold (KeepsOthers file) a b
     → Passes Step (clock_over a) (clock_over b) → (AreReports f → IfTold (GoesOnBy PrintsOrSyncs) a b) → Moves (SeesBy R) Step f g a b
@@ -167,14 +167,14 @@ seen_readable file f files sound told is held flag = by told (subst (λ (j : Jou
 pub seen_sound : (file : FileNo) (f : JournalFiles) (files : Pair ReadFile) (sound : Pair Bool) → f ≡ Seen files sound → IsTrue (part_of file sound) → IsOneSound f
 seen_sound file f files sound is flag = subst IsOneSound (sym is) (one_sound file sound flag)
 
--- a file that is neither unready nor read is open
+-- A file is open if it is ready and wasn't read.
 pub ready_open : (file : FileNo) (f : JournalFiles) (told : Option FolderPast) → IsReady file f → ((files : Pair ReadFile) (sound : Pair Bool) → f ≡ Seen files sound → ⊥) → IfSome told (AreHeld f) → IfSome told (IsUsable file)
 ready_open file Shut told ready other held = absurd ready
 ready_open file (Open sound) told ready other held = ready_usable file (Open sound) sound told refl held ready
 ready_open file Unread told ready other held = absurd ready
 ready_open file (Seen files sound) told ready other held = absurd (other files sound refl)
 
--- files of which one was written stay as they are held
+-- The files are held as before, after a write to one of them.
 pub held_wrote : (file : FileNo) (f : JournalFiles) (a b : Option FolderPast) → IsReady file f → ((files : Pair ReadFile) (sound : Pair Bool) → f ≡ Seen files sound → ⊥) → IfSome a (AreHeld f) → IfTold (KeepsOthers file) a b
     → IfSome b (IsUsable file) → IfSome b (AreHeld f)
 held_wrote file Shut a b ready other held keeps usable = absurd ready
@@ -296,7 +296,7 @@ file_reads R (Ok n) read file None is reads = tt
 file_reads R (Ok n) read file (Some p) is reads = reads (file_in file (seen_now p)) is
 file_reads R (Err e) read file a is reads = tt
 
--- a report's file that is ready was read, and isn't written
+-- A report's file that is ready was read, and isn't written.
 pub reading_unwritten : (file : FileNo) (files : JournalFiles) → IsReady file files → ((read : Pair ReadFile) (sound : Pair Bool) → files ≡ Seen read sound → ⊥) → AreReports files → ⊥
 reading_unwritten file Shut ready not reports = reports
 reading_unwritten file (Open sound) ready not reports = reports

@@ -1,4 +1,4 @@
--- The device that is kept and the folder go together, however a call on it ended.
+-- The kept device and the folder agree, however a call on the device ended.
 use Rattle.std.proofs.Common.{◌≡◌, ℕ, List, [], Some, refl, sym, ap, subst, ◌∙◌, inl, inr}
 use Rattle.std.specs.Prelude.{◌⊎◌, ◌≢◌, Bool, true, false, ◌&&◌, nat_eq, if◌then◌else◌, Option, None, IfSome, Result, Ok, Err, IsErr, OnOk, OnErr}
 use Rattle.std.specs.Bool.{Decides}
@@ -65,7 +65,7 @@ turns_kept old new None after same keeps = same
 turns_kept old new (Some p) after same keeps =
     subst (λ (o : Option FolderPast). IfTold (Turns (λ d. d) old new) (Some p) o) (sym same) (record { device = keeps.device; sees = refl; files = λ file. same_file file p })
 
--- an action that doesn't change the store
+-- An action that doesn't change the store.
 pub action_stays : {T E : Type 0} (action : ℕ) (d new : Device) (result : Result T E) → ¬ MayChange action d → OnOk result (new ≡ act action d) → OnErr result (new ≡ d) → new.store ≡ d.store
 action_stays action d new (Ok x) other ok err = ap (λ (a : Device). a.store) ok ∙ kept action d other
 action_stays action d new (Err e) other ok err = ap (λ (a : Device). a.store) err
@@ -108,7 +108,7 @@ used_saved (Here saved) d used = tt
 used_saved (Lost before after) d used = absurd used
 used_saved Unreadable d used = absurd used
 
--- the device that was taken out is the one that was kept
+-- The device that was taken out is the device that was kept.
 taken_is : (saved : Saved) (old : Kept) (p : FolderPast) → saved.device ≡ device_in old p → device_in (Here saved) p ≡ device_in old p
 taken_is saved old p is = ap (λ (s : List Stored). device_with s (volatile_of saved.device)) (sym (ap (λ (d : Device). d.store) is)) ∙ is
 
@@ -136,7 +136,7 @@ turned_taken step saved old new result (Some p) (Some q) is used turned = record
   spares = turned.spares;
 }
 
--- an action does this
+-- An action changes the device in this way.
 pub turned_action : {T E : Type 0} (reg : Reg) (value : ℕ) (saved : Saved) (old new : Kept) (result : Result T E) (told before after : Option FolderPast) → reg ≡ Action → before ≡ told → IfSome told (λ p. saved.device ≡ device_in old p) → IsUsed old saved.device
     → Turned (act value) (Here saved) new result before after → Turned (after_reg_write reg value) old new result told after
 turned_action {T = T} {E = E} reg value saved old new result told before after action same taken used turned =
@@ -144,7 +144,7 @@ turned_action {T = T} {E = E} reg value saved old new result told before after a
     (turned_taken (act value) saved old new result told after taken used
     (subst (λ (o : Option FolderPast). Turned {T = T} {E = E} (act value) (Here saved) new result o after) same turned))
 
--- a step that left the store as it was
+-- A step that left the store unchanged.
 in_step_acts : (saved : Saved) (store : List Stored) (p : FolderPast) → HasUsableStore p → IsFileOf saved.device.store (bytes_named Store p) → saved.device.store ≡ (seen_now p).store → IsDevice saved.device → IsInStep (Here saved) p
 in_step_acts saved store p usable filed over kept =
     record { filed = filed; over = over; device = subst (λ (s : List Stored). IsDevice (device_with s (volatile_of saved.device))) over kept; usable = usable }
@@ -158,13 +158,13 @@ acts_turns step saved old p is store =
       files = λ file. same_file file p;
     }
 
--- what is known of a call that did a step that left the store as it was
+-- What is known of a call that did a step that left the store unchanged.
 record DidStep (step : Device → Device) (old new : Kept) (before after : Option FolderPast) : Type 0 where
   turns : IfTold (Turns step old new) before after
   in_step : IfSome after (IsInStep new)
   saved : IfTold (Settles old new) before after
 
--- the store's file is of the store of the device that was taken out
+-- The store's file has the store of the device that was taken out.
 abbrev pub FiledAs : Device → Option FolderPast → Type 0
 FiledAs was told = IfSome told (λ p. IsFileOf was.store (bytes_named Store p))
 
@@ -197,12 +197,12 @@ acts_any step was old new (Err e) before after in_step filed taken used same ok 
 
 -- ---- the store's file is written
 
--- the bytes of a store's file are read as the store
+-- The bytes of a store's file are read as the store.
 pub bytes_again : ((records : List Stored) → IsStore records → file_at (store_bytes records) ≡ Ok records) → (bytes : List ℕ) (store : List Stored) → IsStore store → bytes ≡ store_bytes store → store_in (Some bytes) ≡ store
 bytes_again again bytes store kept is =
     ap (λ (b : List ℕ). result_unwrap_or (file_at b) []) is ∙ ap (λ (r : Result (List Stored) StoreRefused). result_unwrap_or r []) (again store kept)
 
--- the file has this store once that went well
+-- The file has this store once the write succeeded.
 record Wrote {T E : Type 0} (store : List Stored) (result : Result T E) (p : FolderPast) (after : Option FolderPast) : Type 0 where
   ok : OnOk result (IfTold (λ x y. seen_now y ≡ with_store store (seen_now x)) (Some p) after)
   err : OnErr result (IfTold (λ x y. (seen_now y ≡ seen_now x) ⊎ (seen_now y ≡ with_store store (seen_now x))) (Some p) after)
@@ -278,7 +278,7 @@ same_record_decides a b = (
     and_is true false one two = absurd cc
     and_is false y one two = absurd cc
 
--- of a lost device what is told is the one that the file holds
+-- The model of a lost device has the store that the file has.
 lost_is : (before after : Device) (store : List Stored) → ((store ≡ after.store) × (volatile_in (Lost before after) store ≡ volatile_of after)) ⊎ ((store ≢ after.store) × (volatile_in (Lost before after) store ≡ volatile_of before))
 lost_is before after store = by (is_same_store store after.store) refl
   where
@@ -292,7 +292,7 @@ lost_is before after store = by (is_same_store store after.store) refl
         not_same : store ≢ after.store
         not_same e = not_true (sym is ∙ (pointwise_decides same_record_decides store after.store).1 e)
 
--- the step that a lost device has taken, or none
+-- A lost device has done this step, or no step.
 record LostAs (step : Device → Device) (old : Kept) (before made : Device) (p q : FolderPast) : Type 0 where
   turns : MayTurn step old (Lost before made) p q
   device : IsDevice (device_in (Lost before made) q)
@@ -322,12 +322,12 @@ lost_as step saved before made p q is was same kept sees files = elim (lost_is b
       })
 ]
 
--- a file that isn't a store's isn't the file of a device that is there
+-- A file that isn't a store doesn't belong to a device.
 spared_here : (saved : Saved) (p q : FolderPast) → IsInStep (Here saved) p → SparesNoStore p q
 spared_here saved p q is bytes there none =
     absurd (none saved.device.store (subst IsStore (sym is.over) is.device.store) (subst (IsFileOf saved.device.store) there is.filed))
 
--- a call that lost the device
+-- A call that lost the device.
 pub turned_lost : {T E : Type 0} (step : Device → Device) (saved : Saved) (before made : Device) (new : Kept) (e : E) (p : FolderPast) (after : Option FolderPast) → IsInStep (Here saved) p → before ≡ record saved.device { store = [] }
     → made ≡ step saved.device → IsDevice made → new ≡ Lost before made → IfTold (λ x y. (seen_now y ≡ seen_now x) ⊎ (seen_now y ≡ with_store made.store (seen_now x))) (Some p) after
     → ((file : FileNo) → IfTold (KeepsFile file) (Some p) after) → IfSome after HasUsableStore → Passes (InStore (Becomes made.store)) (clock_over (Some p)) (clock_over after) → Turned {T = T} step (Here saved) new (Err e) (Some p) after
@@ -345,7 +345,7 @@ turned_lost {T = T} {E = E} step saved before made new e p (Some q) is was same 
       spares = spared_here saved p q is;
     })
 
--- a call that kept the device
+-- A call that kept the device.
 turned_put_back : {T E : Type 0} (step : Device → Device) (saved made : Saved) (new : Kept) (x : T) (p : FolderPast) (after : Option FolderPast) → IsInStep (Here saved) p → made.device ≡ step saved.device → IsDevice made.device → new ≡ Here made
     → IfTold (λ x y. seen_now y ≡ with_store made.device.store (seen_now x)) (Some p) after → ((file : FileNo) → IfTold (KeepsFile file) (Some p) after) → IfSome after HasUsableStore → FiledAs made.device after
     → Passes (InStore (Becomes made.device.store)) (clock_over (Some p)) (clock_over after) → IfTold (λ x y. (y ≡ x) ⊎ HasSettledStore y) (Some p) after → Turned {E = E} step (Here saved) new (Ok x) (Some p) after
@@ -367,7 +367,7 @@ turned_put_back {T = T} {E = E} step saved made new x p (Some q) is same kept he
       spares = spared_here saved p q is;
     })
 
--- where nothing is told
+-- The system isn't modelled.
 turned_untold : {T E : Type 0} (step : Device → Device) (old new : Kept) (result : Result T E) (after : Option FolderPast) → after ≡ None → Turned step old new result None after
 turned_untold step old new result after same = record {
   ok = any_ok result;
@@ -390,7 +390,7 @@ writes_untold : {T E : Type 0} (had bytes : List ℕ) (result : Result T E) (aft
 writes_untold had bytes result after (inl had_them) = had_them.told
 writes_untold had bytes result after (inr replaces) = replaces.files Zero
 
--- a device was made of the one that was taken out, and its store was to come into the file
+-- The device was changed, and its store was to be written to the file.
 pub turned_wrote : {T E : Type 0} (step : Device → Device) (saved made : Saved) (had : List ℕ) (before : Device) (new : Kept) (result : Result T E) (told after : Option FolderPast) → ((records : List Stored) → IsStore records → file_at (store_bytes records) ≡ Ok records)
     → IfSome told (IsInStep (Here saved)) → before ≡ record saved.device { store = [] } → made.device ≡ step saved.device → IsDevice made.device → KeepsOrLoses result before made new
     → had ≡ saved.file → Writes had made.file result told after → Turned step (Here saved) new result told after
@@ -409,7 +409,7 @@ turned_wrote {T = T} {E = E} step saved made had before new result (Some p) afte
     by (Ok x) keeps w = turned_put_back step saved made new x p after is same kept keeps w.ok w.files w.usable w.filed w.stops w.saved
     by (Err e) keeps w = turned_lost step saved before made.device new e p after is was same kept keeps w.err w.files w.usable w.stops
 
--- the device was made, and its store didn't come to the file
+-- The device was changed, and its store wasn't written to the file.
 pub turned_unwritten : {T E : Type 0} (step : Device → Device) (saved : Saved) (before made : Device) (new : Kept) (e : E) (told after : Option FolderPast) → after ≡ told → IfSome told (IsInStep (Here saved)) → before ≡ record saved.device { store = [] }
     → made ≡ step saved.device → IsDevice made → new ≡ Lost before made → Turned {T = T} step (Here saved) new (Err e) told after
 turned_unwritten step saved before made new e None after same is was made_is kept lost = turned_untold step (Here saved) new (Err e) after same
@@ -418,14 +418,14 @@ turned_unwritten {T = T} {E = E} step saved before made new e (Some p) after sam
     (turned_lost step saved before made new e p (Some p) is was made_is kept lost (inl refl) (λ file. same_file file p) is.usable
     (stands (InStore (Becomes made.store)) (clock_over (Some p)) (λ left. record { store = left.store; step = inl refl; rest = refl })))
 
--- a change was to come into the file
+-- A change was to be written to the file.
 pub turned_saved : {T E : Type 0} (change : Change) (new : Kept) (result : Result T E) (told after : Option FolderPast) → ((records : List Stored) → IsStore records → file_at (store_bytes records) ≡ Ok records)
     → KeepsOrLoses result change.before change.made new → ((had : List ℕ) → (change.differs ≡ false → change.made.file ≡ had) → Writes had change.made.file result told after)
     → (step : Device → Device) (saved : Saved) → IsChange step saved change → IfSome told (IsInStep (Here saved)) → Turned step (Here saved) new result told after
 turned_saved change new result told after again keeps writes step saved is in_step =
     turned_wrote step saved change.made saved.file change.before new result told after again in_step is.before is.made is.device keeps refl (writes saved.file is.same)
 
--- the file was replaced, or that failed
+-- The file was replaced, or that failed.
 pub replaces_ok : {T E F : Type 0} (bytes : List ℕ) (result : Result T E) (x : T) (old new : Option FolderPast) → is_err result ≡ false → Replaces bytes result old new → Replaces {E = F} bytes (Ok x) old new
 replaces_ok bytes (Ok y) x old new is r = record { usable = r.usable; files = r.files; ok = r.ok; err = tt; stops = r.stops }
 replaces_ok bytes (Err e) x old new is r = absurd cc
@@ -437,11 +437,11 @@ replaces_err bytes (Err f) e old new is r = record { usable = r.usable; files = 
 pub replaces_same : {T E : Type 0} (bytes same : List ℕ) (result : Result T E) (old new : Option FolderPast) → bytes ≡ same → Replaces bytes result old new → Replaces same result old new
 replaces_same bytes same result old new is r = subst (λ (b : List ℕ). Replaces b result old new) is r
 
--- the device that was taken out is put back
+-- The device that was taken out is put back.
 pub put_back_stays : (step : Device → Device) (saved back : Saved) (new : Kept) → new ≡ Here back → IsDevice back.device → back.device ≡ saved.device → StaysOrLoses step saved new
 put_back_stays step saved back new here device same = inl (record { saved = back; kept = here; after = same; store = refl; device = device })
 
--- no change was made, or it was lost
+-- No change was made, or it was lost.
 device_here : (saved : Saved) (told : Option FolderPast) → IfSome told (IsInStep (Here saved)) → IfSome told (λ p. saved.device ≡ device_in (Here saved) p)
 device_here saved None is = tt
 device_here saved (Some p) is = ap (λ (s : List Stored). device_with s (volatile_of saved.device)) is.over
@@ -465,7 +465,7 @@ turned_ended step saved new (Ok x) told after failed same is ends = absurd (not_
     not_err e = cc
 turned_ended {T = T} step saved new (Err e) told after failed same is ends = turned_failed {T = T} step saved new e told after same is ends
 
--- the device that was taken out and the folder go together
+-- The device that was taken out and the folder agree.
 pub in_step_taken : (saved : Saved) (old : Kept) (told : Option FolderPast) → IfSome told (IsInStep old) → FiledAs saved.device told → IfSome told (λ p. saved.device ≡ device_in old p) → IfSome told (IsInStep (Here saved))
 in_step_taken saved old None is filed taken = tt
 in_step_taken saved old (Some p) is filed taken = record {
@@ -479,7 +479,7 @@ pub turned_or : {T E F : Type 0} (step : Device → Device) (old new : Kept) (re
 turned_or step old new (Ok x) f before after turned = record { ok = turned.ok; err = tt; stops = turned.stops; in_step = turned.in_step; saved = turned.saved; spares = turned.spares }
 turned_or step old new (Err e) f before after turned = record { ok = tt; err = turned.err; stops = turned.stops; in_step = turned.in_step; saved = turned.saved; spares = turned.spares }
 
--- a put whose store came into the file, or didn't because a call of the system failed
+-- A put whose store was written to the file, or wasn't because a call of the system failed.
 pub turned_put : {E : Type 0} (step : Device → Device) (old new : Kept) (result : Result (Unit {0}) E) (why : CallFailed) (before after : Option FolderPast) → Turned step old new result before after
     → Turned step old new (put_answer (result_or result (Err (Call why)))) before after
 turned_put step old new (Ok x) why before after turned = record { ok = turned.ok; err = tt; stops = turned.stops; in_step = turned.in_step; saved = turned.saved; spares = turned.spares }

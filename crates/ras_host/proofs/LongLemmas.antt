@@ -1,4 +1,4 @@
--- A change never makes a journal file shorter, unless it makes or removes it.
+-- No change makes a journal file shorter, except making or removing it.
 use Rattle.std.proofs.Common.{arith, sym, subst, inl, inr, length-take}
 use Rattle.std.specs.Prelude.{◌≡◌, ℕ, ◌+◌, ◌<◌, ◌≤◌, true, false, List, [], length, take, Option, None, Some, refl, IfSome, IsSome, Result, Ok, Err, IsErr, IfErr, OnOk, OnErr}
 use Rattle.std.specs.Option.{option_map}
@@ -30,7 +30,7 @@ synced_longer : (now : Option FolderFile) → length (bytes_or (option_map (λ f
 synced_longer None = omega arith
 synced_longer (Some file) = omega arith
 
--- one name's file changes
+-- One name's file changes.
 one_longer : (name : FileName) (step : NameEntry → NameEntry) (file : FileNo) (folder : Folder) → ((entry : NameEntry) → length_in entry ≤ length_in (step entry))
     → length_in (entry_named (Journal file) folder) ≤ length_in (entry_named (Journal file) (change_name name step folder))
 one_longer (Journal Zero) step Zero folder goes = goes folder.zero
@@ -42,7 +42,7 @@ one_longer Store step One folder goes = omega arith
 one_longer New step Zero folder goes = omega arith
 one_longer New step One folder goes = omega arith
 
--- another name's file changes
+-- Another name's file changes.
 other_longer : (name : FileName) (step : NameEntry → NameEntry) (file : FileNo) (folder : Folder) → (name ≡ Journal file → ⊥)
     → length_in (entry_named (Journal file) folder) ≤ length_in (entry_named (Journal file) (change_name name step folder))
 other_longer (Journal Zero) step Zero folder other = absurd (other refl)
@@ -99,7 +99,7 @@ may_by Q P none some None new is = subst (P None) (sym is) none
 may_by Q P none some (Some x) None is = absurd is
 may_by Q P none some (Some x) (Some y) is = some x y is
 
--- A change spares each file that is known to be long.
+-- A change neither makes nor removes a file that is known to be long.
 abbrev pub SparesLong : FolderChange → LongFiles → Type 0
 SparesLong change long = (file : FileNo) → known_long (Journal file) long ≡ true → Spares file change
 
@@ -136,7 +136,7 @@ may_print_long piece long old new may =
     may_by (MayPrint piece) (λ (o n : Option FolderPast). IfSome o (AreLong long) → IfSome n (AreLong long)) (λ w. tt)
     (λ x y some are. subst (AreLong long) (sym some.3) (still_long (printed some.0) long (λ file is. tt) x are)) old new may
 
--- what is known of one file changes
+-- What is known of one file changes.
 
 forgets : (name : FileName) (long : LongFiles) (file : FileNo) → known_long (Journal file) (with_known name false long) ≡ true → name ≡ Journal file → ⊥
 forgets (Journal Zero) long Zero is = absurd (false_true is)
@@ -200,7 +200,7 @@ pub print_long : {T E : Type 0} (piece : List ℕ) (long : LongFiles) (result : 
 print_long piece long (Ok value) old new did may are = did_long (printed piece) long (λ file is. tt) old new did are
 print_long piece long (Err why) old new did may are = may_print_long piece long old new may are
 
--- what was known of the file that is opened, made or removed is forgotten before
+-- What was known of a file is dropped before it is opened, made or removed.
 
 pub opened_long : {T E : Type 0} (name : FileName) (before after : LongFiles) → after ≡ with_known name false before → (result : Result T E) (old new : Option FolderPast)
     → OnOk result (Did (opens name) old new) → OnErr result (new ≡ old) → IfSome old (AreLong before) → IfSome new (AreLong after)
@@ -217,7 +217,7 @@ pub removed_long : {T E : Type 0} (name : FileName) (before after : LongFiles) �
 removed_long name before after is result old new did may are =
     subst (λ (long : LongFiles). IfSome new (AreLong long)) (sym is) (may_end_long (removed name) (with_known name false before) (forgets name before) result old new did may (forgotten name before old are))
 
--- a write that ends behind `INLINE_LENGTH` makes its file long
+-- A write that ends after `INLINE_LENGTH` makes its file long.
 
 written_entry : (place : ℕ) (bytes : List ℕ) (now : Option FolderFile) → IsSome (option_map (λ f. f.bytes) now) → place ≤ length (bytes_or (option_map (λ f. f.bytes) now))
     → place + length bytes ≤ length (bytes_or (option_map (λ f. f.bytes) (option_map (after_writing place (length bytes) bytes) now)))
@@ -244,20 +244,20 @@ written_long name place bytes ends before after is old new there within did are 
     (λ t w. tt) (λ past t w. omega (arith, ends, written_past name place bytes past t w)) old new did there within in
     subst (λ (l : LongFiles). IfSome new (AreLong l)) (sym is) (learned name before new long (did_long change before (λ file known. tt) old new did are))
 
--- a sync of a file that is kept failed
+-- A sync of a kept file failed.
 pub fails_kept : {T : Type 0} (name : FileName) (result : Result T Refusal) (old new : Option FolderPast)
     → IfErr result (λ why. FailsSync (Kept name) why old new) → OnErr result (Did (loses name) old new)
 fails_kept name (Ok value) old new fails = tt
 fails_kept name (Err why) old new fails = fails
 
--- a write
+-- A write.
 
 pub write_long : {T E : Type 0} (name : FileName) (place : ℕ) (bytes : List ℕ) (long : LongFiles) (result : Result T E) (old new : Option FolderPast)
     → OnOk result (Did (wrote name place (length bytes) bytes) old new) → OnErr result (IfTold (MayWrite name place (length bytes)) old new) → IfSome old (AreLong long) → IfSome new (AreLong long)
 write_long name place bytes long (Ok value) old new did may are = did_long (wrote name place (length bytes) bytes) long (λ file is. tt) old new did are
 write_long name place bytes long (Err why) old new did may are = may_write_long name place (length bytes) long old new may are
 
--- a call whose counted answer is `Ok`
+-- A call whose counted result is `Ok`.
 pub counted_ok : {T E F : Type 0} (A : Type 0) (answer : Result T E) (result : Result T F) (value : T) → OnErr answer (IsErr result) → result ≡ Ok value → OnOk answer A → A
 counted_ok A (Ok v) result value err is ok = ok
 counted_ok A (Err why) result value err is ok = absurd (false_true (subst IsErr is err))

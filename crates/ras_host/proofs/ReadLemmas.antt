@@ -14,7 +14,7 @@ use Rattle.host_system.specs.declared.system.FileName.TheVariants.{Journal}
 use Rattle.ras_host.specs.JournalFiles.{IsRead, most_read}
 use Rattle.ras_host.specs.declared.reading.ReadFile.{ReadFile}
 
--- a place in the beginning of a file
+-- An offset in the beginning of a file.
 part_of_front : (place count most : ℕ) (file : List ℕ) → place + count ≤ most → take count (drop place (take most file)) ≡ take count (drop place file)
 part_of_front place count most file within =
     let parts : most ≡ place + (most - place) = omega arith in
@@ -35,7 +35,7 @@ reads_found place count most buf found copied bytes file is within finds size co
           ∙ (ap (λ (l : List ℕ). take count (drop place l)) is ∙ part_of_front place count most file (omega arith)))));
     }
 
--- a file of which not as much was read as may be is read whole
+-- A file of which fewer bytes were read than the most was read whole.
 short_fits : (bytes file : List ℕ) (most : ℕ) → bytes ≡ take most file → length bytes < most → bytes ≡ file
 short_fits bytes file most is short =
     let most_is : length bytes ≡ min most (length file) = ap length is ∙ length-take most file in
@@ -55,7 +55,7 @@ pub found_length : (file : FileNo) (n : ℕ) (p : FolderPast) → Some n ≡ len
 found_length Zero n p is = length_or n _ is
 found_length One n p is = length_or n _ is
 
--- in a folder that is told
+-- over a modelled folder
 pub told_short : (file : FileNo) (read : ReadFile) (told : Option FolderPast) → read.length ≡ length read.bytes.items → length read.bytes.items < most_read → IfSome told (λ p. read.bytes.items ≡ take most_read (file_in file (seen_now p)))
     → IfSome told (λ p. IsRead read (file_in file (seen_now p)))
 told_short file read None size short is = tt

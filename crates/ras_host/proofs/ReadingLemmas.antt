@@ -1,4 +1,4 @@
--- A report's changes of the folder: it prints and syncs.
+-- A report's changes of the folder: it only prints and syncs.
 use Rattle.std.proofs.Common.{◌≡◌, ℕ, List, [], ◌∷◌, ◌++◌, append-nil, append_assoc, Some, refl, sym, ap, subst, ◌∙◌, OnOk}
 use Rattle.std.specs.Prelude.{Option, None, IfSome, IsSomeAnd, Result, Ok, Err, OnErr}
 use Rattle.board_core.specs.declared.board.FileNo.{FileNo}

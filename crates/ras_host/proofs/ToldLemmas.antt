@@ -1,5 +1,5 @@
--- What a board over a system tells after a call, by what it told before. Of the board here are what
--- the system tells, the device that is kept, and what is listed.
+-- The model of a board over a system after a call, by the model before. The board is given here by the system's model,
+-- the kept device, and the lists of calls.
 use Rattle.std.proofs.Common.{◌≡◌, ℕ, List, [], ◌∷◌, ◌++◌, Some, refl, sym, ap, subst, ◌∙◌, inl, inr}
 use Rattle.std.specs.Prelude.{Option, None, IfSome, IsSomeAnd, IfOk, Result, Ok, Err, OnOk, OnErr, IsErr}
 use Rattle.std.specs.Option.{option_map}
@@ -44,7 +44,7 @@ telling v calls accesses here = record { here = here; volatile = v; disk_calls =
 abbrev pub telling_of : Kept → List DiskCall → List Access → Left → Told
 telling_of kept calls accesses here = telling (volatile_in kept here.store) calls accesses here
 
--- what it tells
+-- the board's model
 abbrev pub tells : Option FolderPast → Kept → List DiskCall → List Access → Option Told
 tells past kept calls accesses = option_map (telling_of kept calls accesses) (told_over past)
 
@@ -79,7 +79,7 @@ turned_listed step access before after old new calls accesses more turns listed 
     ∙ (ap (option_map (with_access access)) (turned_told step before after old new calls accesses turns)
     ∙ then_listed (on_device step) access (tells before old calls accesses))
 
--- the device is as it was
+-- The device is unchanged.
 pub kept_listed : (access : Access) (before after : Option FolderPast) (old new : Kept) (calls : List DiskCall) (accesses more : List Access)
     → after ≡ before → IfSome before (Keeps old new) → more ≡ accesses ++ access ∷ []
     → Steps (with_access access) (tells before old calls accesses) (tells after new calls more)
@@ -155,7 +155,7 @@ pub store_settled : (past : Option FolderPast) (kept : Kept) (calls : List DiskC
 store_settled None kept calls accesses settled t is = absurd (none_told t is)
 store_settled (Some p) kept calls accesses settled t is = λ left now. store_left p left settled now ∙ ap (λ (l : Left). l.store) (here_is kept calls accesses p t is)
 
--- of the same folder the same store is left
+-- A crash leaves the same store, if the folder is the same.
 store_same : (p : FolderPast) (old new : Kept) (calls : List DiskCall) (accesses more : List Access) → StoreIsLeft (tells (Some p) old calls accesses) (clock_over (Some p)) → StoreIsLeft (tells (Some p) new calls more) (clock_over (Some p))
 store_same p old new calls accesses more was t is = λ left now.
     was (telling_of old calls accesses (seen_now p)) refl left now ∙ ap (λ (l : Left). l.store) (here_is new calls more p t is)
@@ -182,14 +182,14 @@ does_saved step old new does = here_saved new (step does.before) does.after
 pub puts_saved : (id : ℕ) (bytes : List ℕ) (result : Result (Unit {0}) BoardPut) (old new : Kept) → Puts id bytes result old new → IsSaved new
 puts_saved id bytes result old new puts = here_saved new (after_answer id bytes result puts.before) puts.after
 
--- a put that went well
+-- A put that succeeded.
 pub put_went : (result : Result (Unit {0}) BoardPut) (P Q : Type 0) → OnOk (put_failure result) P → (P → Q) → OnOk result Q
 put_went (Ok done) P Q holds so = so holds
 put_went (Err e) P Q holds so = tt
 
 -- ---- the journal's files stay as usable as they were
 
--- what a board sees of them is the same
+-- A board sees the same of two folders.
 pub record SeesFiles (p q : FolderPast) : Type 0 where
   pub zero : (seen_now q).file0 ≡ (seen_now p).file0
   pub one : (seen_now q).file1 ≡ (seen_now p).file1
@@ -247,7 +247,7 @@ settled_turned files old new (Some p) (Some q) settles is = λ sound saved.
 pub settled_same : (files : JournalFiles) (old new : Kept) (before after : Option FolderPast) → after ≡ before → IfSome before (Keeps old new) → IfSome before (IsSettledBy files old) → IfSome after (IsSettledBy files new)
 settled_same files old new before after same keeps is = settled_turned files old new before after (settles_kept old new before after same keeps) is
 
--- a call of the journal's files
+-- A call on the journal's files.
 pub settled_moved : (Sees : FolderPast → FolderPast → Type 0) (Step : Left → Left → Type 0) (f g : JournalFiles) (kept : Kept) (before after : Option FolderPast) → Moves Sees Step f g before after
     → IfSome before (IsInStep kept) → IfSome before (IsSettledBy f kept) → IfSome after (IsSettledBy g kept)
 settled_moved Sees Step f g kept None after moves in_step is = subst (λ (o : Option FolderPast). IfSome o (IsSettledBy g kept)) (sym moves.store) tt
@@ -261,7 +261,7 @@ pub settled_now : (files : JournalFiles) (kept : Kept) (told : Option FolderPast
 settled_now files kept None is sound saved = tt
 settled_now files kept (Some p) is sound saved = is sound saved
 
--- the device goes on with the folder, whose store is the same to see
+-- The device and the folder still agree, if a board sees the same store.
 pub in_step_store : (kept : Kept) (p q : FolderPast) → (seen_now q).store ≡ (seen_now p).store → bytes_named Store q ≡ bytes_named Store p → HasWholeStore q → IsInStep kept p → IsInStep kept q
 in_step_store kept p q same file whole is = record {
   filed = subst (IsFiled kept) (sym file) is.filed;
@@ -285,7 +285,7 @@ since_then P trans (Some x) None after was now = absurd was
 since_then P trans (Some x) (Some y) None was now = absurd now
 since_then P trans (Some x) (Some y) (Some z) was now = trans x y z was now
 
--- bytes that aren't a store's stay
+-- Bytes that aren't a store are unchanged.
 spares_then : (x y z : FolderPast) → SparesNoStore x y → SparesNoStore y z → SparesNoStore x z
 spares_then x y z first second bytes is none = second bytes (first bytes is none) none
 
@@ -445,7 +445,7 @@ put_made id bytes (Err (Refused why)) old new told failed same stops still settl
     record { told = same; stops = still; faults = cause.others ∙ ap (λ (n : ℕ). with_count device_call n old.faults) cause.own.same }
 put_made id bytes (Err Failed) old new told failed same stops still settles cause = record { told = tt; failed = failed; stops = stops; settles = tt; cause = cause }
 
--- the device that is kept is one
+-- The kept device is a device.
 pub device_kept : (kept : Kept) (told : Option FolderPast) → IfSome told (IsInStep kept) → IfSome told (λ p. IsDevice (device_in kept p))
 device_kept kept None is = tt
 device_kept kept (Some p) is = is.device

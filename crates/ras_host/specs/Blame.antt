@@ -1,5 +1,5 @@
--- Why a call of a board over a system failed: a call of the system failed, this time or before, or the board
--- had a reason of its own.
+-- Why a call of a board over a system failed: a call of the system failed, this time or before, or the board had its
+-- own reason.
 use Rattle.std.specs.Prelude.{◌≡◌, ℕ, ◌+◌, ◌-◌, ◌^◌, ◌<◌, ◌⊎◌, IsTrue, Result, OnErr, OnOk}
 use Rattle.board_core.specs.Cause.{Faults, HasCause}
 use Rattle.ras_host.specs.Steps.Failures.{system_failure}
@@ -9,7 +9,7 @@ use Rattle.ras_host.specs.declared.journal.JournalFiles.TheVariants.{Shut, Open,
 use Rattle.ras_host.specs.declared.kept.Kept.{Kept}
 use Rattle.ras_host.specs.declared.kept.Kept.TheVariants.{Lost}
 
--- a report's files
+-- The files are a report's.
 abbrev pub AreReports : JournalFiles → Type 0
 AreReports Shut = ⊥
 AreReports (Open sound) = ⊥
@@ -35,8 +35,8 @@ AreAllSound (Open sound) = IsTrue sound.zero × IsTrue sound.one
 AreAllSound Unread = Unit {0}
 AreAllSound (Seen files sound) = IsTrue sound.zero × IsTrue sound.one
 
--- A run's call of its files fails only if a call of the system failed, this time or before. Files stay a
--- run's, or a report's. They stay sound unless the call fails.
+-- A run's call on its files fails only if a call of the system failed, this time or before. A run's files stay a
+-- run's, and a report's a report's. They stay sound unless the call fails.
 pub record FilesCause {T : Type 0} (old new : JournalFiles) (before now : ℕ) (result : Result T CallFailed) : Type 0 where
   pub counts : HasCause before now (system_failure result)
   pub cause : OnErr result (AreReports new ⊎ (0 < now))
@@ -49,15 +49,15 @@ abbrev pub IsLost : Kept → Type 0
 IsLost (Lost before after) = Unit {0}
 IsLost kept = ⊥
 
--- So many calls of a board failed. As long as they are fewer than 2^64 - 1, they are the failed calls of its system and
--- the refusals.
+-- This many calls of a board failed. If they are fewer than 2^64 - 1, they are the failed calls of its system and the
+-- refusals.
 abbrev pub AreCounted : ℕ → ℕ → ℕ → Type 0
 AreCounted failed count refused = failed < 2 ^ 64 - 1 → count + refused ≡ failed
 
--- How often calls of a board have failed, by how often calls of its system have failed and how often a call was
--- refused. None had failed when the board was new.
+-- How many calls of a board have failed, by how many calls of its system have failed and how many calls the board
+-- refused. No call had failed when the board was new.
 pub record AreCaused (how : ℕ) (files : JournalFiles) (kept : Kept) (faults : Faults) (count refused : ℕ) : Type 0 where
-  -- In each call of the board that failed, one call of the system failed, or it was refused.
+  -- In each failed call of the board, one call of the system failed, or the board refused the call.
   pub each : AreCounted (faults.disk + (faults.registers + faults.prints)) count refused
   pub blamed : AreBlamed files count
   pub run : how ≡ 1 → AreReports files → ⊥

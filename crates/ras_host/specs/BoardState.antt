@@ -1,4 +1,4 @@
--- What contracts can say of a board over a system.
+-- A board over a system as contracts see it.
 use Rattle.std.specs.Prelude.{ℕ, ◌==◌, if◌then◌else◌, List, Option}
 use Rattle.board_core.specs.Cause.{Faults}
 use Rattle.host_system.specs.FolderPast.{FolderPast}
@@ -6,13 +6,13 @@ use Rattle.ras_host.specs.declared.journal.JournalFiles.{JournalFiles}
 use Rattle.ras_host.specs.declared.kept.Kept.{Kept}
 use Rattle.ras_host.specs.declared.kept.Kept.TheVariants.{Unread, Unreadable}
 
--- the device of a board before its first use, which only a run uses: its kind is 1
+-- The device of a board before its first use. Only a run, whose kind is 1, uses it.
 abbrev pub kept_for : ℕ → Kept
 kept_for how = if how == 1 then Unread else Unreadable
 
--- what was done to the folder, if the system is modelled; the journal's files and the device as the board has
--- them; how often its calls have failed, how often the system's, and how often a call was refused; the calls that
--- it lists, as numbers
+-- What was done to the folder, if the system is modelled; the journal's files and the device as the board has them;
+-- how many of its calls have failed, how many of the system's, and how many the board refused; and the listed calls,
+-- as numbers.
 pub record BoardState : Type 0 where
   pub past : Option FolderPast
   pub files : JournalFiles

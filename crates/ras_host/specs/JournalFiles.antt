@@ -26,11 +26,11 @@ with_part One part pair = record pair { one = part }
 abbrev pub files_for : ℕ → JournalFiles
 files_for how = if how == 1 then Shut else Unread
 
--- How many bytes of a journal file are read at most: one more than the longest has.
+-- How many bytes of a journal file are read at most: one more than the longest journal file has.
 abbrev pub most_read : ℕ
 most_read = 67108865
 
--- What was read of a file with these bytes: its length, and its first bytes, as many as are read at most.
+-- What was read of a file with these bytes: its length, and its first bytes, up to the most.
 pub record IsRead (read : ReadFile) (whole : List ℕ) : Type 0 where
   pub size : read.length ≡ length whole
   pub items : read.bytes.items ≡ take most_read whole
@@ -40,7 +40,7 @@ pub record AreRead (files : Pair ReadFile) (past : FolderPast) : Type 0 where
   pub zero : IsRead files.zero (seen_now past).file0
   pub one : IsRead files.one (seen_now past).file1
 
--- This holds of both files, except one that isn't sound.
+-- Both files have this property, except a file that isn't sound.
 pub record AreSound (Is : FileNo → FolderPast → Type 0) (sound : Pair Bool) (past : FolderPast) : Type 0 where
   pub zero : IsTrue sound.zero → Is Zero past
   pub one : IsTrue sound.one → Is One past
@@ -50,8 +50,8 @@ pub record AreSeen (files : Pair ReadFile) (sound : Pair Bool) (past : FolderPas
   pub read : AreRead files past
   pub readable : AreSound IsReadable sound past
 
--- A run's open files may be used, except one of which a sync failed. Files that aren't open may be opened,
--- and files that aren't read may be read.
+-- A run's open files may be used, except a file whose sync failed. Files that aren't open yet may be opened, and files
+-- that aren't read yet may be read.
 abbrev pub AreHeld : JournalFiles → FolderPast → Type 0
 AreHeld Shut past = AreOpenable past
 AreHeld (Open sound) past = AreSound IsUsable sound past
@@ -65,19 +65,19 @@ IsReady file (Open sound) = IsTrue (part_of file sound)
 IsReady file Unread = ⊥
 IsReady file (Seen files sound) = Unit {0}
 
--- A file is sound. No file is before all names of the folder are durable.
+-- A file is sound. No file is sound before all names of the folder are durable.
 abbrev pub IsOneSound : JournalFiles → Type 0
 IsOneSound Shut = ⊥
 IsOneSound (Open sound) = IsTrue sound.zero ⊎ IsTrue sound.one
 IsOneSound Unread = ⊥
 IsOneSound (Seen files sound) = IsTrue sound.zero ⊎ IsTrue sound.one
 
--- If a file became sound, the name of the record store's file is durable, provided that its bytes were.
+-- If a file became sound, the name of the record store's file is durable, provided that the file's bytes were.
 abbrev pub SettlesStore : JournalFiles → JournalFiles → FolderPast → FolderPast → Type 0
 SettlesStore old new before after = IsOneSound new → IsOneSound old ⊎ (HasWholeStore before → HasSettledStore after)
 
--- A call of the journal's files was made: what a board sees of the folder has changed so, and a crash leaves
--- what a crash before the call might have left, after this step. The store's file is as durable as before.
+-- A call on the journal's files was made: a board sees this change of the folder, and a crash leaves what a crash
+-- before the call might have left, after this step. The store's file is as durable as before.
 pub record Moves (Sees : FolderPast → FolderPast → Type 0) (Step : Left → Left → Type 0)
     (old new : JournalFiles) (before after : Option FolderPast) : Type 0 where
   pub sees : IfTold Sees before after

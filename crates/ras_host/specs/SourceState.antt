@@ -1,5 +1,5 @@
--- What contracts can say of a source over an input: the bytes that are left, if the input is modelled, and
--- how often reads have failed.
+-- A source over an input as contracts see it: the bytes left, if the input is modelled, and how many reads have
+-- failed.
 use Rattle.std.specs.Prelude.{ℕ, List, Option}
 
 pub record SourceState : Type 0 where

@@ -84,9 +84,9 @@ impl<S: System + Drop, U: Use, B: Found> Model for FileBoard<S, U, B> {
 }
 
 impl<S: System + Drop, U: Use, B: Found> FileBoard<S, U, B> {
-    /// Returns the board over a system, with no faults. Opens no file yet. Requires a system none
-    /// of whose calls has failed; if the system is modelled, its folder must be one that a board
-    /// may begin over.
+    /// Returns the board over a system, with no faults. Opens no file yet. Requires a system whose
+    /// calls haven't failed; if the system is modelled, a board may begin over its folder
+    /// (`MayBegin`).
     pub fn new(alloc: Global, system: S) -> FileBoard<S, U, B>
         requires begins { IfSome (S.told system) MayBegin }
         requires quiet { S.faults system ≡ 0 }
@@ -114,7 +114,7 @@ impl<S: System + Drop, U: Use, B: Found> FileBoard<S, U, B> {
         }
     }
 
-    /// Returns the system that the board is over, and how often a call was refused.
+    /// Returns the board's system, and how many calls the board refused.
     pub fn into_parts(self) -> (S, Refusals<S, U>)
         ensures past { S.told result.0 ≡ self.past }
         ensures count { S.faults result.0 ≡ self.count }
@@ -127,8 +127,8 @@ impl<S: System + Drop, U: Use, B: Found> FileBoard<S, U, B> {
 }
 
 impl<S: System + Drop, U: Use, B: Found> FileBoard<S, U, B> {
-    // Lists a disk call, and opens or reads the journal's files, unless that was done. Fails if this
-    // file may not be used, which is the call's fault.
+    // Lists a disk call, and opens or reads the journal's files, unless that was done. Fails if
+    // this file may not be used.
     fn begin(&mut self, file: FileNo, call: DiskCall) -> Result<(), Failed>
         ensures ready { OnOk result (IsReady file self.new.files) }
         ensures kept { self.new.kept ≡ self.old.kept }
@@ -174,7 +174,7 @@ impl<S: System + Drop, U: Use, B: Found> Board for FileBoard<S, U, B> {
     }
 
     // After a change of the store that may not have reached its file, it isn't known which store
-    // the disk has. A sync that succeeds would say that it is.
+    // the disk has. A successful sync would promise that it is known.
     fn sync(&mut self, file: FileNo) -> Result<(), Failed> {
         if !self.kept.is_saved() {
             let refused = Err(CallFailed::Refused);

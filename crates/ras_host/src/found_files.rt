@@ -5,7 +5,7 @@ ghost use Rattle.ras_host.specs.Steps.FoundFiles.{found_of, with_found};
 use board_core::FileNo;
 use host_system::{FileName, FoundFile};
 
-/// For each journal file what was found of it, if it was.
+/// What was found of each journal file, if anything.
 #[derive(Drop)]
 pub(crate) struct FoundFiles {
     pub(crate) zero: Option<FoundFile>,
@@ -34,7 +34,7 @@ impl FoundFiles {
         }
     }
 
-    /// Keeps what was found of a journal file.
+    /// Records what was found of a journal file.
     pub(crate) fn keep(&mut self, name: FileName, found: Option<FoundFile>)
         ensures { self.new ≡ with_found name found self.old }
     {

@@ -16,9 +16,9 @@ use board_core::{Failed, FileNo};
 use host_system::{FileName, System, open_files, read_file};
 use std::alloc::Global;
 
-/// The journal's files, both of which are opened or read at the first use of either. A file of
-/// which a sync failed isn't used again: what was written to it before may be gone, even if a later
-/// sync succeeds.
+/// The journal's files, both of which are opened or read at the first use of either. A file whose
+/// sync failed isn't used again: what was written to it before may be gone, even if a later sync
+/// succeeds.
 #[derive(Drop)]
 pub enum JournalFiles {
     /// A run's files, which aren't open yet.
@@ -189,7 +189,7 @@ impl JournalFiles {
     }
 }
 
-// Returns the same answer for both files.
+// Returns the same value for both files.
 fn both(is_sound: bool) -> Pair<bool>
     ensures { result ≡ record { zero = is_sound; one = is_sound } }
 {

@@ -253,7 +253,7 @@ impl Kept {
     }
 
     /// Reads the bytes of the range from the offset `place` on into a buffer. Requires that the
-    /// range has so many bytes there.
+    /// range has that many bytes there.
     pub fn range_read<S: System>(
         &mut self,
         alloc: Global,
@@ -279,8 +279,8 @@ impl Kept {
         Ok(())
     }
 
-    /// Writes bytes into the range from the offset `place` on. Requires that the range has so many
-    /// bytes there.
+    /// Writes bytes into the range from the offset `place` on. Requires that the range has that
+    /// many bytes there.
     pub fn range_write<S: System>(
         &mut self,
         alloc: Global,
@@ -377,7 +377,8 @@ impl Kept {
     }
 }
 
-// Carries out a clear, which needs no memory: the record leaves the device and the file's bytes.
+// Completes a clear without allocating memory: the record is removed from the device and from the
+// file's bytes.
 fn cleared(before: Dev, saved: Saved) -> Change
     requires before { before ≡ record saved.device { store = [] } }
     requires begun { saved.device.command ≡ Some Clear }
@@ -395,7 +396,7 @@ fn cleared(before: Dev, saved: Saved) -> Change
     }
 }
 
-// Returns the change to a device whose store's file has these bytes, from a file.
+// Returns the change to a device that was read from these bytes of its store's file.
 fn change_to(before: Dev, device: Dev, bytes: Vec<u8>, had: &StoreFile) -> Change
     requires { bytes.items ≡ store_bytes device.store }
     ensures devices { (result.before ≡ before) × (result.made.device ≡ device) }

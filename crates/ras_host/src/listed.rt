@@ -1,4 +1,4 @@
-//! The list of a board's calls, which only contracts can read.
+//! The list of a board's calls, which only contracts read.
 ghost use Rattle.std.specs.Prelude.{◌≡◌, ◌∷◌, ◌++◌, []};
 ghost use Rattle.ras_host.specs.Steps.Listed.{access_noted, accesses_noted, disk_call_noted, disk_calls_noted, file_numbered, register_numbered};
 

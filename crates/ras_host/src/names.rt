@@ -11,8 +11,8 @@ use crate::refused::Refused;
 use board_core::FileNo;
 use host_system::{FileKind, FileName, FoundFile, Held, Kernel, Place, Refusal, Way};
 
-/// Returns what is found of a file, or `None` if it is missing. Only a journal file may be behind a
-/// symlink. Anything but a regular file is an error, because a call on it might wait forever;
+/// Returns what was found of a file, or `None` if it is missing. Only a journal file may be behind
+/// a symlink. Anything but a regular file is an error, because a call on it might wait forever;
 /// `rasd.new` is the exception.
 pub(crate) fn look<K: Kernel>(
     kernel: &mut K,
@@ -33,7 +33,7 @@ pub(crate) fn look<K: Kernel>(
     }
 }
 
-// Returns what is found of a journal file, whose name itself was found as `found`.
+// Returns what was found of a journal file, whose name itself was found as `found`.
 fn look_through<K: Kernel>(
     kernel: &mut K,
     refused: &mut Refused,
@@ -58,7 +58,7 @@ fn look_through<K: Kernel>(
 }
 
 // Fails if neither root nor this process's user owns a symlink, because the file behind it may not
-// be rasd's.
+// belong to rasd.
 fn check_owner<K: Kernel>(
     kernel: &mut K,
     refused: &mut Refused,
@@ -81,7 +81,7 @@ fn check_owner<K: Kernel>(
     Err(refused.foreign_link(link, &process))
 }
 
-// Returns what was found of a file that has to be a regular one, if it exists.
+// Returns what was found of a file, which has to be a regular file if it exists.
 fn regular(refused: &mut Refused, found: Option<FoundFile>) -> Result<Option<FoundFile>, Refusal>
     ensures same { IfOk result (λ same. same ≡ found) }
     ensures cause { refused.new ≡ refused.old + failed_any result }
@@ -170,7 +170,7 @@ pub(crate) fn check_names<K: Kernel>(
     Ok(FoundFiles { zero, one })
 }
 
-// Fails if both are one file.
+// Fails if both are the same file.
 fn check_apart(
     refused: &mut Refused,
     one: &Option<FoundFile>,
@@ -214,7 +214,7 @@ pub(crate) fn check_to_write<K: Kernel>(
 }
 
 // Fails if a journal file's name doesn't refer any more to the file that was locked, or if the file
-// is shorter than `place`. One call of the kernel says all of this.
+// is shorter than `place`. One call of the kernel checks all of this.
 fn check_journal<K: Kernel>(
     kernel: &mut K,
     refused: &mut Refused,
@@ -235,7 +235,7 @@ fn check_journal<K: Kernel>(
     check_still(refused, &found, &locked, place)
 }
 
-// Fails if a file that is kept has no name left.
+// Fails if a kept file has no name left.
 fn check_linked<K: Kernel>(
     kernel: &mut K,
     refused: &mut Refused,
@@ -273,8 +273,8 @@ fn check_still(
     }
 }
 
-// Returns what is found of a journal file, or `None` if it is missing. If a file is kept as this
-// name's, it has to be the same.
+// Returns what was found of a journal file, or `None` if it is missing. If a file is kept as this
+// name's, it has to be the same file.
 fn check_name<K: Kernel>(
     kernel: &mut K,
     refused: &mut Refused,

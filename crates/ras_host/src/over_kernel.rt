@@ -27,12 +27,12 @@ const NEW_MODE: u32 = 0o640;
 const UNOWNED_MODE: u32 = 0o600;
 
 /// The system over a kernel. It is modelled if its kernel is. Its faults are the kernel's failed
-/// calls, and what it refused for a reason of its own.
+/// calls, and the calls that it refused for its own reasons.
 #[derive(Drop)]
 pub struct OverKernel<K: Kernel + Drop> {
     kernel: K,
     refused: Refused,
-    // Each journal file that is locked, as its name was found then.
+    // What was found of each locked journal file under its name when it was locked.
     locked: FoundFiles,
     long: LongFiles,
     ghost known: { IfSome (K.told kernel) (AreLong long) } by { Prim.hlevel props },
@@ -53,8 +53,8 @@ impl<K: Kernel + Drop> OverKernel<K> {
     }
 }
 
-// Makes the calls of each call. No count is kept of its own: each fault is a failed call of the
-// kernel, or a refusal that `Refused` names.
+// The system's calls, each made up of calls of the kernel. Faults aren't counted separately: each
+// fault is a failed call of the kernel, or a refusal that `Refused` counts.
 impl<K: Kernel + Drop> System for OverKernel<K> {
     ghost told = { λ s. K.told s.kernel };
 
@@ -132,7 +132,8 @@ impl<K: Kernel + Drop> System for OverKernel<K> {
     }
 }
 
-// Returns the length of a file, or `None` if it is missing. If a file is kept, it is asked itself.
+// Returns the length of a file, or `None` if it is missing. The length of a kept file is read from
+// the file itself.
 fn find<K: Kernel>(
     kernel: &mut K,
     refused: &mut Refused,
@@ -238,7 +239,8 @@ fn make_new<K: Kernel>(kernel: &mut K, refused: &mut Refused) -> Result<(), Refu
     Ok(())
 }
 
-// Locks a file. The names are checked once it is locked, and what was found of the file is kept.
+// Locks a file. The names are checked once it is locked, and what was found of the file is
+// recorded.
 fn lock_file<K: Kernel>(
     kernel: &mut K,
     refused: &mut Refused,
@@ -302,7 +304,7 @@ fn sync_kept<K: Kernel>(kernel: &mut K, long: &mut LongFiles, name: FileName) ->
     }
 }
 
-// Returns whether a file that is kept is long. A file that is known to be long isn't asked.
+// Returns whether a file that is kept is long. For a file that is known to be long no call is made.
 fn find_long<K: Kernel>(
     kernel: &mut K,
     long: &mut LongFiles,
@@ -399,8 +401,8 @@ fn sync_to_read<K: Kernel>(
     }
 }
 
-// Makes a file durable that was opened to read it, and closes it. Where the file system has no syncs,
-// nothing waits to be written.
+// Makes a file durable that was opened to read it, and closes it. If the file system has no syncs,
+// nothing is left to be written.
 fn sync_opened<K: Kernel>(kernel: &mut K, file: FileNo) -> Result<(), Refusal>
     requires { MaySync (Held.Opened (Journal file)) (K.told kernel.old) (K.prepared kernel.old) }
     ensures told { OnOk result (Did (synced (Journal file)) (K.told kernel.old)
@@ -461,8 +463,8 @@ fn remove_new<K: Kernel>(kernel: &mut K, refused: &mut Refused) -> Result<(), Re
 }
 
 // Makes the names durable. A run keeps its files, a report keeps none. A run made the names durable
-// before it reported anything. So a report continues where it may search the folder but not open
-// it, or where the folder can't be synced, as it does with a file.
+// before it reported anything. So a report continues if it may search the folder but not open it,
+// or if the folder can't be synced, as it does for a file.
 fn sync_folders<K: Kernel>(kernel: &mut K) -> Result<(), Refusal>
     ensures told { OnOk result (Did synced_names (K.told kernel.old) (K.told kernel.new)) }
     ensures failed { OnErr result (K.told kernel.new ≡ K.told kernel.old) }

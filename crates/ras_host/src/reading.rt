@@ -113,7 +113,7 @@ pub(crate) fn read_journal<S: System>(
     Err(CallFailed::Refused)
 }
 
-// Returns the first bytes of a file, which are none if it is missing.
+// Returns the first bytes of a file, or no bytes if it is missing.
 fn read_first<S: System>(
     alloc: Global,
     file: FileNo,

@@ -94,7 +94,7 @@ impl Refused {
         self.raise()
     }
 
-    // A file stands where a new store's file is to be left.
+    // A file has the name under which a new store's file is to be left.
     pub(crate) fn left_before(&mut self, _found: &Option<FoundFile>) -> Refusal
         requires { _found.now ≢ None }
         ensures { self.new ≡ self.old + 1 }

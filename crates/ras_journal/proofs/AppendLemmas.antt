@@ -1,4 +1,4 @@
--- What a stop leaves at each moment of an append.
+-- What a crash leaves at each point of an append.
 use Rattle.std.proofs.Common.{◌≡◌, ◌∙◌, ℕ, ◌+◌, ◌-◌, ◌^◌, ◌≤◌, ◌<◌, ◌⊎◌, min, max, List, [], ◌∷◌, ◌++◌, length, Option, None, Some, Ok, refl, sym, ap, subst, arith, inl, inr, length-append}
 use Rattle.std.specs.Prelude.{IfSome, true, false}
 use Rattle.std.proofs.lemmas.Bool.Decides.{nat_tests}
@@ -84,13 +84,13 @@ ready standing account entries link left two room at links =
 account_two : (front : FileFront) → front.version ≡ Two → account_by front.version front.account ≡ front.account
 account_two front two = ap (λ (v : Version). account_by v front.account) two
 
--- the file is read as before: the account without the link
+-- The file is read as before: the account without the link.
 without_link : (standing : Standing) (account : State) (entries : List Entry) (link : List ℕ) (left : Left) (r : Ready standing account entries link left) (bytes : List ℕ) → length bytes ≤ LONGEST_FILE
     → front_of r.here.counts.taken bytes ≡ Ok (Some r.here.front) → Recovers account (with_file_in standing.file bytes left)
 without_link standing account entries link left r bytes short reads =
     recovers_of (with_file_in standing.file bytes left) (record { file = standing.file; front = r.here.front }) account (r.here.counts.changed bytes r.here.front short reads refl) r.here.account_is
 
--- or with the link
+-- The file is read with the link.
 with_the_link : (standing : Standing) (account : State) (entries : List Entry) (link : List ℕ) (left : Left) (r : Ready standing account entries link left) (bytes : List ℕ) → length bytes ≤ LONGEST_FILE
     → front_of r.here.counts.taken bytes ≡ Ok (Some (followed r.here.front entries)) → Recovers (account_after_all account entries) (with_file_in standing.file bytes left)
 with_the_link standing account entries link left r bytes short reads =
@@ -109,7 +109,7 @@ appending_of standing account entries here left bytes is recovers =
 
 -- ---- the two moments
 
--- at the first one the file is read as before
+-- During the first act the file is read as before.
 pub first_reads : (standing : Standing) (account : State) (entries : List Entry) (link : List ℕ) (here left : Left) (r : Ready standing account entries link here) (by : InFile standing.file (Torn (standing.length + 1) (length link + 1)) here left)
     → front_of r.here.counts.taken by.bytes ≡ Ok (Some r.here.front)
 first_reads standing account entries link here left r by =
@@ -125,7 +125,7 @@ first_moment standing account entries link here left r by =
     appending_of standing account entries here left by.bytes by.rest
     (inl (without_link standing account entries link here r by.bytes (omega arith) (first_reads standing account entries link here left r by)))
 
--- the file with the link on the disk
+-- the file once the link is on the disk
 abbrev pub linked_file : Standing → List ℕ → Left → List ℕ
 linked_file standing link left = linked (file_in standing.file left) standing.length link
 
@@ -139,7 +139,7 @@ gate_lies standing account entries link here r =
     let within : r.here.front.gate < length (file_in standing.file here) = r.lies.within in
     let gate : r.here.front.gate ≡ standing.length = r.gate in omega arith
 
--- at the second one its gate may be torn, and it is read without the link or with it
+-- During the second act the gate may be torn, and the file is read without the link or with it.
 module _ (standing : Standing) (account : State) (entries : List Entry) (link : List ℕ) (here there left : Left) (r : Ready standing account entries link here) (is : there ≡ with_file_in standing.file (linked_file standing link here) here)
     (by : InFile standing.file (Torn standing.length 1) there left) where
   pub second_left : left ≡ with_file_in standing.file by.bytes here
@@ -191,7 +191,7 @@ same_standing one other file version generation long links shut = λ i. record {
   shut = shut i;
 }
 
--- the standing of a file with one more link
+-- The position of a file with one more link.
 standing_follows : (standing : Standing) (account : State) (entries : List Entry) (link : List ℕ) (here : Left) (r : Ready standing account entries link here) (bytes : List ℕ)
     → standing_of (with_file_in standing.file bytes here).file0 (with_file_in standing.file bytes here).file1 (record { file = standing.file; front = followed r.here.front entries }) ≡ standing_with standing link
 unfolding link_bytes
@@ -233,7 +233,7 @@ at_behind standing account entries link here r =
 
 -- ---- as acts
 
--- the link with the next closed gate is on the disk, and its own gate is still closed
+-- The link and the next closed gate are on the disk, and the link's own gate is still closed.
 abbrev pub after_link : Standing → List ℕ → Told → Told
 after_link standing link t = after_write_through standing.file (standing.length + 1) (link ++ CLOSED_GATE ∷ []) t
 
@@ -246,7 +246,7 @@ append_told standing link t =
     ap (λ (b : List ℕ). with_file_in standing.file (overlay standing.length (OPEN_GATE ∷ []) b) there) (link_told standing link t)
     ∙ file_twice standing.file (linked_file standing link t.here) (opened_file standing link t.here) t.here
 
--- the closed gate still lies in the file once the link is written
+-- The closed gate still lies in the file once the link is written.
 pub gate_after_link : (standing : Standing) (link : List ℕ) (old mid : Option Told) → IfSome old (λ t. standing.length < length (file_of standing.file t)) → Steps (after_link standing link) old mid
     → IfSome mid (λ t. standing.length ≤ length (file_of standing.file t))
 gate_after_link standing link None mid within steps = subst (λ (o : Option Told). IfSome o (λ t. standing.length ≤ length (file_of standing.file t))) (sym steps) tt

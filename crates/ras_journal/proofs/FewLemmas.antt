@@ -1,4 +1,4 @@
--- How many links the files of a journal have: at each moment of an append, and behind it.
+-- How many links the files of a journal have, at each point of an append and afterwards.
 use Rattle.std.proofs.Common.{◌≡◌, ◌∙◌, ℕ, ◌+◌, ◌≤◌, ◌<◌, List, [], ◌∷◌, length, Option, None, Some, Result, Ok, refl, sym, ap, subst, arith, inl, inr, length-append}
 use Rattle.board_core.specs.declared.board.FileNo.{FileNo}
 use Rattle.board_core.specs.declared.board.FileNo.TheVariants.{Zero, One}
@@ -17,7 +17,7 @@ use Rattle.ras_journal.proofs.SwitchLemmas.{taken_other}
 
 -- ---- one file
 
--- A front tells them, whatever generation is taken.
+-- The front has the number of links, whatever generation the other file has.
 few_found : (file : List ℕ) → ((front : FileFront) → front_of None file ≡ Ok (Some front) → front.links ≤ 256) → AreLinksFew file
 few_found file few = λ taken front reads. few front (taken_other taken None file front reads refl)
 

@@ -1,5 +1,5 @@
--- What a file holds of which the front is another's, and what a link behind its closed gate makes
--- of it at each moment of an append.
+-- What a file contains that has the front of another file, and how a link after its closed gate is read at each point
+-- of an append.
 use Rattle.std.proofs.Common.{◌≡◌, ◌≢◌, ◌∙◌, ℕ, ◌+◌, ◌^◌, ◌≤◌, ◌<◌, ◌-◌, ◌⊎◌, max, List, [], ◌∷◌, ◌++◌, length, take, drop, get_or, Option, None, Some, Result, Ok, refl, sym, ap, subst, arith, inl, inr, append_assoc}
 use Rattle.std.specs.Prelude.{Bool, true, false, slice_index, nat_eq}
 use Rattle.std.proofs.lemmas.Bool.{cases_eq}
@@ -26,7 +26,7 @@ open_same gate one other same long some is =
     let reaching : gate ≤ length one = reaches gate one other same long in
     grind (arith, nat_tests)
 
--- where the closed gate of a front lies
+-- where the closed gate of a front is
 pub record Lies (taken : Option ℕ) (file : List ℕ) (whole : FileFront) : Type 0 where
   pub behind : 25 ≤ whole.gate
   pub within : whole.gate < length file
@@ -45,7 +45,7 @@ lies taken file whole e =
     let counted : whole.links + s.first.gate ≤ whole.gate + s.first.links = ended.links in
     record { behind = omega arith; within = ended.within; closed = ended.closed; few = omega arith }
 
--- a file that begins alike is read alike, up to the closed gate
+-- A file with the same bytes up to the closed gate is read in the same way.
 pub record ReadOn (taken : Option ℕ) (one : List ℕ) (whole : FileFront) : Type 0 where
   pub left : ℕ
   pub enough : length one ≤ left + whole.gate
@@ -77,7 +77,7 @@ pub reads_behind : (taken : Option ℕ) (one other : List ℕ) (whole next : Fil
 reads_behind taken one other whole next e same is closed =
     let r = reads_on taken one other whole e same in r.on ∙ bind_of _ _ _ (ends_behind r.left whole next one is closed r.enough)
 
--- what stands behind the closed gate decides nothing
+-- Bytes after the closed gate decide nothing.
 pub reads_same : (taken : Option ℕ) (one other : List ℕ) (whole : FileFront) → front_of taken other ≡ Ok (Some whole) → take (whole.gate + 1) one ≡ take (whole.gate + 1) other → front_of taken one ≡ Ok (Some whole)
 reads_same taken one other whole e same =
     let l = lies taken other whole e in
@@ -89,7 +89,7 @@ reads_same taken one other whole e same =
 
 -- ---- a link that is laid out behind a gate
 
--- a payload that can be read again and by which the account can be continued
+-- A payload that can be read, and whose entries can continue the account.
 pub record CanRead (front : FileFront) (entries : List Entry) : Type 0 where
   pub fits : length (payload_bytes entries) < 2 ^ 32
   pub reads : payload_of front.version (payload_bytes entries) ≡ Some entries
@@ -126,7 +126,7 @@ link_follows front file before rest entries laid place can =
       is = refl;
     })
 
--- a file with a byte at the closed gate and a link behind it, up to the next closed gate
+-- A file with a byte at the closed gate, a link after it, and the next closed gate.
 pub record LaidOut (base : List ℕ) (gate byte : ℕ) (entries : List Entry) (file : List ℕ) : Type 0 where
   pub next : ℕ
   pub rest : List ℕ
@@ -173,7 +173,7 @@ reads_unopened taken base file front byte entries e shut laid =
     let g = gate_place taken base front e in
     reads_closed taken file base front e (front_laid base file _ front.gate g.0 laid.is) (gate_closed front file (take front.gate base) _ byte laid.is g.1 shut)
 
--- whatever stands at the gate, the link counts whole or not at all
+-- Whatever byte is at the gate, the link is read whole or not at all.
 pub reads_gate : (taken : Option ℕ) (base file : List ℕ) (front : FileFront) (byte : ℕ) (entries : List Entry) → front_of taken base ≡ Ok (Some front) → CanRead front entries → LaidOut base front.gate byte entries file
     → (front_of taken file ≡ Ok (Some front)) ⊎ (front_of taken file ≡ Ok (Some (followed front entries)))
 reads_gate taken base file front byte entries e can laid = elim (cases_eq byte OPEN_GATE) [
@@ -186,7 +186,7 @@ reads_gate taken base file front byte entries e can laid = elim (cases_eq byte O
 pub closed_is : CLOSED_GATE ≢ OPEN_GATE
 closed_is e = absurd (omega (arith, e))
 
--- with a link on the disk, and its own gate still closed
+-- the file with the link on the disk, and the link's own gate still closed
 abbrev pub linked : List ℕ → ℕ → List ℕ → List ℕ
 linked base gate link = overlay (gate + 1) (link ++ CLOSED_GATE ∷ []) base
 
@@ -217,7 +217,7 @@ linked_parts base gate link within =
       within = omega arith;
     }
 
--- and then with an open gate
+-- the file with the link's gate opened
 abbrev pub opened : List ℕ → ℕ → List ℕ → List ℕ
 opened base gate link = overlay gate (OPEN_GATE ∷ []) (linked base gate link)
 
@@ -227,7 +227,7 @@ opened_laid base gate link w =
     append_assoc (take gate b1) (OPEN_GATE ∷ []) (drop (gate + 1) b1)
     ∙ (ap (λ (front : List ℕ). front ++ (OPEN_GATE ∷ drop (gate + 1) b1)) w.front ∙ ap (λ (rest : List ℕ). take gate base ++ (OPEN_GATE ∷ rest)) w.behind)
 
--- it is as long as before
+-- Opening the gate doesn't change the file's length.
 pub opened_length : (base : List ℕ) (gate : ℕ) (link : List ℕ) → gate < length base → length (opened base gate link) ≡ length (linked base gate link)
 opened_length base gate link within =
     let w = linked_parts base gate link within in
@@ -235,11 +235,11 @@ opened_length base gate link within =
     let kept : length base ≤ length b1 = w.kept in
     omega (arith, length-append (take gate b1 ++ (OPEN_GATE ∷ [])) (drop (gate + 1) b1), length-append (take gate b1) (OPEN_GATE ∷ []), length-take gate b1, length-drop (gate + 1) b1)
 
--- a torn write of the link changes nothing
+-- A torn write of the link changes nothing.
 pub torn_link : (taken : Option ℕ) (base file : List ℕ) (front : FileFront) (count : ℕ) → front_of taken base ≡ Ok (Some front) → Torn (front.gate + 1) count base file → front_of taken file ≡ Ok (Some front)
 torn_link taken base file front count e torn = reads_same taken file base front e torn.front
 
--- after a torn write of the gate the link counts whole or not at all
+-- After a torn write of the gate the link is read whole or not at all.
 pub torn_gate : (taken : Option ℕ) (base file : List ℕ) (front : FileFront) (entries : List Entry) → front_of taken base ≡ Ok (Some front) → CanRead front entries
     → Torn front.gate 1 (linked base front.gate (link_bytes entries)) file → (front_of taken file ≡ Ok (Some front)) ⊎ (front_of taken file ≡ Ok (Some (followed front entries)))
 torn_gate taken base file front entries e can torn =
@@ -256,7 +256,7 @@ torn_gate taken base file front entries e can torn =
     sym (take-append-drop front.gate file) ∙ (ap (λ (part : List ℕ). part ++ drop front.gate file) (torn.front ∙ w.front) ∙ ap (λ (rest : List ℕ). take front.gate base ++ rest) here) in
     reads_gate taken base file front byte entries e can (record { next = CLOSED_GATE; rest = w.rest; is = whole; closed = closed_is })
 
--- after all of it the link counts
+-- After the whole append the link is read.
 pub gate_written : (taken : Option ℕ) (base : List ℕ) (front : FileFront) (entries : List Entry) → front_of taken base ≡ Ok (Some front) → CanRead front entries
     → front_of taken (opened base front.gate (link_bytes entries)) ≡ Ok (Some (followed front entries))
 gate_written taken base front entries e can =

@@ -1,5 +1,5 @@
--- What a file holds at each moment in which a new generation is written over it: the gate at its
--- front is closed, all behind it is written, and the gate is opened.
+-- What a file contains at each point while a new generation is written over it: the gate at its front is closed,
+-- everything after it is written, and the gate is opened.
 use Rattle.std.proofs.Common.{◌≡◌, ◌≢◌, ◌∙◌, ℕ, ◌+◌, ◌≤◌, ◌<◌, ◌⊎◌, max, List, [], ◌∷◌, ◌++◌, length, take, drop, get_or, Option, None, Some, Ok, refl, sym, ap, arith, inl, inr, append_assoc}
 use Rattle.std.specs.Prelude.{true, false, slice_index}
 use Rattle.std.proofs.lemmas.Bool.{cases_eq}
@@ -14,7 +14,7 @@ use Rattle.ras_journal.specs.Laws.{CanBegin, begun, begun_front}
 use Rattle.ras_journal.proofs.FileLemmas.{closed_is}
 use Rattle.ras_journal.proofs.LawLemmas.{begun_reads}
 
--- a file that doesn't stand
+-- A file that isn't valid.
 pub absent : (taken : Option ℕ) (file : List ℕ) → has_open_gate file ≡ false → front_of taken file ≡ Ok None
 unfolding front_of
 absent taken file shut = rw shut refl
@@ -31,11 +31,11 @@ open_byte file is =
     let long : 1 < length file = grind (arith, nat_tests) in
     (byte, long)
 
--- a file from its first byte on
+-- A file is its first byte and the bytes after it.
 first_byte : (file : List ℕ) → 0 < length file → file ≡ slice_index file 0 ∷ drop 1 file
 first_byte file some = drop_more file 0 0 some
 
--- the gate at the front of a file that stands, or of one of at most one byte, is closed
+-- The gate at the front is closed, of a valid file or of a file with at most one byte.
 pub torn_close : (taken : Option ℕ) (base file : List ℕ) → (has_open_gate base ≡ true) ⊎ (length base ≤ 1) → Torn 0 1 base file → (front_of taken file ≡ front_of taken base) ⊎ (front_of taken file ≡ Ok None)
 torn_close taken base file (inr short) torn =
     let within : length file ≤ max (length base) 1 = torn.within in inr (absent taken file (too_short file (omega arith)))
@@ -50,18 +50,18 @@ torn_close taken base file (inl stands) torn = elim (cases_eq (slice_index file 
   | inr shut ↦ inr (absent taken file (shut_byte file shut))
 ]
 
--- all behind the closed gate at the front is written
+-- Everything after the closed gate at the front is written.
 pub torn_behind : (taken : Option ℕ) (base file : List ℕ) (count : ℕ) → 0 < length base → slice_index base 0 ≢ OPEN_GATE → Torn 1 count base file → front_of taken file ≡ Ok None
 torn_behind taken base file count some shut torn =
     let byte : slice_index file 0 ≡ slice_index base 0 =
     sym (get_or-take 1 file 0 0 (omega arith)) ∙ (ap (λ (l : List ℕ). get_or l 0 0) torn.front ∙ get_or-take 1 base 0 0 (omega arith)) in
     absent taken file (shut_byte file (λ is. shut (sym byte ∙ is)))
 
--- what is written behind the gate at the front, up to the first closed gate of the chain
+-- the bytes after the gate at the front, up to the first closed gate of the chain
 abbrev pub behind_front : Version → ℕ → List ℕ → List ℕ
 behind_front version generation checkpoint = drop 1 (begun version generation checkpoint) ++ CLOSED_GATE ∷ []
 
--- a file with all of it, its gate still closed
+-- the file with all of these bytes, its gate still closed
 abbrev pub unopened : List ℕ → Version → ℕ → List ℕ → List ℕ
 unopened base version generation checkpoint = overlay 1 (behind_front version generation checkpoint) base
 
@@ -84,7 +84,7 @@ unopened_parts base version generation checkpoint some =
       longer = omega (arith, ap length laid, length-append front (piece ++ rest));
     }
 
--- the gate is opened
+-- The gate is opened.
 pub torn_open : (taken : Option ℕ) (base file : List ℕ) (version : Version) (generation : ℕ) (checkpoint : List ℕ) (account : State) → 0 < length base → CanBegin taken version generation checkpoint account
     → Torn 0 1 (unopened base version generation checkpoint) file → (front_of taken file ≡ Ok None) ⊎ (front_of taken file ≡ Ok (Some (begun_front version generation checkpoint account)))
 torn_open taken base file version generation checkpoint account some can torn =
@@ -99,7 +99,7 @@ torn_open taken base file version generation checkpoint account some can torn =
       | inr shut ↦ inl (absent taken file (shut_byte file shut))
     ]
 
--- and stands then with the new generation
+-- The opened file is valid with the new generation.
 pub opened_reads : (taken : Option ℕ) (base : List ℕ) (version : Version) (generation : ℕ) (checkpoint : List ℕ) (account : State) → 0 < length base → CanBegin taken version generation checkpoint account
     → front_of taken (overlay 0 (OPEN_GATE ∷ []) (unopened base version generation checkpoint)) ≡ Ok (Some (begun_front version generation checkpoint account))
 opened_reads taken base version generation checkpoint account some can =

@@ -1,4 +1,4 @@
--- How the fronts of a file follow each other, and what of a file decides them.
+-- How the fronts of a file follow each other, and which bytes of a file decide them.
 use Rattle.std.proofs.Common.{◌≡◌, ◌∙◌, ℕ, zero, suc, ◌+◌, ◌≤◌, ◌<◌, List, [], ◌++◌, length, take, Option, None, Some, Result, Ok, Err, refl, sym, ap, arith}
 use Rattle.std.proofs.lemmas.List.Sums.{fold-append}
 use Rattle.std.specs.Prelude.{Bool, true, false, if◌then◌else◌}
@@ -56,7 +56,7 @@ first_within taken file front e =
     let gate : front.gate ≡ 25 + f.count = f.gate in
     (omega arith, omega arith)
 
--- what stands from its gate on doesn't matter
+-- Bytes from the front's gate on don't matter.
 pub first_same : (taken : Option ℕ) (gate : ℕ) (one other : List ℕ) (front : FileFront) → first_front taken other ≡ Ok front → take gate one ≡ take gate other → gate ≤ length other → front.gate ≤ gate
     → first_front taken one ≡ Ok front
 first_same taken gate one other front e same long within =
@@ -74,7 +74,7 @@ first_same taken gate one other front e same long within =
 
 -- ---- the next front
 
--- the gate is open, and behind it stands a link by which the account can be continued
+-- The gate is open, and after it is a link whose entries can continue the account.
 pub record NextFront (file : List ℕ) (front next : FileFront) : Type 0 where
   pub count : ℕ
   pub entries : List Entry
@@ -162,7 +162,7 @@ next_same gate one other front next e same long within =
 
 -- ---- the whole front
 
--- a walk that ended ended at a closed gate within the file, behind where it began
+-- A walk that ended, ended at a closed gate within the file, at or after its start.
 pub record Ended (file : List ℕ) (first whole : FileFront) : Type 0 where
   pub closed : next_front whole file ≡ Ok None
   pub within : whole.gate < length file
@@ -199,13 +199,13 @@ walk_ended (suc most) front whole file e = by (λ longer rest. walk_ended most l
         let behind : front.gate + 5 ≤ longer.gate = step.0 in
         record { closed = rest.closed; within = rest.within; later = omega arith; links = omega arith }
 
--- The walk of another file that begins alike goes on from there.
+-- The walk along another file with the same beginning continues from there.
 pub record GoesOn (file : List ℕ) (most : ℕ) (first whole : FileFront) : Type 0 where
   pub left : ℕ
   pub enough : length file ≤ left + whole.gate
   pub on : whole_front most first file ≡ whole_front left whole file
 
--- one step of it, where the rest goes on
+-- one step of such a walk, if the rest continues
 step_on : (whole : FileFront) (one : List ℕ) (front longer : FileFront) → ((most : ℕ) → length one ≤ most + longer.gate → GoesOn one most longer whole) → (most : ℕ) → length one ≤ most + front.gate → next_front front one ≡ Ok (Some longer)
     → front.gate + 5 ≤ longer.gate → whole.gate ≤ length one → longer.gate ≤ whole.gate → GoesOn one most front whole
 unfolding whole_front
@@ -254,13 +254,13 @@ ends_behind (suc most) front next file is closed enough =
     let behind : front.gate + 5 ≤ next.gate = step.0 in
     bind_of (next_front front file) _ (Some next) is ∙ ends_closed most next file closed (omega arith)
 
--- what follows the gate is damaged
+-- The bytes after the gate are damaged.
 pub ends_broken : (most : ℕ) (front : FileFront) (file : List ℕ) (place : ℕ) → next_front front file ≡ Err place → front.gate < length file → length file ≤ most + front.gate → whole_front most front file ≡ Err place
 unfolding whole_front
 ends_broken zero front file place broken more enough = absurd (omega arith)
 ends_broken (suc most) front file place broken more enough = bind_err (next_front front file) _ place broken
 
--- the file ends where the gate should be
+-- The file ends at the gate's offset.
 pub gate_cut : (front : FileFront) (file : List ℕ) → length file ≡ front.gate → next_front front file ≡ Err front.gate
 unfolding next_front
 gate_cut front file ends = bind_err (field is_open_of front.gate 1 file) _ front.gate (field_cut is_open_of front.gate 1 file (omega arith))
@@ -275,8 +275,7 @@ unfolding whole_front
 ends_at_gate zero front next file is ends enough = absurd (let step = next_within front next file is in let behind : front.gate + 5 ≤ next.gate = step.0 in omega arith)
 ends_at_gate (suc most) front next file is ends enough = bind_of (next_front front file) _ (Some next) is ∙ cut_at_gate most next file ends
 
--- A link follows the gate, or the walk ends there. What the walk from there on comes to continues
--- the account.
+-- A link follows the gate, or the walk ends there. The rest of the walk continues the account.
 pub record Continues (from to : FileFront) : Type 0 where
   pub more : List Entry
   pub account : to.account ≡ account_after_all from.account more
@@ -329,7 +328,7 @@ walks_past (suc most) front whole file gate e = by (next_front front file) refl 
     by (Ok None) is e = absurd (not_closed (sym gate ∙ closed_parts front file is))
     by (Ok (Some longer)) is e = record { next = longer; step = is; on = walk_continues most longer whole file e }
 
--- a file that stands and was read to its closed gate
+-- A valid file was read to its closed gate.
 pub record Stands (taken : Option ℕ) (file : List ℕ) (whole : FileFront) : Type 0 where
   pub first : FileFront
   pub open_gate : has_open_gate file ≡ true

@@ -1,4 +1,4 @@
--- Which of two files counts, and what becomes of the journal where that file changes.
+-- Which of two files is current, and what becomes of the journal if the current file changes.
 use Rattle.std.proofs.Common.{◌≡◌, ◌∙◌, ℕ, ◌≤◌, List, length, Option, None, Some, Result, Ok, Err, refl, sym, ap, subst, arith}
 use Rattle.std.specs.Prelude.{Bool, true, false, nat_lt, ◌||◌, if◌then◌else◌}
 use Rattle.std.specs.Option.{option_map}
@@ -21,7 +21,7 @@ in_file_ok file (Err place) x e = absurd cc
 in_file_of : {A : Type 0} (file : FileNo) (r : Result A ℕ) (x : A) → r ≡ Ok x → in_file file r ≡ Ok x
 in_file_of {A} file r x e = ap (λ (s : Result A ℕ). in_file file s) e
 
--- two files that are read
+-- Two files are read.
 pub record BothRead (file0 file1 : List ℕ) : Type 0 where
   pub zero : Option FileFront
   pub one : Option FileFront
@@ -66,7 +66,7 @@ both_parts file0 file1 journal e = by (is_file_too_long file0) refl (is_file_too
           same_ok _ _ one.2,
         )
 
--- A file counts. Where its bytes become others of the same generation, it still counts.
+-- A file is current. If its bytes are replaced by others of the same generation, it is still current.
 pub record Counts (file : FileNo) (front : FileFront) (left : Left) : Type 0 where
   pub taken : Option ℕ
   pub reads : front_of taken (file_in file left) ≡ Ok (Some front)
@@ -162,7 +162,7 @@ at_of left journal standing account e stands is = record {
   position = ap (λ (r : Result (Option JournalFile) Refusal). standing_in left.file0 left.file1 r) e ∙ ap (λ (s : Standing). Some s) stands;
 }
 
--- a journal that stands here
+-- The journal is at this position in these files.
 pub record Here (standing : Standing) (account : State) (left : Left) : Type 0 where
   pub front : FileFront
   pub counts : Counts standing.file front left

@@ -166,7 +166,7 @@ cut_in_payload taken file front count rest e fits short =
     opened_on taken file front bytes (front.gate + 5) e
     (bind_of _ _ _ (size_read front cut (take front.gate file) rest count fits refl g.1) ∙ bind_err _ _ _ (field_cut (entries_by front.version front.account) (front.gate + 5) count cut (omega arith)))
 
--- the first bytes of a link, from its length on
+-- The first bytes of a link, at least its length.
 take_link : (entries : List Entry) (n : ℕ) → 4 ≤ n → (k : ℕ) × (n ≡ 4 + k) × (take n (link_bytes entries) ≡ u32_bytes (length (payload_bytes entries)) ++ take k (payload_bytes entries))
 unfolding link_bytes
 take_link entries n some =
@@ -221,7 +221,7 @@ stays_from account (entry ∷ entries) test = by (are_past (numbers_of (account_
     by false is false is_rest test go = absurd cc
     by false is true is_rest test go = (within_from (account_after account entry) is, go is_rest)
 
--- the entries that were read, and that the account can be continued by them
+-- The entries that were read, which can continue the account.
 record Read (version : Version) (account : State) (bytes : List ℕ) (entries : List Entry) : Type 0 where
   payload : payload_of version bytes ≡ Some entries
   within : stays_within account entries ≡ true

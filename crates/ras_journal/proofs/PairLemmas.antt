@@ -15,7 +15,7 @@ use Rattle.ras_journal.proofs.PartLemmas.{bind_of, bind_err, field_made, field_w
 use Rattle.ras_journal.proofs.FrontLemmas.{FirstFront, first_parts, front_parts, walk_continues}
 use Rattle.ras_journal.proofs.JournalLemmas.{both_whole}
 
--- what is refused of the journal is refused of the account
+-- If the journal is rejected, so is the account.
 refused : (file0 file1 : List ℕ) (why : Refusal) → journal_of file0 file1 ≡ Err why → recovered file0 file1 ≡ Err why
 unfolding recovered
 refused file0 file1 why e = bind_err (journal_of file0 file1) _ why e
@@ -75,7 +75,7 @@ pub one_damaged : (file0 file1 : List ℕ) (zero : Option FileFront) (place : �
     → recovered file0 file1 ≡ Err (damaged One place)
 one_damaged file0 file1 zero place short0 short1 e0 e1 = refused file0 file1 (damaged One place) (one_refused file0 file1 zero place short0 short1 e0 e1)
 
--- a generation that file 0 has taken
+-- A test for a generation that file 0 doesn't have.
 not_taken : (b : Bool) → (b && false) ≡ false
 not_taken true = refl
 not_taken false = refl

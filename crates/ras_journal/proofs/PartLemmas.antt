@@ -1,4 +1,4 @@
--- A field of two files whose beginnings are the same, and a field that is laid out in a file.
+-- A field of two files with the same beginning, and a field at its place in a file.
 use Rattle.std.proofs.Common.{◌≡◌, ◌∙◌, ℕ, ◌+◌, ◌≤◌, ◌<◌, List, ◌++◌, length, take, drop, Option, None, Some, Result, Ok, Err, refl, sym, ap, arith}
 use Rattle.std.specs.Prelude.{true, false, nat_le}
 use Rattle.std.proofs.Common.{inl, inr}
@@ -22,21 +22,21 @@ bind_err r f why e = rw e refl
 pub same_ok : {A E : Type 0} (x y : A) → ◌≡◌ {A = Result A E} (Ok x) (Ok y) → x ≡ y
 same_ok x y e = cc
 
--- a part that is within the file
+-- A part that is within the file is read.
 pub part_within : (place count : ℕ) (file : List ℕ) → place + count ≤ length file → part place count file ≡ Some (take count (drop place file))
 unfolding part
 part_within place count file within =
     let test : nat_le (place + count) (length file) ≡ true = grind (arith, nat_tests) in
     rw test refl
 
--- and one that is not
+-- A part that isn't within the file isn't read.
 pub part_cut : (place count : ℕ) (file : List ℕ) → length file < place + count → part place count file ≡ None
 unfolding part
 part_cut place count file past =
     let test : nat_le (place + count) (length file) ≡ false = grind (arith, nat_tests) in
     rw test refl
 
--- a file's beginning is as long as the other's
+-- A file with the other file's beginning is at least as long.
 pub reaches : (gate : ℕ) (one other : List ℕ) → take gate one ≡ take gate other → gate ≤ length other → gate ≤ length one
 reaches gate one other front within = omega (arith, length-take gate one, length-take gate other, ap length front)
 
@@ -54,12 +54,12 @@ unfolding field
 field_same make gate place count one other front within inside =
     ap (λ (bytes : Option (List ℕ)). some_or place (option_and_then make bytes)) (part_same gate place count one other front within inside)
 
--- a field that the file's end cuts
+-- A field that the file's end cuts can't be read.
 pub field_cut : {A : Type 0} (make : List ℕ → Option A) (place count : ℕ) (file : List ℕ) → length file < place + count → field make place count file ≡ Err place
 unfolding field
 field_cut make place count file past = ap (λ (found : Option (List ℕ)). some_or place (option_and_then make found)) (part_cut place count file past)
 
--- a field that can be read is within the file
+-- A field that can be read is within the file.
 pub field_within : {A : Type 0} (make : List ℕ → Option A) (place count : ℕ) (file : List ℕ) (x : A) → field make place count file ≡ Ok x → place + count ≤ length file
 unfolding field
 field_within {A} make place count file x e = elim (cases_lt (length file) (place + count)) [
@@ -70,7 +70,7 @@ field_within {A} make place count file x e = elim (cases_lt (length file) (place
     no_field : ◌≡◌ {A = Result A ℕ} (Err place) (Ok x) → ⊥
     no_field e = cc
 
--- a field of a file that is laid out before, bytes and after
+-- The field of a file that consists of the bytes before, the field's bytes and the bytes after.
 pub field_at : {A : Type 0} (make : List ℕ → Option A) (place count : ℕ) (file before bytes after : List ℕ) → file ≡ before ++ (bytes ++ after) → place ≡ length before → count ≡ length bytes → field make place count file ≡ some_or place (make bytes)
 unfolding field
 field_at make place count file before bytes after laid starts counts =
@@ -79,7 +79,7 @@ field_at make place count file before bytes after laid starts counts =
     let long : place + count ≤ length file = omega (arith, ap length laid, length-append before (bytes ++ after), length-append bytes after) in
     ap (λ (found : Option (List ℕ)). some_or place (option_and_then make found)) (part_within place count file long ∙ ap (λ (l : List ℕ). Some l) here)
 
--- what was made of a field was made of the bytes there
+-- The value of a field is made from the field's bytes.
 pub field_made : {A : Type 0} (make : List ℕ → Option A) (place count : ℕ) (file : List ℕ) (x : A) → field make place count file ≡ Ok x → make (take count (drop place file)) ≡ Some x
 unfolding field
 field_made {A} make place count file x e = by (make (take count (drop place file))) refl (sym (ap (λ (found : Option (List ℕ)). some_or place (option_and_then make found)) (part_within place count file (field_within make place count file x e))) ∙ e)

@@ -1,4 +1,4 @@
--- What becomes of the journal where the file that doesn't count changes.
+-- What becomes of the journal if the file that isn't current changes.
 use Rattle.std.proofs.Common.{◌≡◌, ◌∙◌, ℕ, ◌≤◌, List, length, take, drop, Option, None, Some, Ok, refl, sym, ap}
 use Rattle.std.specs.Prelude.{Bool, true, false, ◌&&◌, if◌then◌else◌, nat_le, not}
 use Rattle.std.specs.Option.{option_and_then}
@@ -66,17 +66,17 @@ taken_other taken other file front e free =
 
 -- ---- the other file changes
 
--- the generation that is taken for the file that doesn't count
+-- the generation that the other file can't have
 abbrev pub taken_for_other : FileNo → FileFront → Option ℕ
 taken_for_other Zero front = Some front.generation
 taken_for_other One front = None
 
--- which counts then
+-- the current file, given the fronts of both files
 abbrev pub greater_with : FileNo → FileFront → Option FileFront → Option JournalFile
 greater_with Zero front changed = greater (Some front) changed
 greater_with One front changed = greater changed (Some front)
 
--- a generation other than the journal's, or none
+-- The other file has another generation, or isn't valid.
 abbrev pub IsApart : FileFront → Option FileFront → Type 0
 IsApart front changed = is_taken (generation_in changed) front.generation ≡ false
 

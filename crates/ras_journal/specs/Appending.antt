@@ -1,4 +1,4 @@
--- What an append of a link does, and what a crash at any point leaves of it.
+-- What an append of a link does, and what a crash at any point of it leaves.
 use Rattle.std.specs.Prelude.{◌≡◌, ℕ, ◌+◌, ◌-◌, ◌^◌, ◌<◌, ◌≤◌, ◌⊎◌, min, Bool, true, false, nat_lt, nat_le, ◌||◌, List, [], ◌∷◌, ◌++◌, length, Result, Ok, Err, Option}
 use Rattle.board_core.specs.Clock.{Clock, Rests}
 use Rattle.board_core.specs.Stop.{Left, file_in, with_file_in}
@@ -19,7 +19,7 @@ use Rattle.ras_journal.specs.declared.refused.AppendRefused.TheVariants.{Full, D
 use Rattle.ras_journal.specs.Recovered.{Recovers, IsAt}
 use Rattle.ras_journal.specs.View.{JournalView}
 
--- how long a file is with a link of these bytes at its closed gate, and the next closed gate
+-- The length of a file with a link of these bytes at its closed gate, and the next closed gate.
 abbrev pub length_with : Standing → List ℕ → ℕ
 length_with standing link = standing.length + 1 + length link + 1
 
@@ -50,7 +50,8 @@ append_refused_end Disk = broke disk_call
 abbrev pub append_end : Result (Unit {0}) AppendRefused → Ended
 append_end result = ended_by append_refused_end result
 
--- What becomes of a journal that is appended to, if this is its next position: if a disk call failed, it has failed.
+-- What an append does to a journal, if this is the journal's next position: if a disk call failed, the journal has
+-- failed.
 abbrev pub MovesOn : Result (Unit {0}) AppendRefused → Standing → JournalView → JournalView → Type 0
 MovesOn (Ok done) next old new = new ≡ record { standing = next; failed = false }
 MovesOn (Err Full) next old new = new ≡ old
@@ -66,19 +67,19 @@ abbrev pub is_first_version : Version → Bool
 is_first_version One = true
 is_first_version Two = false
 
--- whether the journal has to be switched before this link is appended: its chain has 256 or more links, its file would
--- be too long, or the file is of version 1
+-- Whether the journal has to be switched before this link is appended: its chain has 256 or more links, its file would
+-- be too long, or the file is of version 1.
 abbrev pub needs_switch : Standing → List ℕ → Bool
 needs_switch standing link =
     nat_le MOST_LINKS standing.links || nat_lt LONGEST_FILE (length_with standing link)
     || is_first_version standing.version
 
--- there is room for this link in a file of version 2
+-- There is room for this link in a file of version 2.
 pub record HasRoom (standing : Standing) (link : List ℕ) : Type 0 where
   pub version : standing.version ≡ Two
   pub room : length_with standing link ≤ LONGEST_FILE
 
--- these bytes are the link of these entries, by which the account can be continued
+-- These bytes are the link of these entries, which can continue the account.
 pub record Links (account : State) (entries : List Entry) (link : List ℕ) : Type 0 where
   pub can : CanLink Two entries
   pub bytes : link ≡ link_bytes entries
@@ -89,8 +90,8 @@ pub record Before (standing : Standing) (account : State) (t : Told) (told : Opt
   pub rests : Rests t told clock
   pub at : IsAt standing account t.here
 
--- From whatever a crash during the append leaves, the account is recovered without the link or with it. All but the
--- journal's file is unchanged.
+-- From whatever a crash during the append leaves, the account is recovered without the link or with it. Everything
+-- except the journal's file is unchanged.
 pub record Appending (standing : Standing) (account : State) (entries : List Entry) (here left : Left) : Type 0 where
   pub recovers : Recovers account left ⊎ Recovers (account_after_all account entries) left
   pub rest : left ≡ with_file_in standing.file (file_in standing.file left) here

@@ -12,12 +12,12 @@ use Rattle.entry_format.specs.declared.version.Version.TheVariants.{One, Two}
 use Rattle.journal_format.specs.PayloadReading.{payload_of}
 use Rattle.ras_journal.specs.declared.limits.TheConstants.{LAST_GENERATION, OPEN_GATE}
 
--- n bytes of a file from an offset on, if the file's end doesn't cut them
+-- n bytes of a file from an offset on, unless the file's end cuts them
 unfoldable pub part : ℕ → ℕ → List ℕ → Option (List ℕ)
 part place count file =
     if nat_le (place + count) (length file) then Some (take count (drop place file)) else None
 
--- the value, or this error if there is none
+-- the value, or this error if it is missing
 abbrev pub some_or : {A E : Type 0} → E → Option A → Result A E
 some_or why None = Err why
 some_or why (Some x) = Ok x
@@ -40,7 +40,7 @@ version_of bytes =
 abbrev pub number_of : ℕ → List ℕ → Option ℕ
 number_of width bytes = Some (number_at 0 width bytes)
 
--- a generation from 1 to 2^63 - 1 that the other file doesn't have
+-- whether the other file has this generation
 abbrev pub is_taken : Option ℕ → ℕ → Bool
 is_taken taken generation = option_map_or (λ other. nat_eq other generation) taken false
 
@@ -53,17 +53,17 @@ abbrev pub generation_of : Option ℕ → List ℕ → Option ℕ
 generation_of taken bytes =
     if is_generation taken (number_at 0 8 bytes) then Some (number_at 0 8 bytes) else None
 
--- whether a gate is open: every other byte closes it
+-- Whether a gate is open: every byte but one closes it.
 abbrev pub is_open_of : List ℕ → Option Bool
 is_open_of bytes = Some (nat_eq (slice_index bytes 0) OPEN_GATE)
 
--- whether an account, continued by entries in order, stays within what it can count after each
+-- Whether an account, continued by entries in order, stays within its limits after each.
 abbrev pub stays_within : State → List Entry → Bool
 stays_within account [] = true
 stays_within account (entry ∷ entries) =
     not (are_past (numbers_of (account_after account entry))) && stays_within (account_after account entry) entries
 
--- the entries of a payload by which an account can be continued
+-- the entries of a payload that can continue an account
 abbrev pub entries_by : Version → State → List ℕ → Option (List Entry)
 entries_by version account bytes =
     option_and_then (λ entries. if stays_within account entries then Some entries else None) (payload_of version bytes)

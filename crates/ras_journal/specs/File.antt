@@ -21,12 +21,12 @@ use Rattle.journal_format.specs.CheckpointReading.{checkpoint_of}
 use Rattle.ras_journal.specs.declared.limits.TheConstants.{OPEN_GATE}
 use Rattle.ras_journal.specs.Fields.{field, version_of, number_of, generation_of, is_open_of, entries_by}
 
--- a file is valid if it is longer than 1 byte and its byte 0 is an open gate
+-- A file is valid if it is longer than 1 byte and its byte 0 is an open gate.
 abbrev pub has_open_gate : List ℕ → Bool
 has_open_gate file = nat_lt 1 (length file) && nat_eq (slice_index file 0) OPEN_GATE
 
--- what was read of a file up to a gate: the gate's offset, how many links come before it, and the account of the
--- checkpoint continued by their entries
+-- What was read of a file up to a gate: the gate's offset, the number of links before it, and the account of the
+-- checkpoint continued by their entries.
 pub record FileFront : Type 0 where
   pub version : Version
   pub generation : ℕ
@@ -34,7 +34,7 @@ pub record FileFront : Type 0 where
   pub links : ℕ
   pub account : State
 
--- the front up to the first gate of the chain, given the generation that the other file has, if it has one
+-- the front up to the first gate of the chain, given the generation of the other file, if that is valid
 unfoldable pub first_front : Option ℕ → List ℕ → Result FileFront ℕ
 first_front taken file = do
   version ← field version_of 1 8 file
@@ -58,7 +58,7 @@ front_behind_link front file = do
   entries ← field (entries_by front.version front.account) (front.gate + 5) count file
   Ok (with_link front count entries)
 
--- the front up to the next gate if this gate is open, and none if it is closed
+-- The front up to the next gate if this gate is open, and None if it is closed.
 unfoldable pub next_front : FileFront → List ℕ → Result (Option FileFront) ℕ
 next_front front file = do
   is_open ← field is_open_of front.gate 1 file
@@ -71,7 +71,8 @@ whole_front (suc most) front file = do
   next ← next_front front file
   elim next [ None ↦ Ok front | Some longer ↦ whole_front most longer file ]
 
--- Everything that counts of a file, or nothing if the file isn't valid; or else the offset at which it is damaged.
+-- All that decides the account of a file, or None if the file isn't valid; or else the offset at which the file is
+-- damaged.
 unfoldable pub front_of : Option ℕ → List ℕ → Result (Option FileFront) ℕ
 front_of taken file =
     if has_open_gate file then (do
@@ -80,7 +81,7 @@ front_of taken file =
       Ok (Some whole))
     else Ok None
 
--- the account of a file: an account of version 1 is taken over by an upgrade marker
+-- The account of a file. An account of version 1 gets an upgrade marker.
 abbrev pub account_by : Version → State → State
 account_by One account = account_after_mark account
 account_by Two account = account

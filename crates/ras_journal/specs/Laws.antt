@@ -1,4 +1,4 @@
--- Terms that the laws of journal files use.
+-- Terms of the laws of journal files.
 use Rattle.std.specs.Prelude.{◌≡◌, ℕ, ◌+◌, ◌<◌, ◌≤◌, ◌^◌, false, List, ◌∷◌, ◌++◌, length, take, codes, Option, Some, Ok, Err}
 use Rattle.ras_base.specs.LittleEndian.{u64_bytes}
 use Rattle.ras_facts.specs.declared.entry.Entry.{Entry}
@@ -18,16 +18,15 @@ abbrev pub magic : Version → List ℕ
 magic One = codes "RASJRNL1"
 magic Two = codes "RASJRNL2"
 
--- a file is read up to this front, given the generation that the other file has, if it has one; or it is damaged at an
--- offset
+-- A file is read up to this front, given the generation of the other file, if that is valid.
 abbrev pub IsRead : Option ℕ → List ℕ → FileFront → Type 0
 IsRead taken file front = front_of taken file ≡ Ok (Some front)
 
--- a file is damaged at this offset, given the generation that the other file has, if it has one
+-- A file is damaged at this offset, given the generation of the other file, if that is valid.
 abbrev pub IsDamaged : Option ℕ → List ℕ → ℕ → Type 0
 IsDamaged taken file place = front_of taken file ≡ Err place
 
--- a file that isn't too long
+-- A file isn't too long.
 abbrev pub IsShort : List ℕ → Type 0
 IsShort file = length file ≤ LONGEST_FILE
 
@@ -37,7 +36,8 @@ abbrev pub begun : Version → ℕ → List ℕ → List ℕ
 begun version generation checkpoint =
     OPEN_GATE ∷ (magic version ++ (u64_bytes generation ++ (u64_bytes (length checkpoint) ++ checkpoint)))
 
--- such a file can be read: its generation isn't the other file's, and its checkpoint is one of this account
+-- A file up to its first gate can be read: its generation isn't the other file's, and its checkpoint is a checkpoint
+-- of this account.
 pub record CanBegin (taken : Option ℕ) (version : Version) (generation : ℕ) (checkpoint : List ℕ) (account : State) : Type 0 where
   pub first : 1 ≤ generation
   pub last : generation ≤ LAST_GENERATION
@@ -55,7 +55,7 @@ begun_front version generation checkpoint account = record {
   account = account;
 }
 
--- a link of these entries can follow a front: the account can be continued by them
+-- A link of these entries can follow a front: the entries can continue its account.
 pub record CanFollow (front : FileFront) (entries : List Entry) : Type 0 where
   pub link : CanLink front.version entries
   pub within : StaysWithin front.account entries
@@ -68,7 +68,7 @@ followed front entries = with_link front (length (payload_bytes entries)) entrie
 abbrev pub opened_with : List ℕ → FileFront → List ℕ → List ℕ
 opened_with file front bytes = take front.gate file ++ (OPEN_GATE ∷ bytes)
 
--- The bytes begin with a whole link, all of whose entries count, and maybe more links follow.
+-- The bytes begin with a whole link whose entries are all counted, and maybe more links follow.
 pub record FollowsWhole (front : FileFront) (bytes : List ℕ) (longer : FileFront) : Type 0 where
   pub entries : List Entry
   pub more : List Entry

@@ -11,7 +11,7 @@ use Rattle.ras_journal.specs.declared.limits.TheConstants.{LONGEST_FILE, OPEN_GA
 use Rattle.ras_journal.specs.declared.standing.Standing.{Standing}
 use Rattle.ras_journal.specs.File.{AreLinksFew, FileFront, front_of, account_by}
 
--- why nothing is recovered: a file is too long, or a file is damaged at an offset
+-- Why nothing is recovered: a file is too long, or a file is damaged at an offset.
 pub data Refusal : Type 0 where
   too_long : Refusal
   damaged : FileNo → ℕ → Refusal
@@ -21,12 +21,12 @@ abbrev pub in_file : {A : Type 0} → FileNo → Result A ℕ → Result A Refus
 in_file file (Ok x) = Ok x
 in_file file (Err place) = Err (damaged file place)
 
--- the current file, and what counts of it
+-- the current file and its front
 pub record JournalFile : Type 0 where
   pub file : FileNo
   pub front : FileFront
 
--- of two valid files, the one with the greater generation is current
+-- Of two valid files, the file with the greater generation is current.
 abbrev pub greater : Option FileFront → Option FileFront → Option JournalFile
 greater None None = None
 greater (Some zero) None = Some (record { file = Zero; front = zero })
@@ -42,7 +42,7 @@ abbrev pub is_file_too_long : List ℕ → Bool
 is_file_too_long file = nat_lt LONGEST_FILE (length file)
 
 -- File 0 is read before file 1. If both are valid and have one generation, file 1 is damaged at its generation. Damage
--- counts also in the file with the lesser generation.
+-- in the file with the lesser generation counts too.
 unfoldable pub journal_of : List ℕ → List ℕ → Result (Option JournalFile) Refusal
 journal_of file0 file1 =
     if is_file_too_long file0 || is_file_too_long file1 then Err too_long else (do
@@ -50,7 +50,7 @@ journal_of file0 file1 =
       one ← in_file One (front_of (generation_in zero) file1)
       Ok (greater zero one))
 
--- the account of a journal, or the empty account if there is no journal
+-- the account of a journal; the empty account if there is no journal
 abbrev pub account_of_journal : Option JournalFile → State
 account_of_journal None = account_of empty
 account_of_journal (Some journal) = account_by journal.front.version journal.front.account
@@ -85,27 +85,27 @@ standing_of file0 file1 journal = record {
   shut = is_shut (other_of journal.file file0 file1);
 }
 
--- the position of the journal of two files, or None if no file is valid or one is refused
+-- The position of the journal of two files, or None if no file is valid or the files are rejected.
 abbrev pub standing_in : List ℕ → List ℕ → Result (Option JournalFile) Refusal → Option Standing
 standing_in file0 file1 (Ok journal) = option_map (standing_of file0 file1) journal
 standing_in file0 file1 (Err why) = None
 
--- the position of the journal of these two files, if they have one
+-- the position of the journal of these two files, if a file is valid
 unfoldable pub position_of : List ℕ → List ℕ → Option Standing
 position_of file0 file1 = standing_in file0 file1 (journal_of file0 file1)
 
 -- ---- what a crash leaves
 
--- the files give this account
+-- The files give this account.
 pub record Recovers (account : State) (left : Left) : Type 0 where
   pub is : recovered left.file0 left.file1 ≡ Ok account
 
--- the files give this account, and this is their journal's position
+-- The files give this account, and this is their journal's position.
 pub record IsAt (standing : Standing) (account : State) (left : Left) : Type 0 where
   pub recovers : recovered left.file0 left.file1 ≡ Ok account
   pub position : position_of left.file0 left.file1 ≡ Some standing
 
--- no valid file has more than 256 links
+-- No valid file has more than 256 links.
 pub record HasFewLinks (left : Left) : Type 0 where
   pub zero : AreLinksFew left.file0
   pub one : AreLinksFew left.file1

@@ -107,7 +107,7 @@ impl Journal {
     }
 }
 
-// Whether writing these bytes after the gate would make the file too long.
+// Returns whether writing these bytes after the gate would make the file too long.
 fn is_too_long(gate: u64, bytes: &[u8]) -> bool
     ensures { result ≡ nat_lt LONGEST_FILE (gate + 1 + length bytes.now) }
 {

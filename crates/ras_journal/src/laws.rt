@@ -1,4 +1,4 @@
-//! What holds of journal files, by their format.
+//! The laws of journal files, by their format.
 ghost use Rattle.std.specs.Prelude.{◌≡◌, ◌≢◌, ◌+◌, ◌<◌, ◌≤◌, ◌∷◌, ◌++◌, [], ℕ, List, Option, None, Some, Ok, Err, length, take};
 ghost use Rattle.ras_base.specs.LittleEndian.{AreBytes};
 ghost use Rattle.board_core.specs.declared.board.FileNo.{FileNo};
@@ -18,8 +18,8 @@ ghost use Rattle.ras_journal.specs.File.{FileFront, front_of};
 ghost use Rattle.ras_journal.specs.Recovered.{IsAt, too_long, damaged, recovered};
 ghost use Rattle.ras_journal.specs.Laws.{IsRead, IsDamaged, IsShort, CanBegin, begun, begun_front, CanFollow, followed, opened_with, FollowsWhole};
 
-/// What holds of one journal file. What is read of a file is its front, up to the closed gate: the
-/// gate's offset, the number of links before it, and the account.
+/// The laws of one journal file. A file is read up to its closed gate: this gives the gate's
+/// offset, the number of links before it, and the account.
 pub fn file_laws()
     // A file that begins with a checkpoint and a closed gate is read, whatever follows.
     ensures checkpoint { (taken : Option ℕ) (version : Version) (generation : ℕ)
@@ -41,7 +41,7 @@ pub fn file_laws()
         (followed front entries) }
 
     // A file that is cut in the link after an open gate is damaged there, and never read without
-    // the link: at the length of its payload, or at the payload, or at the next gate.
+    // the link. The damage is at the payload's length, at the payload, or at the next gate.
     ensures cut_in_the_length { (taken : Option ℕ) (file : List ℕ) (front : FileFront)
         (entries : List Entry) (n : ℕ)
         → IsRead taken file front → CanFollow front entries → n < 4
@@ -60,14 +60,14 @@ pub fn file_laws()
         (front.gate + 1 + length (link_bytes entries)) }
 
     // Whatever bytes follow an open gate, the file is damaged, or a whole link follows and all its
-    // entries count.
+    // entries are counted.
     ensures whole_or_damaged { (taken : Option ℕ) (file : List ℕ) (front longer : FileFront)
         (bytes : List ℕ)
         → IsRead taken file front → AreBytes bytes
         → IsRead taken (opened_with file front bytes) longer → FollowsWhole front bytes longer }
 {}
 
-/// What an append leaves, by its acts: for a journal in version 2 whose file has room for the link.
+/// The laws of an append, by its acts: for a journal in version 2 whose file has room for the link.
 pub fn append_laws()
     // From whatever a crash during the append leaves, the account is recovered without the link or
     // with it.
@@ -94,15 +94,15 @@ pub fn limit_laws()
     ensures closed_gate { CLOSED_GATE ≡ 0 }
 {}
 
-/// What holds of two journal files.
+/// The laws of two journal files.
 pub fn journal_laws()
-    // A file that is too long refuses both files.
+    // If one file is too long, both are rejected.
     ensures too_long_zero { (file0 file1 : List ℕ) → LONGEST_FILE < length file0
         → recovered file0 file1 ≡ Err too_long }
     ensures too_long_one { (file0 file1 : List ℕ) → LONGEST_FILE < length file1
         → recovered file0 file1 ≡ Err too_long }
 
-    // From two files that aren't valid the empty account is recovered.
+    // Two files that aren't valid give the empty account.
     ensures none_stands { (file0 file1 : List ℕ) → IsShort file0 → IsShort file1
         → front_of None file0 ≡ Ok None → front_of None file1 ≡ Ok None
         → recovered file0 file1 ≡ Ok (account_of empty) }

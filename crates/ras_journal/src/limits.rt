@@ -3,8 +3,7 @@
 /// The most bytes of a journal file: 64 mebibytes.
 pub const LONGEST_FILE: u64 = 67_108_864;
 
-/// The most links of a chain that is appended to. A journal with this many is switched to the other
-/// file first.
+/// A chain with this many links isn't appended to: the journal is switched to the other file first.
 pub const MOST_LINKS: u64 = 256;
 
 /// The last generation of a journal.

@@ -1,5 +1,4 @@
--- The lines of a script that is made up are short and hold no line feed, so a script is split into
--- them, within its limits.
+-- The lines of a made-up script are short and have no line feed, so a script is split into them, within its limits.
 use Rattle.std.proofs.Common.{◌≡◌, ℕ, ◌+◌, ◌*◌, ◌/◌, ◌%◌, ◌^◌, ◌<◌, ◌≤◌, ◌==◌, suc, zero, cond, Bool, true, false, List, [], ◌∷◌, ◌++◌, length, map, take, codes, refl, ap, subst, ◌∙◌, arith, append_assoc, lit<, length-append}
 use Rattle.std.specs.Prelude.{nat_lt, not, ◌&&◌}
 use Rattle.std.proofs.lemmas.Bool.Decides.{nat_tests}
@@ -25,7 +24,7 @@ use Rattle.ras_load.proofs.ReadingLemmas.{line_in_range}
 use Rattle.ras_script.specs.Splitting.{lines_of, without_empty_last}
 use Rattle.ras_script.specs.SplittingLaws.{Lacks, script_of}
 
--- a numeral holds no line feed
+-- A numeral has no line feed.
 digits_lack : (radix : ℕ) (word : List ℕ) → radix ≤ 16 → AllDigits radix word → Lacks 10 word
 digits_lack radix [] small all = tt
 digits_lack radix (c ∷ cs) small all =
@@ -43,7 +42,7 @@ both : (P : ℕ → Type 0) (xs ys : List ℕ) → AllByRecursion P xs → AllBy
 both P [] ys one other = other
 both P (x ∷ xs) ys one other = (one.0, both P xs ys one.1 other)
 
--- words that lack line feeds, with spaces between them
+-- Words without line feeds, with spaces between them.
 joined_lack : (words : List (List ℕ)) → AllByRecursion (Lacks 10) words → Lacks 10 (join_with_byte 32 words)
 joined_lack [] all = tt
 joined_lack (word ∷ []) all = all.0
@@ -51,7 +50,7 @@ joined_lack (word ∷ next ∷ words) all =
     let space : ◌≡◌ {A = ℕ} 32 10 → ⊥ = λ e. omega (arith, e) in
     both (λ b. ¬ (b ≡ 10)) word (32 ∷ join_with_byte 32 (next ∷ words)) all.0 (space, joined_lack (next ∷ words) all.1)
 
--- a word of a script: it holds no line feed, and is short
+-- A word of a script: it has no line feed, and is short.
 abbrev WordOk : List ℕ → Type 0
 WordOk word = Lacks 10 word × (length word ≤ 64)
 
@@ -63,7 +62,7 @@ lacks_by_test (b ∷ bs) all = by (b == 10) refl all (λ rest. lacks_by_test bs 
     by true is all rest = absurd cc
     by false is all rest = ((λ same. grind (arith, nat_tests, is, same)), rest all)
 
--- digits are at most as many as steps are allowed
+-- There are at most as many digits as steps.
 few_last : (i d : ℕ) (acc rest : List ℕ) (last : Bool) → length rest ≤ length acc + 1 + i → length (cond last (d ∷ acc) rest) ≤ length acc + suc i
 few_last i d acc rest true more = omega arith
 few_last i d acc rest false more = omega arith
@@ -84,7 +83,7 @@ decimal_ok n small = (decimal_lacks n small, short_numeral 10 n)
 hexadecimal_ok : (n : ℕ) → n < 2 ^ 64 → WordOk (hexadecimal n)
 hexadecimal_ok n small = (hexadecimal_lacks n small, short_numeral 16 n)
 
--- words that are short, with spaces between them
+-- Short words with spaces between them.
 joined_short : (words : List (List ℕ)) → AllByRecursion WordOk words → length (join_with_byte 32 words) ≤ 65 * length words
 joined_short [] all = omega arith
 joined_short (word ∷ []) all = omega (arith, all.0.1)
@@ -97,14 +96,14 @@ lacking : (words : List (List ℕ)) → AllByRecursion WordOk words → AllByRec
 lacking [] all = tt
 lacking (word ∷ words) all = (all.0.0, lacking words all.1)
 
--- a line of a script: of at most eleven words
+-- A line of a script: at most eleven words.
 abbrev LineOk : List ℕ → Type 0
 LineOk line = Lacks 10 line × (length line ≤ 715)
 
 line_ok : (words : List (List ℕ)) → length words ≤ 11 → AllByRecursion WordOk words → LineOk (join_with_byte 32 words)
 line_ok words few all = (joined_lack words (lacking words all), omega (arith, few, joined_short words all))
 
--- a script is split into lines that hold no line feed
+-- A script is split into lines without line feeds.
 test_no : (b : ℕ) (t : Bool) → (b == 10) ≡ t → ¬ (b ≡ 10) → (b == 10) ≡ false
 test_no b true is isnt = absurd (isnt (grind (arith, nat_tests, is)))
 test_no b false is isnt = is
@@ -128,7 +127,7 @@ without_last (line ∷ next ∷ lines) = ap (λ (ls : List (List ℕ)). line ∷
 lines_split : (lines : List (List ℕ)) → AllByRecursion LineOk lines → lines_of (script_of lines) ≡ lines
 lines_split lines all = ap without_empty_last (split_script lines all) ∙ without_last lines
 
--- none is too long, and they are a script within its limit
+-- No line is too long, and the lines are a script within its limit.
 none_long : (lines : List (List ℕ)) → AllByRecursion LineOk lines → list_any is_too_long lines ≡ false
 none_long [] all = refl
 none_long (line ∷ lines) all =

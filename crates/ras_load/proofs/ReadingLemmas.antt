@@ -1,4 +1,4 @@
--- The lines of a script that is made up are in range, and are read as they were written down.
+-- The lines of a made-up script are in range, and are read as they were written.
 use Rattle.std.proofs.Common.{◌≡◌, ℕ, ◌+◌, ◌-◌, ◌%◌, ◌<◌, ◌≤◌, ◌==◌, suc, zero, cond, Bool, true, false, List, [], ◌∷◌, ◌++◌, map, Ok, refl, arith}
 use Rattle.std.specs.List.{AllByRecursion}
 use Rattle.ras_load.specs.LoadScript.{bank_line, bank_lines, bank_number, generated, load_bank, load_lines, machine_lines}
@@ -27,7 +27,7 @@ bank_in_range : (i number : ℕ) → i ≤ MOST_LINES → IsBankInRange (load_ba
 bank_in_range i number few =
     ((omega arith, (omega arith, (omega arith, (omega arith, (omega arith, (omega arith, (omega arith, (omega arith, tt)))))))), omega arith, omega arith)
 
--- the report of a line is its own or that of the line before it
+-- The report of a line is its own or the report of the line before it.
 number_within : (i : ℕ) (test : Bool) → cond test (i - 1) i ≤ i
 number_within i true = omega arith
 number_within i false = omega arith

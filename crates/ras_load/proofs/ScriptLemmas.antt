@@ -1,4 +1,4 @@
--- The text of a script that is made up, line by line.
+-- The text of a made-up script, line by line.
 use Rattle.std.proofs.Common.{◌≡◌, ℕ, ◌+◌, ◌-◌, ◌%◌, ◌==◌, suc, cond, Bool, true, false, List, [], ◌∷◌, ◌++◌, map, codes, refl, sym, ap, ◌∙◌, arith, append-nil, append_assoc}
 use Rattle.std.specs.Fmt.{digits}
 use Rattle.std.proofs.lemmas.List.Concat.{flat_map-append}
@@ -11,7 +11,7 @@ use Rattle.ras_script.specs.declared.line.Line.TheVariants.{Report}
 use Rattle.ras_script.specs.declared.line.ErrorReport.TheVariants.{Bank}
 use Rattle.ras_facts.specs.declared.bank.BankReport.{BankReport}
 
--- lines as the text of a script, and those of two lists
+-- lines as the text of a script, and the lines of two lists
 abbrev text_of : List Line → List ℕ
 text_of lines = script_of (map line_text lines)
 
@@ -22,7 +22,7 @@ map_both (x ∷ xs) ys = ap (λ (l : List (List ℕ)). line_text x ∷ l) (map_b
 text_both : (xs ys : List Line) → text_of (xs ++ ys) ≡ text_of xs ++ text_of ys
 text_both xs ys = ap script_of (map_both xs ys) ∙ flat_map-append (λ (line : List ℕ). line ++ 10 ∷ []) (map line_text xs) (map line_text ys)
 
--- the number after that of a place
+-- The number after the number at an index.
 pub number_step : (n : ℕ) → generated (n + 1) ≡ next_number (generated n)
 unfolding generated
 number_step n = let is : n + 1 ≡ suc n = omega arith in ap generated is
@@ -48,7 +48,7 @@ other_is : (n : ℕ) (test : Bool) → ¬ ((n + 1) % 10 ≡ 0) → ((n + 1) % 10
 other_is n true isnt t = grind (arith, isnt, t)
 other_is n false isnt t = refl
 
--- a line more: its own report, or for every tenth that of the line before it
+-- One more line: its own report, or for every tenth line the report of the line before it.
 module _ (start text new : List ℕ) (n : ℕ) (bank : BankReport) (so_far : text ≡ start ++ text_of (bank_lines n)) (added : new ≡ text ++ line_with (line_text (Report (Bank bank)))) where
   line_more : bank ≡ load_bank (bank_number (n + 1)) (generated (bank_number (n + 1))) → new ≡ start ++ text_of (bank_lines (n + 1))
   line_more is =
@@ -66,7 +66,7 @@ module _ (start text new : List ℕ) (n : ℕ) (bank : BankReport) (so_far : tex
   pub other_more : ¬ ((n + 1) % 10 ≡ 0) → bank ≡ load_bank (n + 1) (generated (n + 1)) → new ≡ start ++ text_of (bank_lines (n + 1))
   other_more other is = line_more (is ∙ ap (λ r. load_bank r (generated r)) (sym (other_is n ((n + 1) % 10 == 0) other refl)))
 
--- the machine as text, and the script
+-- the machine description as text, and the script
 abbrev pub machine_bytes : List ℕ
 machine_bytes = codes "cpu 0 0\nmodule M0 0 7 0\nmodule M1 0 7 1\nmodule M2 0 7 2\nmodule M3 0 7 3\n"
 

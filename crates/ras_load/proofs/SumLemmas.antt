@@ -11,14 +11,14 @@ use Rattle.ras_account.specs.Account.{weight_in}
 use Rattle.ras_account.specs.Modules.{Module}
 use Rattle.ras_load.specs.Summary.{class_total, weight_of_class}
 
--- one element more of a list
+-- A list's beginning with one more element.
 take_next : {X : Type 0} (xs : List X) (i : ℕ) (x : X) → slice_get xs i ≡ Some x → take (i + 1) xs ≡ take i xs ++ x ∷ []
 take_next xs i x is = take_more xs i x (slice_get_within xs i x is) ∙ ap (λ y. take i xs ++ y ∷ []) (get_or_from_slice_get xs i x x is)
 
 pub sum_more : {X : Type 0} (f : X → ℕ) (xs : List X) (i : ℕ) (x : X) → slice_get xs i ≡ Some x → sum_by f (take (i + 1) xs) ≡ sum_by f (take i xs) + f x
 sum_more f xs i x is = ap (sum_by f) (take_next xs i x is) ∙ sum_by_push f (take i xs) x
 
--- the weight of a class is at most all weight, of a module and of the modules so far
+-- The weight of a class is at most all weight, for a module and for the modules so far.
 first_within : (xs : List ℕ) → get_or xs 0 0 ≤ sum xs
 first_within [] = omega arith
 first_within (x ∷ xs) = omega (arith, sum_by-cons (λ y. y) x xs)
@@ -38,7 +38,7 @@ sum_fits rows i row total is so_far =
 count_more : {X : Type 0} (p : X → Bool) (xs : List X) (i : ℕ) (x : X) → slice_get xs i ≡ Some x → count_by p (take (i + 1) xs) ≡ count_by p (take i xs) + cond (p x) 1 0
 count_more p xs i x is = sum_more (λ y. cond (p y) 1 0) xs i x is
 
--- an element that counts, and one that doesn't
+-- An element that is counted, and an element that isn't.
 module _ {X : Type 0} (p : X → Bool) (xs : List X) (i : ℕ) (x : X) (count new : ℕ) (is : slice_get xs i ≡ Some x) where
   pub counted : p x ≡ true → count ≡ count_by p (take i xs) → new ≡ count + 1 → new ≡ count_by p (take (i + 1) xs)
   counted passes so_far added =

@@ -1,6 +1,6 @@
--- The script that is made up from a number n, as lines that are written: one CPU and the four memory modules of its
--- first controller, and then n reports of a machine-check bank. Every tenth of these repeats the one before it. The
--- others differ by the numbers of a linear congruential generator.
+-- The script made up from a number n, as lines: one CPU and the four memory modules of its first controller, and then
+-- n reports of a machine-check bank. Every tenth of these repeats the one before it. The others differ by the numbers
+-- of a linear congruential generator.
 use Rattle.std.specs.Prelude.{ℕ, ◌+◌, ◌*◌, ◌/◌, ◌%◌, ◌^◌, ◌==◌, ◌-◌, zero, suc, List, [], ◌∷◌, ◌++◌, codes, map, if◌then◌else◌}
 use Rattle.dimm_topology.specs.declared.row.Row.TheVariants.{Cpu, Module}
 use Rattle.ras_facts.specs.declared.bank.BankReport.{BankReport}
@@ -35,7 +35,7 @@ load_bank i number = record {
   misc = 0x86;
 }
 
--- which report the line of a number asks for: every tenth the one before it, the others their own
+-- the number of the report that a line asks for: for every tenth line the one before it, for the others their own
 abbrev pub bank_number : ℕ → ℕ
 bank_number i = if i % 10 == 0 then i - 1 else i
 

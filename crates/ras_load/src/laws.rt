@@ -18,8 +18,7 @@ pub fn load_laws()
         → map line_of (map line_text (load_lines n)) ≡ map Ok (load_lines n) }
 {}
 
-/// The number that the definitions cite by name has these digits: the most reports of a made-up
-/// script.
+/// The number behind a name that the definitions use: the most reports of a made-up script.
 pub fn numbers_in_digits()
     ensures lines { MOST_LINES ≡ 50000 }
 {}

@@ -1,4 +1,4 @@
-//! A large script that is made up from a number, and the line that sums up its account.
+//! A large script made up from a number, and the line that sums up its account.
 //!
 //! A public function with an empty body is a law: its clauses are the point.
 #![tactic(auto)]

@@ -1,4 +1,4 @@
-//! The script that is made up from a number.
+//! The script made up from a number.
 
 ghost use Rattle.std.specs.Prelude.{◌≡◌, ◌++◌, ◌≤◌, map, IfOk, OnOk, string_bytes};
 ghost use Rattle.ras_base.specs.Text.{line_with};
@@ -63,7 +63,7 @@ fn push_banks(script: &mut String, n: u64) -> Result<(), NoMemory>
     Ok(())
 }
 
-// The number after another.
+// Returns the number after another.
 fn next_number(number: u64) -> u64
     ensures { result ≡ next_number number }
 {
@@ -72,7 +72,7 @@ fn next_number(number: u64) -> u64
         .wrapping_add(1_442_695_040_888_963_407)
 }
 
-// The report that a number from 1 and a number of the generator give.
+// Returns the report for an index, from 1, and a number of the generator.
 fn load_bank(i: u64, number: u64) -> BankReport
     requires { i ≤ MOST_LINES }
     ensures { result ≡ load_bank i number }

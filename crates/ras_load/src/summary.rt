@@ -36,7 +36,7 @@ pub fn load_line(alloc: Global, n: u64, account: &Account) -> Result<Vec<u8>, No
     Ok(line)
 }
 
-// The weights of all items of class CE.
+// Returns the weights of all items of class CE, together.
 fn corrected_total(account: &Account) -> u64
     requires { IsAccount account.now.state }
     ensures { result ≡ class_total Ce account.now.state.modules }
@@ -48,7 +48,7 @@ fn corrected_total(account: &Account) -> u64
     total
 }
 
-// How many pages are in a state.
+// Returns how many pages are in a state.
 fn pages_in(state: PageState, pages: &Pages) -> u64
     ensures { result ≡ pages_in state pages.now.rows }
 {
@@ -62,7 +62,7 @@ fn pages_in(state: PageState, pages: &Pages) -> u64
     count
 }
 
-// Whether a page of this state is in that one.
+// Returns whether two states are the same.
 fn is_in(state: PageState, of_page: PageState) -> bool
     ensures { result ≡ (height of_page == height state) }
 {

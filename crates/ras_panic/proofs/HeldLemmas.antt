@@ -1,4 +1,4 @@
--- A record gives a report exactly where it holds one.
+-- A record gives a report if and only if it contains one.
 use Rattle.std.proofs.Common.{◌≡◌, ◌∙◌, ℕ, ◌==◌, Bool, true, false, ◌&&◌, if◌then◌else◌, List, length, drop, [], ◌∷◌, Option, Some, None, IsSome, unwrap_or, refl, sym, ap, subst, eqb-true}
 use Rattle.std.specs.List.{list_all}
 use Rattle.std.specs.Option.{option_map, option_map_or, option_and_then}
@@ -25,7 +25,7 @@ use Rattle.ras_panic.specs.Reading.{report_in, is_report, is_panic, panic_report
 use Rattle.ras_panic.specs.Reports.{FitsFields, HoldsReport}
 use Rattle.ras_panic.proofs.ReportLemmas.{report_back, section_passes, section_back, report_fits}
 
--- two tests that pass both
+-- Two tests that both pass.
 both : (a b : Bool) → (a && b) ≡ true → (a ≡ true) × (b ≡ true)
 both true b is = (refl, is)
 both false b is = cc
@@ -36,7 +36,7 @@ all_pass a b c d e is-a is-b is-c is-d is-e = λ k. is-a k && is-b k && is-c k &
 same_bytes : (xs ys : List ℕ) → xs ≡ ys → bytes_eq xs ys ≡ true
 same_bytes xs ys same = (bytes_eq-Decides xs ys).1 same
 
--- a record that holds a report passes the tests
+-- A record that contains a report passes the tests.
 pub held_passes : (own : List ℕ) (bank : BankReport) → FitsFields bank → HoldsReport own bank → is_panic own ≡ true
 unfolding is_panic
 held_passes own bank fits held =
@@ -49,14 +49,14 @@ held_passes own bank fits held =
     (same_bytes (section_guid own 1) x64_guid held.saved_type)
     (same_bytes (section_bytes own 1) (saved_bytes (report_in (section_bytes own 0))) (held.saved ∙ ap saved_bytes (sym back)))
 
--- and gives that report
+-- A record that contains a report gives this report.
 pub held_is_given : (own : List ℕ) (bank : BankReport) → FitsFields bank → HoldsReport own bank → panic_report own ≡ Some bank
 held_is_given own bank fits held =
     let given : Option BankReport = Some (report_in (section_bytes own 0)) in
     ap (λ (test : Bool). if test then given else None) (held_passes own bank fits held)
     ∙ ap (λ (report : BankReport). Some report) (ap report_in held.report ∙ report_back bank fits)
 
--- a record that passes them holds the report of its first section
+-- A record that passes the tests contains the report of its first section.
 pub passes_held : (own : List ℕ) → AreBytes own → is_panic own ≡ true → HoldsReport own (report_in (section_bytes own 0))
 unfolding is_panic
 passes_held own fits passes =
@@ -94,7 +94,7 @@ gives own fits = by (is_panic own) refl
 pub given_is_held : (own : List ℕ) (bank : BankReport) → AreBytes own → panic_report own ≡ Some bank → HoldsReport own bank
 given_is_held own bank fits is = (subst (Gives own) is (gives own fits)).1
 
--- a bank that holds an error has a class
+-- A bank with an error has a class.
 known_by : (u p r s e a : Bool) → IsSome (class_by true u p r s e a)
 known_by false p r s e a = refl
 known_by true true true s e a = refl
@@ -116,7 +116,7 @@ some_is : {X Y : Type 0} (f : X → Y) (x : Option X) (other : Y) → IsSome x �
 some_is f (Some x) other is = refl
 some_is f None other is = cc
 
--- the fact of a record that holds a report is the bank's
+-- The fact of a record that contains a report is the bank's fact.
 pub fact_of_held : (rows : List Row) (seconds : ℕ) (own : List ℕ) (bank : BankReport) → FitsFields bank → HoldsReport own bank
     → Some (stored_fact rows seconds own) ≡ bank_fact bank rows
 fact_of_held rows seconds own bank fits held =
@@ -124,7 +124,7 @@ fact_of_held rows seconds own bank fits held =
     ∙ some_is (λ (class : Class). record { name = bank_name bank; seconds = bank.seconds; items = bank_item bank rows class ∷ [] }) (class_of_rows (cap_in bank) (status_in bank)) (record_fact rows seconds own)
     (class_known (cap_in bank) (status_in bank) held.valid)
 
--- and every other is an ordinary one
+-- The fact of every other record is the fact of its sections.
 pub fact_of_ordinary : (rows : List Row) (seconds : ℕ) (own : List ℕ) → AreBytes own
     → ((bank : BankReport) → FitsFields bank → HoldsReport own bank → ⊥) → stored_fact rows seconds own ≡ record_fact rows seconds own
 fact_of_ordinary rows seconds own fits none = by (panic_report own) (gives own fits)
@@ -134,7 +134,7 @@ fact_of_ordinary rows seconds own fits none = by (panic_report own) (gives own f
     by (Some bank) held = absurd (none bank held.0 held.1)
     by None held = refl
 
--- the fact of a record of the store has its name
+-- The fact of a stored record has the record's name.
 panic_valid : (own : List ℕ) → is_panic own ≡ true → valid (status_in (report_in (section_bytes own 0))) ≡ true
 unfolding is_panic
 panic_valid own passes =

@@ -1,4 +1,4 @@
--- A panic record is a record that holds its report.
+-- A panic record is a record that contains its report.
 use Rattle.std.proofs.Common.{◌≡◌, ◌<◌, ◌^◌, ℕ, IsTrue, List, [], ◌++◌, length, Ok, refl, subst}
 use Rattle.ras_base.specs.LittleEndian.{u16_bytes, u32_bytes, u64_bytes, number_at}
 use Rattle.ras_base.specs.Steps.LittleEndianLemmas.{number_at-u64_bytes}
@@ -21,7 +21,7 @@ unfolding
     number_at u16_bytes u32_bytes u64_bytes with_run panic_bytes report_bytes saved_bytes report_type x64_type
 is_read id bank = refl
 
--- and so it is in front of other bytes
+-- A panic record before other bytes is read.
 pub is_read_first : (id : ℕ) (bank : BankReport) (rest : List ℕ) → record_of (panic_bytes id bank ++ rest) ≡ Ok (panic_bytes id bank)
 is_read_first id bank rest =
     let own : List ℕ = panic_bytes id bank in
@@ -32,12 +32,12 @@ pub is_named : (id : ℕ) (bank : BankReport) → id < 2 ^ 64 → record_id (pan
 unfolding number_at u16_bytes u32_bytes u64_bytes with_run panic_bytes report_bytes saved_bytes report_type x64_type
 is_named id bank fits = number_at-u64_bytes id [] fits
 
--- its sections are the report's
+-- The sections of a panic record are the report's.
 pub is_held : (id : ℕ) (bank : BankReport) → IsTrue (valid (status_in bank)) → HoldsReport (panic_bytes id bank) bank
 unfolding number_at u16_bytes u32_bytes u64_bytes with_run panic_bytes report_bytes saved_bytes report_type x64_type x64_guid
 is_held id bank held = record { two = refl; report_type = refl; report = refl; valid = held; saved_type = refl; saved = refl }
 
--- it has as many bytes as it tells
+-- A panic record has the length that its header says.
 pub has_length : (id : ℕ) (bank : BankReport) → length (panic_bytes id bank) ≡ 456
 unfolding u16_bytes u32_bytes u64_bytes with_run panic_bytes report_bytes saved_bytes report_type x64_type
 has_length id bank = refl

@@ -1,5 +1,4 @@
--- A report's section gives the report back, and a report that was read is written again as its
--- section.
+-- The report is read back from its section, and a report that was read is written again as its section.
 use Rattle.std.proofs.Common.{◌≡◌, ◌∙◌, ℕ, ◌+◌, ◌==◌, ◌&&◌, Bool, true, false, List, [], ◌∷◌, ◌++◌, length, take, drop, replicate, get_or, refl, sym, ap, arith, eqb-true}
 use Rattle.std.specs.List.{list_all}
 use Rattle.std.proofs.lemmas.List.{take-append-drop, drop-drop, drop_more, length-drop}
@@ -13,7 +12,7 @@ use Rattle.ras_panic.specs.Panics.{report_bytes}
 use Rattle.ras_panic.specs.Reading.{report_in, is_report}
 use Rattle.ras_panic.specs.Reports.{FitsFields}
 
--- the report that a report's section holds
+-- The report in a report's section.
 pub report_back : (bank : BankReport) → FitsFields bank → report_in (report_bytes bank) ≡ bank
 unfolding number_at u16_bytes u64_bytes with_run report_bytes
 report_back bank fits = λ k. record {
@@ -29,7 +28,7 @@ report_back bank fits = λ k. record {
   misc = number_at-u64_bytes bank.misc [] fits.misc k;
 }
 
--- the section is a report's
+-- A report's section passes the tests.
 section_tests : (bank : BankReport) → is_report (report_bytes bank) ≡ valid (status_in (report_in (report_bytes bank)))
 unfolding number_at u16_bytes u64_bytes with_run report_bytes
 section_tests bank = refl
@@ -38,7 +37,7 @@ pub section_passes : (bank : BankReport) → FitsFields bank → valid (status_i
 section_passes bank fits held =
     section_tests bank ∙ ap (λ (back : BankReport). valid (status_in back)) (report_back bank fits) ∙ held
 
--- its runs, one after the other
+-- The section's runs, one after the other.
 section_runs : (bank : BankReport)
     → report_bytes bank
     ≡ u64_bytes bank.boot ++ (u64_bytes bank.seconds ++ (u64_bytes bank.tsc ++ (u64_bytes bank.cap ++ (u64_bytes bank.mcg
@@ -47,7 +46,7 @@ section_runs : (bank : BankReport)
 unfolding u16_bytes u64_bytes with_run report_bytes
 section_runs bank = refl
 
--- bytes that are all 0
+-- Bytes that are all 0 are a list of zeros.
 all_zeros : (bytes : List ℕ) → list_all (λ byte. byte == 0) bytes ≡ true → bytes ≡ replicate (length bytes) 0
 all_zeros [] zeros = refl
 all_zeros (byte ∷ bytes) zeros = by (byte == 0) (list_all (λ byte. byte == 0) bytes) refl refl zeros (all_zeros bytes)
@@ -59,13 +58,13 @@ all_zeros (byte ∷ bytes) zeros = by (byte == 0) (list_all (λ byte. byte == 0)
     by true false is-here is-rest both all = cc
     by false rest is-here is-rest both all = cc
 
--- the bytes from a place on are so many, and those after them
+-- The bytes from an offset on are these n bytes and the bytes after them.
 cut_there : (n place next : ℕ) (bytes : List ℕ) → place + n ≡ next → take n (drop place bytes) ++ drop next bytes ≡ drop place bytes
 cut_there n place next bytes is =
     ap (λ (rest : List ℕ). take n (drop place bytes) ++ rest) (ap (λ i. drop i bytes) (sym is) ∙ sym (drop-drop n place bytes))
     ∙ take-append-drop n (drop place bytes)
 
--- the bank's number and the zeros after it
+-- The bank's number and the zeros after it.
 end_back : (bytes : List ℕ) → length bytes ≡ 72 → list_all (λ byte. byte == 0) (drop 67 bytes) ≡ true
     → get_or bytes 66 0 ∷ replicate 5 0 ≡ drop 66 bytes
 end_back bytes long zeros =
@@ -73,7 +72,7 @@ end_back bytes long zeros =
     let same : drop 67 bytes ≡ replicate 5 0 = all_zeros (drop 67 bytes) zeros ∙ ap (λ n. replicate n 0) five in
     ap (λ (rest : List ℕ). get_or bytes 66 0 ∷ rest) (sym same) ∙ sym (drop_more bytes 66 0 (omega arith))
 
--- the section of the report that bytes hold
+-- The section of the report in bytes is these bytes.
 pub section_back : (bytes : List ℕ) → AreBytes bytes → length bytes ≡ 72 → list_all (λ byte. byte == 0) (drop 67 bytes) ≡ true
     → report_bytes (report_in bytes) ≡ bytes
 section_back bytes fits long zeros =
@@ -100,7 +99,7 @@ section_back bytes fits long zeros =
     front : {one cut rest rest' all : List ℕ} → one ≡ cut → rest ≡ rest' → cut ++ rest' ≡ all → one ++ rest ≡ all
     front same more is = (λ k. same k ++ more k) ∙ is
 
--- its numbers fit
+-- The report's numbers fit their fields.
 pub report_fits : (bytes : List ℕ) → AreBytes bytes → FitsFields (report_in bytes)
 report_fits bytes fits = record {
   boot = number_at-lt 0 8 bytes fits;

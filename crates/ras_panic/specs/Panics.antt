@@ -5,22 +5,21 @@ use Rattle.ras_base.specs.LittleEndian.{u16_bytes, u32_bytes, u64_bytes}
 use Rattle.ras_facts.specs.declared.bank.BankReport.{BankReport}
 use Rattle.ras_panic.specs.Runs.{with_runs}
 
--- the type of the section with the report, as a descriptor has it:
--- 7a6d1f02-52c4-4d1e-9b0a-3c5e8f714d20
+-- the type of the section with the report, as in a descriptor: 7a6d1f02-52c4-4d1e-9b0a-3c5e8f714d20
 unfoldable pub report_type : List ℕ
 report_type =
     0x02 ∷ 0x1f ∷ 0x6d ∷ 0x7a ∷ 0xc4 ∷ 0x52 ∷ 0x1e ∷ 0x4d ∷ 0x9b ∷ 0x0a ∷ 0x3c ∷ 0x5e ∷ 0x8f ∷ 0x71 ∷ 0x4d ∷ 0x20 ∷ []
 
--- the type of IA32/X64 sections, as a descriptor has it
+-- the type of IA32/X64 sections, as in a descriptor
 unfoldable pub x64_type : List ℕ
 x64_type =
     0xb0 ∷ 0xa0 ∷ 0x3e ∷ 0xdc ∷ 0x44 ∷ 0xa1 ∷ 0x97 ∷ 0x47 ∷ 0xb9 ∷ 0x5b ∷ 0x53 ∷ 0xfa ∷ 0x24 ∷ 0x2b ∷ 0x6e ∷ 0x1d ∷ []
 
--- identifiers that no record may have
+-- Whether no record may have this identifier.
 abbrev pub is_reserved_identifier : ℕ → Bool
 is_reserved_identifier id = (id == 0) || (id == 2 ^ 64 - 1)
 
--- the header of a record of 456 bytes and two sections, fatal as a whole
+-- the header of a record of 456 bytes and two sections, with the severity fatal
 abbrev pub header_bytes : ℕ → List ℕ
 header_bytes id = with_runs (
     (0, codes "CPER") ∷ (4, 0x00 ∷ 0x01 ∷ 0xff ∷ 0xff ∷ 0xff ∷ 0xff ∷ [])
@@ -32,7 +31,7 @@ abbrev pub descriptor_bytes : ℕ → ℕ → List ℕ → List ℕ
 descriptor_bytes offset length guid =
     with_runs ((0, u32_bytes offset) ∷ (4, u32_bytes length) ∷ (16, guid) ∷ (48, u32_bytes 1) ∷ []) (replicate 72 0)
 
--- the section that holds the report
+-- the section with the report
 unfoldable pub report_bytes : BankReport → List ℕ
 report_bytes bank = with_runs (
     (0, u64_bytes bank.boot) ∷ (8, u64_bytes bank.seconds) ∷ (16, u64_bytes bank.tsc) ∷ (24, u64_bytes bank.cap)

@@ -47,21 +47,21 @@ is_panic own =
     && bytes_eq (section_guid own 0) (guid_of report_type) && is_report (section_bytes own 0)
     && bytes_eq (section_guid own 1) x64_guid && bytes_eq (section_bytes own 1) (saved_bytes (report_in (section_bytes own 0)))
 
--- the report of a panic record; every other record has none
+-- The report of a panic record. Every other record has no report.
 abbrev pub panic_report : List ℕ → Option BankReport
 panic_report own = if is_panic own then Some (report_in (section_bytes own 0)) else None
 
--- the fact of a record of the store that was read at this time; a panic record's is the bank's own, with the seconds of
--- the report
+-- The fact of a stored record that was read at this time. The fact of a panic record is the bank's own, with the
+-- seconds of the report.
 abbrev pub stored_fact : List Row → ℕ → List ℕ → Fact
 stored_fact rows seconds own =
     unwrap_or (option_and_then (λ report. bank_fact report rows) (panic_report own)) (record_fact rows seconds own)
 
--- the name under which a record of the store is counted; a panic record's is the bank's own
+-- The name under which a stored record is counted. The name of a panic record is the bank's own.
 abbrev pub stored_name : List ℕ → Name
 stored_name own = option_map_or bank_name (panic_report own) (Record (record_id own))
 
--- the report of a record of the store that was read at this time; a panic record's is the bank's own
+-- The report of a stored record that was read at this time. The report of a panic record is the bank's own.
 abbrev pub stored_report : List Row → ℕ → List ℕ → Report
 stored_report rows seconds own =
     unwrap_or (option_and_then (λ bank. bank_report bank rows) (panic_report own)) (record_report rows seconds own)

@@ -8,7 +8,7 @@ use Rattle.ras_facts.specs.Facts.{status_in}
 use Rattle.ras_facts.specs.declared.bank.BankReport.{BankReport}
 use Rattle.ras_panic.specs.Panics.{report_type, report_bytes, saved_bytes}
 
--- each number of a report fits its field
+-- Each number of a report fits its field.
 pub record FitsFields (snapshot : BankReport) : Type 0 where
   pub boot : snapshot.boot < 2 ^ 64
   pub seconds : snapshot.seconds < 2 ^ 64
@@ -21,8 +21,8 @@ pub record FitsFields (snapshot : BankReport) : Type 0 where
   pub addr : snapshot.addr < 2 ^ 64
   pub misc : snapshot.misc < 2 ^ 64
 
--- a record contains this report: it has two sections, the report's 72 bytes, in which VAL is 1, and the 112 bytes of an
--- IA32/X64 section with its registers
+-- A record contains this report: it has two sections, the report's 72 bytes, in which VAL is 1, and the 112 bytes of
+-- an IA32/X64 section with its registers.
 pub record HoldsReport (own : List ℕ) (bank : BankReport) : Type 0 where
   pub two : section_count own ≡ 2
   pub report_type : section_guid own 0 ≡ guid_of report_type

@@ -1,4 +1,4 @@
--- Bytes with runs of others at their places.
+-- Bytes in which runs of other bytes replace those at some offsets.
 use Rattle.std.specs.Prelude.{ℕ, ◌+◌, List, [], ◌∷◌, ◌++◌, length, take, drop}
 
 -- the bytes with a run at an offset, which replaces the bytes there

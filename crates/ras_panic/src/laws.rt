@@ -1,4 +1,4 @@
-//! What holds of panic records, for every report and every record.
+//! The laws of panic records, for every report and every record.
 
 ghost use Rattle.std.specs.Prelude.{◌≡◌, ◌<◌, ◌≤◌, ◌^◌, ◌↔◌, ◌++◌, ℕ, List, length, IsTrue, Ok, Some};
 ghost use Rattle.mca_status.specs.Registers.{valid};
@@ -66,8 +66,8 @@ pub fn stored_reports_tell_of_each_item()
         → (stored_report rows seconds own).fact ≡ stored_fact rows seconds own }
 {}
 
-/// A record of at most 16,384 bytes, the most that a store has of one, reports at most 225 items,
-/// because each section takes a descriptor of 72 bytes besides the header's 128.
+/// A record of at most 16,384 bytes, the most that a store has of a record, reports at most 225
+/// items, because each section takes a descriptor of 72 bytes besides the header's 128.
 pub fn stored_reports_are_short()
     ensures { (rows : List Row) (seconds : ℕ) (own : List ℕ) → IsRecord own
         → length own ≤ 16_384

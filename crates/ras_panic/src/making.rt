@@ -20,12 +20,12 @@ pub const REPORT_LENGTH: usize = 72;
 /// The bytes of the section with the registers.
 pub const SAVED_LENGTH: usize = 112;
 
-// 7a6d1f02-52c4-4d1e-9b0a-3c5e8f714d20, as it stands in a descriptor: the type of reports.
+// 7a6d1f02-52c4-4d1e-9b0a-3c5e8f714d20, as in a descriptor: the type of reports.
 pub(crate) const REPORT_TYPE: [u8; 16] = [
     0x02, 0x1f, 0x6d, 0x7a, 0xc4, 0x52, 0x1e, 0x4d, 0x9b, 0x0a, 0x3c, 0x5e, 0x8f, 0x71, 0x4d, 0x20,
 ];
 
-// The type of IA32/X64 sections, as it stands in a descriptor.
+// The type of IA32/X64 sections, as in a descriptor.
 pub(crate) const X64_TYPE: [u8; 16] = [
     0xb0, 0xa0, 0x3e, 0xdc, 0x44, 0xa1, 0x97, 0x47, 0xb9, 0x5b, 0x53, 0xfa, 0x24, 0x2b, 0x6e, 0x1d,
 ];
@@ -68,7 +68,7 @@ pub fn panic_record(id: u64, bank: &BankReport) -> Result<[u8; PANIC_LENGTH], Pa
     Ok(bytes)
 }
 
-// The header of a panic record.
+// Returns the header of a panic record.
 #[tactic(auto, unfolding(ras_base::specs::LittleEndian::u16_bytes, ras_base::specs::LittleEndian::u32_bytes, ras_base::specs::LittleEndian::u64_bytes))]
 fn header_bytes(id: u64) -> [u8; 128]
     ensures { result ≡ header_bytes id }
@@ -83,7 +83,7 @@ fn header_bytes(id: u64) -> [u8; 128]
     bytes
 }
 
-// The descriptor of a section.
+// Returns the descriptor of a section.
 #[tactic(auto, unfolding(ras_base::specs::LittleEndian::u32_bytes))]
 fn descriptor_bytes(offset: u32, length: u32, guid: &[u8; 16]) -> [u8; 72]
     ensures { result ≡ descriptor_bytes offset length guid.now }
@@ -96,7 +96,7 @@ fn descriptor_bytes(offset: u32, length: u32, guid: &[u8; 16]) -> [u8; 72]
     bytes
 }
 
-// The section that holds the report.
+// Returns the section with the report.
 #[tactic(auto, unfolding(crate::specs::Panics::report_bytes, ras_base::specs::LittleEndian::u16_bytes, ras_base::specs::LittleEndian::u64_bytes))]
 fn report_bytes(bank: &BankReport) -> [u8; REPORT_LENGTH]
     ensures { result ≡ report_bytes bank.now }
@@ -115,7 +115,7 @@ fn report_bytes(bank: &BankReport) -> [u8; REPORT_LENGTH]
     bytes
 }
 
-// The section that holds the bank's registers.
+// Returns the section with the bank's registers.
 #[tactic(auto, unfolding(crate::specs::Panics::saved_bytes, ras_base::specs::LittleEndian::u16_bytes, ras_base::specs::LittleEndian::u32_bytes, ras_base::specs::LittleEndian::u64_bytes))]
 pub(crate) fn saved_bytes(bank: &BankReport) -> [u8; SAVED_LENGTH]
     ensures { result ≡ saved_bytes bank.now }

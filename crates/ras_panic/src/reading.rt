@@ -37,7 +37,7 @@ pub fn panic_of(rec: &Record<'_>) -> Option<BankReport>
     is_saved.then_some(report)
 }
 
-// Whether a section's type is that of reports.
+// Returns whether a section's type is the type of reports.
 #[tactic(auto, unfolding(crate::specs::Panics::report_type))]
 fn is_report_type(guid: Uuid) -> bool
     ensures { result ≡ bytes_eq guid (guid_of report_type) }
@@ -45,7 +45,7 @@ fn is_report_type(guid: Uuid) -> bool
     guid == guid_at(&REPORT_TYPE)
 }
 
-// Whether a section's type is that of IA32/X64 sections.
+// Returns whether a section's type is the type of IA32/X64 sections.
 #[tactic(auto, unfolding(cper_sections::specs::Guids::x64_guid))]
 fn is_x64(guid: Uuid) -> bool
     ensures { result ≡ bytes_eq guid x64_guid }
@@ -53,7 +53,7 @@ fn is_x64(guid: Uuid) -> bool
     guid == guid_at(&X64_TYPE)
 }
 
-// Whether a section is a report of an error.
+// Returns whether a section is a report of an error.
 #[tactic(auto, using(crate::proofs::ReadingLemmas::rest_of_report))]
 fn is_report(bytes: &[u8]) -> bool
     ensures { result ≡ is_report bytes.now }
@@ -64,14 +64,14 @@ fn is_report(bytes: &[u8]) -> bool
     are_zeros(&bytes[67..]) && Status(report_in(bytes).status).is_valid()
 }
 
-// Whether all bytes are 0.
+// Returns whether all bytes are 0.
 fn are_zeros(bytes: &[u8]) -> bool
     ensures { result ≡ list_all (λ byte. byte == 0) bytes.now }
 {
     bytes.iter().all(|byte| *byte == 0)
 }
 
-// The report in a section.
+// Returns the report in a section.
 fn report_in(bytes: &[u8]) -> BankReport
     requires { REPORT_LENGTH ≤ length bytes.now }
     ensures { result ≡ report_in bytes.now }

@@ -1,4 +1,4 @@
--- What is told once records are cleared, and what stops leave meanwhile.
+-- The model once records are cleared, and what crashes leave meanwhile.
 use Rattle.std.proofs.Common.{◌≡◌, ◌∙◌, ℕ, suc, ◌<◌, ◌^◌, ◌||◌, Bool, true, false, nat_eq, List, [], ◌∷◌, ◌++◌, length, Option, None, Some, Ok, Err, inl, inr, refl, sym, ap, subst, arith, if◌then◌else◌}
 use Rattle.std.proofs.lemmas.Bool.{false≢true}
 use Rattle.std.specs.Result.{is_ok}
@@ -89,7 +89,7 @@ held_answer id t free held =
 -- ---- clears
 
 module _ (lists : List (List InstructionEntry)) (admitted : IsAdmittedTable lists) where
-  -- the first readable record is cleared, and then the later ones
+  -- The first readable record is cleared, and then the later ones.
   record OneCleared (id : ℕ) (later : List ℕ) (t : Told) : Type 0 where
     calls : each_calls (clear_calls lists) (id ∷ later) t ≡ clear_calls lists id (device_of t) ++ each_calls (clear_calls lists) later (after_calls (clear_calls lists id (device_of t)) t)
     answer : answer_on_found id (device_of t) ≡ Ok tt

@@ -16,7 +16,7 @@ use Rattle.erst_driver.specs.Answers.{Answer, AnswersAs, IsAnswered, answer_on_f
 use Rattle.erst_driver.proofs.DoesLemmas.{at_told, over_each}
 use Rattle.ras_records.specs.Each.{Operation, after_calls, each_answer, each_calls, after_answer}
 
--- Operations on these records, of which those on the first ones are done.
+-- Operations on these records, the first of which are done.
 pub record DoneTo {X : Type 0} (see : X → Seen) (operation : Operation) (ids : List ℕ) (count : ℕ) (t : Told) (old new : X) : Type 0 where
   pub done : List DeviceCall
   pub does : Does see (acts_of done) went_well old new
@@ -55,7 +55,7 @@ module _ {X : Type 0} (see : X → Seen) (operation : Operation) (ids : List ℕ
     both : so_far.done ++ (own ++ rest) ≡ (so_far.done ++ own) ++ each_calls operation (drop (count + 1) ids) (after_calls (so_far.done ++ own) t)
     both = sym (append_assoc so_far.done own rest) ∙ ap (λ (u : Told). (so_far.done ++ own) ++ each_calls operation (drop (count + 1) ids) u) (sym (after_both so_far.done own t))
 
-    -- one more is done
+    -- One more operation is done.
     pub done_more : Does see (acts_of own) went_well b c → answer_on_found id (device_of now) ≡ Ok tt → DoneTo see operation ids (count + 1) t a c
     done_more does ok = record {
       done = so_far.done ++ own;
@@ -65,7 +65,7 @@ module _ {X : Type 0} (see : X → Seen) (operation : Operation) (ids : List ℕ
           ∙ ap (λ (u : Told). each_answer operation (drop (count + 1) ids) u) (sym (after_both so_far.done own t)));
     }
 
-    -- one was refused, or a call of it failed
+    -- An operation was refused, or one of its calls failed.
     last_done : (ended : Ended) (why : DriverRefused) → Does see (acts_of own) ended b c → IsMade ended → answer_on_found id (device_of now) ≡ Err why → Does see (acts_of (each_calls operation ids t)) ended a c
     last_done ended why does made refused =
         subst (λ (calls : List DeviceCall). Does see (acts_of calls) ended a c)
@@ -108,7 +108,7 @@ module _ {X : Type 0} (see : X → Seen) (operation : Operation) (ids : List ℕ
   each_refused why does answers answered = over_each _ (see a).told (λ t is.
       (does_refused see operation ids t count a b c is within d (here t is) why (there t is _ does) (there t is _ answers) answered))
 
--- what holds of a board at a first call held of it at the start
+-- A property of a board at a first call held at the start.
 pub called_once : {X : Type 0} {Before : Type 0} (P : X → Type 0) (a b : X) → (Before × (b ≡ a)) ⊎ P a → P b → P a
 called_once P a b (inl none) holds = subst P none.1 holds
 called_once P a b (inr some) holds = some

@@ -1,4 +1,4 @@
--- A store less its first readable record, and less several.
+-- A store without its first readable record, and without several.
 use Rattle.std.proofs.Common.{◌≡◌, ◌∙◌, ℕ, zero, suc, Bool, true, false, not, nat_eq, cond, if◌then◌else◌, ◌||◌, List, [], ◌∷◌, length, refl, sym, ap, subst, arith}
 use Rattle.std.specs.List.{IsDistinct, AllByRecursion}
 use Rattle.std.proofs.lemmas.Bool.Decides.{nat_tests}
@@ -7,7 +7,7 @@ use Rattle.erst_store.specs.Store.{Stored, ids, without, holds}
 use Rattle.ras_records.specs.Polls.{readable_ids}
 use Rattle.ras_events.specs.Stores.{is_readable, readable, unreadable, without_first}
 
--- a record that can be read is the first of them, or it stays in front
+-- A record that can be read is the first of them, or it stays at the front.
 abbrev with_front : Bool → Stored → List Stored → List Stored
 with_front b r rs = cond b (r ∷ readable rs) (readable rs)
 
@@ -31,7 +31,7 @@ tail_of x y xs ys is = cc
 no_cons : {P : Type 0} (x : ℕ) (xs : List ℕ) → [] ≡ (x ∷ xs) → P
 no_cons x xs is = absurd (omega (arith, ap (λ (l : List ℕ). length l) is))
 
--- all of a list are apart from a number
+-- All numbers of a list differ from a number.
 abbrev pub Apart : ℕ → List ℕ → Type 0
 Apart k xs = AllByRecursion (λ y. nat_eq k y ≡ false) xs
 
@@ -51,7 +51,7 @@ apart_readable k (r ∷ rs) all = by (is_readable r) (apart_readable k rs all.1)
 
 -- ---- the first one
 
--- what holds of a store whose first readable record has this identifier
+-- A store whose first readable record has this identifier.
 pub record First (id : ℕ) (later : List ℕ) (rs : List Stored) : Type 0 where
   pub holds_it : holds id rs ≡ true
   pub without_is : without id rs ≡ without_first 1 rs

@@ -1,4 +1,4 @@
--- What calls of the device keep of what is told, one after another.
+-- What device calls leave unchanged in the model, one after another.
 use Rattle.std.proofs.Common.{◌≡◌, ◌∙◌, Option, None, Some, refl, ap, subst}
 use Rattle.board_core.specs.Stop.{Left}
 use Rattle.board_core.specs.Told.{Relates, Told}

@@ -1,4 +1,4 @@
--- A listing, and then the reading of what it listed.
+-- Listing the records, and then reading the listed ones.
 use Rattle.std.proofs.Common.{◌≡◌, ◌∙◌, ℕ, ◌&&◌, not, nat_eq, List, ◌++◌, length, min, ◌+◌, Some, Result, Ok, Err, IsTrue, append_assoc, sym, ap, subst}
 use Rattle.std.specs.Prelude.{IfSome}
 use Rattle.std.specs.Option.{option_map}

@@ -1,4 +1,4 @@
--- Calls of the device that leave its store: a look.
+-- Device calls that don't change the store: listing and reading.
 use Rattle.std.proofs.Common.{◌≡◌, ◌∙◌, ℕ, ◌<◌, ◌^◌, Bool, true, false, List, [], ◌∷◌, ◌++◌, Ok, Err, inl, inr, refl, sym, ap, subst, arith, if◌then◌else◌}
 use Rattle.std.specs.List.{AllByRecursion}
 use Rattle.std.specs.Result.{is_ok}
@@ -23,7 +23,7 @@ use Rattle.ras_records.specs.Polls.{look_calls}
 use Rattle.ras_records.proofs.ClearingLemmas.{is_device_told}
 use Rattle.ras_records.proofs.LookingLemmas.{is_device_listed}
 
--- What is told of files, store and text stays, and so does what a stop leaves meanwhile.
+-- The model of files, store and text is unchanged, and so is what a crash meanwhile leaves.
 record Quiet (calls : List DeviceCall) (t : Told) : Type 0 where
   here : (after_calls calls t).here ≡ t.here
   device : IsDevice (device_of (after_calls calls t))

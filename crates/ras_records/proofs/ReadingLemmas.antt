@@ -82,7 +82,7 @@ found_holds id (r ∷ rs) bytes is = by (nat_eq r.id id) refl is (found_holds id
     by true same here up = ap (λ b. b || holds id rs) (turned true same)
     by false other here up = over (nat_eq id r.id) (up here)
 
--- the record at a place whose identifier was listed
+-- The record at an index whose identifier was listed.
 record AtPlace (ids : List ℕ) (store : List Stored) (count : ℕ) : Type 0 where
   found : Stored
   front : drop count store ≡ found ∷ drop (count + 1) store
@@ -100,19 +100,19 @@ at_place ids store count listed within =
       id = ap (λ (xs : List ℕ). get_or xs count 0) listed ∙ get_or-map (λ (r : Stored). r.id) store count no_record 0 inside;
     }
 
--- of a record that is there
+-- The result of reading a record that is there, or isn't.
 abbrev answered_if : Bool → Answer
 answered_if free = if free then Ok tt else Err Busy
 
 -- ---- the records so far
 
--- what has to hold of a board that tells
+-- What a modelled board has to have.
 pub record IsListed (lists : List (List InstructionEntry)) (ids : List ℕ) (u : Told) : Type 0 where
   pub admitted : IsAdmittedTable lists
   pub device : IsDevice (device_of u)
   pub listed : ids ≡ ids_in u.here.store
 
--- Of a store's records so many are told of.
+-- The pieces of this many of a store's records are made.
 pub record HeldTo (rows : List Row) (seconds count : ℕ) (u now : Told) (looked : Looked) : Type 0 where
   pub here : now.here ≡ u.here
   pub made : looked.made ++ polled rows seconds (drop count u.here.store) ≡ polled rows seconds u.here.store
@@ -149,7 +149,7 @@ module _ (rows : List Row) (seconds : ℕ) where
     free = inl refl;
   }
 
-  -- what was read of one more is told of
+  -- The piece of one more record is made.
   module _ (lists : List (List InstructionEntry)) (ids : List ℕ) (count : ℕ) (u n m : Told) (old new : Looked) (buffer : List ℕ) (is : IsListed lists ids u) (within : count < length ids) (device : IsDevice (device_of n))
       (found : HoldsRecord (get_or ids count 0) n.here.store buffer)
       (made : new.made ≡ old.made ++ piece_of rows seconds (get_or ids count 0) (read_under (get_or ids count 0) buffer) ∷ [])
@@ -206,7 +206,7 @@ module _ (rows : List Row) (seconds : ℕ) where
 
   -- ---- how the reading ends
 
-  -- a record that is listed is there
+  -- A listed record is there.
   module _ (lists : List (List InstructionEntry)) (ids : List ℕ) (count : ℕ) (u n : Told) (looked : Looked) (is : IsListed lists ids u) (within : count < length ids) (slow : n.volatile.slow ≡ u.volatile.slow) (held : HeldTo rows seconds count u n looked) where
     listed_there : holds (get_or ids count 0) n.here.store ≡ true
     listed_there =

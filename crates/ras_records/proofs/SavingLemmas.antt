@@ -1,4 +1,4 @@
--- A record that is saved is put.
+-- A saved record is put.
 use Rattle.std.proofs.Common.{subst, ap, sym, ◌∙◌, ◌≡◌, ◌≤◌, ℕ, ◌||◌, Bool, true, false, nat_lt, List, length, Option, Some, None, refl, arith, if◌then◌else◌}
 use Rattle.std.specs.Option.{option_map_or}
 use Rattle.std.proofs.lemmas.Bool.Decides.{nat_tests}

@@ -24,7 +24,7 @@ each_calls operation (id ∷ ids) t =
     ++ (if is_ok (answer_on_found id (device_of t))
     then each_calls operation ids (after_calls (operation id (device_of t)) t) else [])
 
--- How the operations end: they succeed, or end as the first does that doesn't succeed.
+-- How the operations end: they succeed, or end as the first one that doesn't succeed.
 abbrev pub after_answer : Answer → Answer → Answer
 after_answer (Ok done) later = later
 after_answer (Err why) later = Err why

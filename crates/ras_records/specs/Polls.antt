@@ -17,21 +17,21 @@ use Rattle.ras_records.specs.Each.{after_calls, each_calls}
 
 -- ---- a look: the store's records are listed, and then each is read
 
--- the calls of the device by which its store's records are listed and read
+-- the device calls that list and read the records of the device's store
 abbrev pub look_calls : List (List InstructionEntry) → Told → List DeviceCall
 look_calls lists t =
     list_calls lists (device_of t)
     ++ each_calls (read_calls lists) (ids t.here.store) (after_calls (list_calls lists (device_of t)) t)
 
--- the identifiers of the records of a store that can be read
+-- the identifiers of the readable records of a store
 abbrev pub readable_ids : List Stored → List ℕ
 readable_ids store = ids (readable store)
 
--- Whether a device is too slow for its store to be read. The device of an empty store isn't asked.
+-- Whether a device is too slow for its store to be read. For an empty store the device isn't checked.
 abbrev pub is_busy_for_reads : ℕ → List Stored → Bool
 is_busy_for_reads slow store = not (is_free_in_time slow) && not (nat_eq (length store) 0)
 
--- each record has a piece, and the readable records are named
+-- Each record has a piece, and the readable records are listed.
 pub record HasLooked (rows : List Row) (seconds : ℕ) (t : Told) (looked : Looked) : Type 0 where
   pub made : looked.made ≡ polled rows seconds t.here.store
   pub readable : looked.readable.items ≡ readable_ids t.here.store
@@ -44,7 +44,7 @@ Looks rows seconds (Err Busy) t = IsTrue (is_busy_for_reads t.volatile.slow t.he
 Looks rows seconds (Err (EndedWith status)) t = ⊥
 Looks rows seconds (Err why) t = Unit {0}
 
--- What holds of a look over every board: its pieces can be one link, and a status that it returns isn't 0.
+-- What holds of listing and reading on every board: the pieces can be one link, and a returned status isn't 0.
 abbrev pub IsBounded : Result Looked DriverRefused → Type 0
 IsBounded (Ok looked) = IsFit looked.made × (length looked.readable.items ≤ most_records)
 IsBounded (Err (EndedWith status)) = status ≢ 0
@@ -52,7 +52,7 @@ IsBounded (Err why) = Unit {0}
 
 -- ---- clears of the readable records
 
--- some of the readable records are gone, from the first on
+-- A store lacks the first readable records of another.
 pub record LacksFirst (old new : List Stored) : Type 0 where
   pub count : ℕ
   pub is : new ≡ without_first count old

@@ -16,8 +16,8 @@ ghost use Rattle.ras_events.specs.Stores.{store_with, unreadable};
 ghost use Rattle.ras_records.specs.Each.{after_calls, each_answer, each_calls};
 ghost use Rattle.ras_records.specs.Polls.{LacksFirst, look_calls, readable_ids};
 
-/// What calls of the device leave: in the board's model, of files, record store and text, only the
-/// store changes, and the device stays as slow as it was.
+/// Calls of the device change only the store among the model's files, record store and text, and
+/// the device stays as slow as it was.
 pub fn device_calls_change_the_store_alone()
     ensures { (calls : List DeviceCall) (t : Told) → KeepsButDevice t (after_calls calls t) }
 {}

@@ -31,7 +31,7 @@ use Rattle.ras_recover.proofs.LooksLemmas.{Joins, looks_taken_up, looks_weaker}
 use Rattle.ras_recover.proofs.PairLemmas.{both_read}
 use Rattle.ras_recover.proofs.StandingLemmas.{open_not_shut}
 
--- ---- what both hold
+-- ---- what both files contain
 
 not_shut : (file : List ℕ) (front : FileFront) → front_of None file ≡ Ok (Some front) → false ≡ is_shut file
 not_shut file front e = open_not_shut file ((front_parts None file front e).open_gate)
@@ -57,7 +57,7 @@ one_newer file0 file1 zero one short0 short1 e0 e1 less =
     less_is : (a b : ℕ) → a < b → nat_lt a b ≡ true
     less_is a b less = grind (arith, nat_tests)
 
--- files of these sizes were read, and this one is the newer one
+-- Files of these sizes were read, and this one is the newer one.
 aged_here : (newer older : FileNo) (place : Place) (account : Account) (last : FileFront) (m n : ℕ) (here : Left) → older ≡ other newer → (m ≤ LONGEST_FILE) × (n ≤ LONGEST_FILE) → (m ≡ length (file_in older here)) × (n ≡ length (file_in newer here))
     → front_of None (file_in older here) ≡ Ok (Some last) → front_of None (file_in newer here) ≡ Ok (Some (front_at place account.state)) → last.generation < place.generation
     → AreRead (record { shut = (false, false); journal = Some (newer, place, account) }) here.file0 here.file1
@@ -102,14 +102,14 @@ pub found_shut : (both : BothRead) (told : Option Told) → IfSome told (λ t. A
 found_shut both None are = tt
 found_shut both (Some t) are = (are.zero, are.one)
 
--- the sizes of both files are as they were
+-- The sizes of both files are unchanged.
 pub sizes_later : (m n : ℕ) (zero one : FileNo) (old next : Option Told) → option_map (λ (t : Told). t.here) next ≡ option_map (λ (t : Told). t.here) old → IfSome old (λ t. (m ≡ length (file_of zero t)) × (n ≡ length (file_of one t)))
     → IfSome next (λ t. (m ≡ length (file_of zero t)) × (n ≡ length (file_of one t)))
 sizes_later m n zero one old next here sizes = still (λ (l : Left). (m ≡ length (file_in zero l)) × (n ≡ length (file_in one l))) old next here sizes
 
 -- ---- the older file and the newer one
 
--- What is known of them.
+-- What is known of the older file and the newer one.
 pub record Aged (older newer : SizedFile) (told : Option Told) : Type 0 where
   pub others : older.no ≡ other newer.no
   pub short : (older.size ≤ LONGEST_FILE) × (newer.size ≤ LONGEST_FILE)
@@ -145,7 +145,7 @@ pub older_size : (older newer : SizedFile) (told : Option Told) → Aged older n
 older_size older newer None is = tt
 older_size older newer (Some t) is = is.sizes.0
 
--- ---- what was read of them
+-- ---- what was read of both files
 
 both_aged : (newer older : FileNo) → older ≡ other newer → (here : Left) (xs ys : List DiskCall) → ReadsStanding older (file_in older here) xs → ReadsStanding newer (file_in newer here) ys → ReadsBoth here (xs ++ ys)
 both_aged Zero Zero same here xs ys first second = absurd cc
@@ -163,13 +163,13 @@ pub aged_reads : (newer older : FileNo) → older ≡ other newer → Joins (λ 
 aged_reads newer older same t u here xs ys first second =
     both_aged newer older same t.here xs ys first (subst (λ (l : Left). ReadsStanding newer (file_in newer l) ys) here second)
 
--- both files are read after other reads
+-- Both files were read after other reads.
 pub reads_later : (P : Told → List DiskCall → Type 0) → Joins P (λ t. ReadsBoth t.here) (λ t. ReadsBoth t.here)
 reads_later P t u here xs ys first second = both_later t.here xs ys (subst (λ (l : Left). ReadsBoth l ys) here second)
 
--- ---- what reading by age came to
+-- ---- what reading by age returned
 
--- What was found, or that both files are still to be read one by one.
+-- What was found, or that both files have yet to be read one by one.
 pub record Found (found : Option BothRead) (old new : Seen) : Type 0 where
   pub read : IfSome found (λ both. IfSome old.told (λ t. AreRead both t.here.file0 t.here.file1))
   pub looks : Looks went_well (λ t calls. IfSome found (λ both. ReadsBoth t.here calls)) old new

@@ -58,7 +58,7 @@ both_told m n zero one taken journal old new here short sizes is same also journ
     subst (λ (j : Option JournalFile). IfSome old (λ t. journal_of t.here.file0 t.here.file1 ≡ Ok j)) (sym journal_is)
     (both_here m n zero one taken old short sizes is same (before (λ (l : Left). in_file One (front_of taken l.file1) ≡ Ok one) old new here also))
 
--- ---- what they hold
+-- ---- what both files contain
 
 fails_here : (refused : OpenRefused) (told : Option Told) → IfSome told (λ t. RefusesHeld refused (journal_of t.here.file0 t.here.file1)) → IfSome told (λ t. RefusesHeld refused (recovered t.here.file0 t.here.file1))
 fails_here refused None refuses = tt

@@ -1,4 +1,4 @@
--- Disk calls one after another, and what is told behind them.
+-- Joined lists of disk calls, and the model after them.
 use Rattle.std.proofs.Common.{◌∙◌, List, [], ◌∷◌, ◌++◌, Option, None, Some, refl, sym, ap, subst, inl, inr, append_assoc}
 use Rattle.std.specs.Prelude.{All, Any, IfSome}
 use Rattle.std.proofs.lemmas.List.{append-nil}
@@ -10,7 +10,7 @@ use Rattle.board_core.specs.Told.{Told, Steps, Relates, MayList, with_call}
 use Rattle.ras_recover.specs.DiskCalls.{Calls, IsReading, Makes, ReadsPlace, with_calls}
 use Rattle.ras_recover.specs.OpeningCalls.{ReadsBoth}
 
--- ---- where a board tells
+-- ---- over a modelled board
 
 pub relates_then : (R S Q : Told → Told → Type 0) → ((x y z : Told) → R x y → S y z → Q x z) → (a b c : Option Told) → Relates R a b → Relates S b c → Relates Q a c
 relates_then R S Q joins None b c first second = subst (λ (o : Option Told). Relates S o c) first second
@@ -64,7 +64,7 @@ listed_or_not : (Are : List DiskCall → Type 0) (call : DiskCall) → Are [] �
 listed_or_not Are call none one x y (inl same) = subst (λ (t : Told). Calls Are x t) (sym same) (nothing_called Are none x)
 listed_or_not Are call none one x y (inr listed) = subst (λ (t : Told). Calls Are x t) (sym listed) (called_once Are call one x)
 
--- a call was made and went well
+-- A call was made and succeeded.
 pub call_done : (Are : List DiskCall → Type 0) (call : DiskCall) → Are (call ∷ []) → (a b : Option Told) → Steps (with_call call) a b → Relates (Calls Are) a b
 call_done Are call one a b told = relates_steps (Calls Are) (with_call call) (called_once Are call one) a b told
 
@@ -96,7 +96,7 @@ any_right P xs ys (k, call, within, at, holds) =
     let there = Contains-append_right xs ys call (k, within, at) in
     (there.0, call, there.1, there.2, holds)
 
--- ---- lists that only grow
+-- ---- lists that only grow at their end
 
 pub makes_more : (P Q R : List DiskCall → Type 0) → ((xs ys : List DiskCall) → P xs → Q ys → R (xs ++ ys)) → (x y z : Told) → Makes P x y → Makes Q y z → Makes R x z
 makes_more P Q R joins x y z first second = record {
@@ -113,7 +113,7 @@ makes_weaker P Q weaker x y makes = record { made = makes.made; listed = makes.l
 
 -- ---- what was read of both files
 
--- what was read of both is read of them later too
+-- If both files were read, they are also read after other calls.
 pub both_later : (here : Left) (xs ys : List DiskCall) → ReadsBoth here ys → ReadsBoth here (xs ++ ys)
 both_later here xs ys reads = record {
   zero = λ taken front place stands early. any_right (ReadsPlace Zero place) xs ys (reads.zero taken front place stands early);

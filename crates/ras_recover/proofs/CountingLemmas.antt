@@ -1,4 +1,4 @@
--- Which disk calls acts of one file make, and that they change that file alone.
+-- Which disk calls acts on one file make, and that the acts change only that file.
 use Rattle.std.proofs.Common.{◌≡◌, ◌∙◌, ℕ, List, [], ◌∷◌, ◌++◌, length, refl, sym, ap, subst, inl, inr, append_assoc, append-nil}
 use Rattle.ras_base.specs.Prefix.{IsPrefixOf}
 use Rattle.board_core.specs.declared.board.FileNo.{FileNo}
@@ -11,7 +11,7 @@ use Rattle.board_core.specs.Told.{Told, FailsThrough, overlay, file_of, with_fil
 use Rattle.ras_recover.specs.DiskCalls.{with_calls}
 use Rattle.ras_recover.specs.Steps.Looking.{WritesIn}
 
--- all are writes of this file with their syncs
+-- All acts are writes of this file with their syncs.
 abbrev pub AreThrough : FileNo → List Act → Type 0
 AreThrough file [] = Unit {0}
 AreThrough file (through other place bytes ∷ acts) = (other ≡ file) × AreThrough file acts
@@ -56,7 +56,7 @@ module _ (file : FileNo) (place : ℕ) (bytes : List ℕ) where
   written : (t : Told) → WritesIn file (λ made. made ≡ both) t (after_write_through file place bytes t)
   written t = record { bytes = overlay place bytes (file_of file t); made = both; is = listed_twice file place bytes t; are = refl }
 
-  -- a call that failed is the last
+  -- A failed call is the last call.
   not_written : (old new : Told) → FailsThrough file place bytes old new → WritesIn file (λ made. IsPrefixOf made both) old new
   not_written old new (inl (torn, is_torn, inl is)) = record { bytes = torn; made = []; is = is ∙ sym (no_calls (with_file file torn old)); are = (both, refl) }
   not_written old new (inl (torn, is_torn, inr is)) = record { bytes = torn; made = WriteAt file place (length bytes) ∷ []; is = is; are = (Sync file ∷ [], refl) }
@@ -71,7 +71,7 @@ module _ (file : FileNo) (place : ℕ) (bytes : List ℕ) where
   one_more : (acts : List Act) (made : List DiskCall) → IsPrefixOf made (calls_of acts) → (xs : List DiskCall) → xs ≡ both → IsPrefixOf (xs ++ made) (calls_of (through file place bytes ∷ acts))
   one_more acts made begins xs is = (begins.0, append_assoc xs made begins.0 ∙ (ap (λ (l : List DiskCall). l ++ (made ++ begins.0)) is ∙ ap (λ (l : List DiskCall). both ++ l) begins.1))
 
--- all of them are made
+-- All of the acts were done.
 pub acts_write : (file : FileNo) (acts : List Act) → AreThrough file acts → (t : Told) → WritesIn file (λ made. IsPrefixOf made (calls_of acts)) t (after_acts acts t)
 acts_write file [] are t = writes_none file (λ made. IsPrefixOf made []) ([], refl) t
 acts_write file (through other place bytes ∷ acts) (is, are) t =
@@ -84,7 +84,7 @@ acts_write file (prints bytes ∷ acts) are t = absurd are
 acts_write file (calls call ∷ acts) are t = absurd are
 acts_write file (device call ∷ acts) are t = absurd are
 
--- or one failed
+-- One of the acts failed.
 pub fails_write : (kind : Kind) (file : FileNo) (acts : List Act) → AreThrough file acts → (t u : Told) → FailsActs kind acts t u → WritesIn file (λ made. IsPrefixOf made (calls_of acts)) t u
 fails_write kind file [] are t u never = absurd never
 fails_write kind file (through other place bytes ∷ acts) (is, are) t u (inl now) =

@@ -1,4 +1,4 @@
--- What a call that does acts leaves, and which disk calls it makes.
+-- What a function that does acts leaves, and which disk calls it makes.
 use Rattle.std.proofs.Common.{List, [], Option, refl, sym, subst, append-nil}
 use Rattle.board_core.specs.declared.board.DiskCall.{DiskCall}
 use Rattle.board_core.specs.Clock.{Adds, Rests}
@@ -10,14 +10,14 @@ use Rattle.board_core.proofs.ActLemmas.{calls_by_acts, calls_by_fails}
 use Rattle.ras_recover.specs.DiskCalls.{IsBeginning, Makes}
 use Rattle.ras_recover.proofs.CallsLemmas.{relates_same, relates_steps, relates_weaker}
 
--- whatever a stop leaves has a property that each moment of the acts has
+-- Whatever a crash leaves has a property, if each moment of the acts has it.
 pub does_leaves : {X : Type 0} (see : X → Seen) (acts : List Act) (ended : Ended) (a b : X) (P : Left → Type 0) (t : Told) → Rests t (see a).told (see a).clock → Does see acts ended a b
     → (IsMade ended → (left : Left) → Moment acts t left → P left) → Adds P (see a).clock (see b).clock
 does_leaves see acts went_well a b P t rests does leads = adds_weaker (Moment acts t) P (see a).clock (see b).clock (does.stops t rests) (leads tt)
 does_leaves see acts (broke kind) a b P t rests does leads = adds_weaker (Moment acts t) P (see a).clock (see b).clock (does.stops t rests) (leads tt)
 does_leaves see acts gave_up a b P t rests same leads = subst (λ x. Adds P (see a).clock (see x).clock) (sym same) (adds_none P (see a).clock)
 
--- Where all went well, the disk calls made are a whole of such; and however it ended, a beginning.
+-- If all calls succeeded, the disk calls made are the calls of all acts; otherwise they are a beginning of them.
 pub does_whole : (Are : List DiskCall → Type 0) (acts : List Act) → Are (calls_of acts) → (a b : Option Told) → Steps (after_acts acts) a b → Relates (Makes Are) a b
 does_whole Are acts are a b told = relates_steps (Makes Are) (after_acts acts) (λ t. record { made = calls_of acts; listed = calls_by_acts acts t; are = are }) a b told
 

@@ -1,4 +1,4 @@
--- How many links the files of a journal have while one of them is formatted, and behind that.
+-- How many links the files of a journal have while one of them is formatted, and afterwards.
 use Rattle.std.proofs.Common.{◌≡◌, ℕ, ◌+◌, List, None, refl, sym, subst, arith, inl, inr}
 use Rattle.std.specs.Prelude.{Bool}
 use Rattle.board_core.specs.Doing.{Moment}
@@ -17,7 +17,7 @@ use Rattle.ras_recover.specs.Switching.{CanSwitch, after_switch, next_bytes, swi
 use Rattle.ras_recover.proofs.FormattingLemmas.{Formatting, formatted, formatted_reads, formatting_reads, moment_formats}
 use Rattle.ras_recover.proofs.SwitchingLemmas.{Ready, ready, switched_told}
 
--- ---- a file that is formatted
+-- ---- the formatted file
 
 pub formatting_few : (shut : Bool) (base file : List ℕ) (generation : ℕ) (checkpoint : List ℕ) (account : State) → shut ≡ is_shut base → CanBegin None Two generation checkpoint account
     → Formatting shut (behind_gate generation checkpoint) base file → AreLinksFew base → AreLinksFew file

@@ -1,5 +1,4 @@
--- What a stop leaves while a file is formatted: one of its steps is torn, and those before it are
--- done.
+-- What a crash leaves while a file is formatted: one of the steps is torn, and the steps before it are done.
 use Rattle.std.proofs.Common.{◌≡◌, ◌≢◌, ◌∙◌, ℕ, ◌+◌, ◌≤◌, ◌<◌, ◌⊎◌, max, List, [], ◌∷◌, ◌++◌, length, take, drop, Option, None, Some, Ok, refl, sym, ap, subst, arith, inl, inr, append_assoc, length-append}
 use Rattle.std.specs.Prelude.{Bool, true, false, slice_index}
 use Rattle.std.proofs.lemmas.Bool.Decides.{nat_tests}
@@ -30,7 +29,7 @@ put_within generation before checkpoint begun =
     let named = magic Two ++ u64_bytes generation in
     omega (arith, ap length begun, length-append (named ++ u64_bytes 0) checkpoint, length-append named (u64_bytes 0), length-append (magic Two) (u64_bytes generation), length-u64_bytes generation, length-u64_bytes 0)
 
--- The checkpoint's length was put over eight bytes in front of the checkpoint, and then a gate appended.
+-- The checkpoint's length was put over eight bytes before the checkpoint, and then a gate was appended.
 pub behind_is : (generation count : ℕ) (before put rest checkpoint : List ℕ) → before ≡ ((magic Two ++ u64_bytes generation) ++ u64_bytes 0) ++ checkpoint
     → put ≡ take 16 before ++ (u64_bytes (length checkpoint) ++ drop 8 (drop 16 before)) → length before ≡ count → take count (put ++ rest) ++ CLOSED_GATE ∷ [] ≡ behind_gate generation checkpoint
 behind_is generation count before put rest checkpoint begun is long =
@@ -46,14 +45,14 @@ behind_is generation count before put rest checkpoint begun is long =
     omega (arith, long, ap length apart, ap length whole, length-append named (u64_bytes 0 ++ checkpoint), length-append (u64_bytes 0) checkpoint, length-append named (number ++ checkpoint), length-append number checkpoint, length-u64_bytes 0, length-u64_bytes (length checkpoint)) in
     ap (λ (l : List ℕ). l ++ CLOSED_GATE ∷ []) (take_at put rest count same ∙ (whole ∙ append_assoc (magic Two) (u64_bytes generation) (number ++ checkpoint)))
 
--- ---- the file alone
+-- ---- the formatted file
 
 -- the file with a closed gate at its front
 abbrev pub closed : Bool → List ℕ → List ℕ
 closed true file = file
 closed false file = overlay 0 (CLOSED_GATE ∷ []) file
 
--- What a stop leaves of the file: one of the steps may be torn, and those before it are done.
+-- What a crash leaves of the file: one of the steps may be torn, and the steps before it are done.
 abbrev pub TornClosing : Bool → List ℕ → List ℕ → Type 0
 TornClosing shut old new = (shut ≡ false) × Torn 0 1 old new
 
@@ -74,7 +73,7 @@ is_closed false file is = record { some = omega arith; shut = closed_is }
 stands_or_short : (file : List ℕ) → is_shut file ≡ false → (has_open_gate file ≡ true) ⊎ (length file ≤ 1)
 stands_or_short file is = grind (arith, nat_tests)
 
--- while it is formatted it is read as before, or doesn't stand, or stands with the new generation
+-- While a file is formatted it is read as before, or isn't valid, or is valid with the new generation.
 pub formatting_reads : (taken : Option ℕ) (shut : Bool) (base file : List ℕ) (generation : ℕ) (checkpoint : List ℕ) (account : State) → shut ≡ is_shut base → CanBegin taken Two generation checkpoint account
     → Formatting shut (behind_gate generation checkpoint) base file
     → (front_of taken file ≡ front_of taken base) ⊎ ((front_of taken file ≡ Ok None) ⊎ (front_of taken file ≡ Ok (Some (begun_front Two generation checkpoint account))))
@@ -86,7 +85,7 @@ formatting_reads taken shut base file generation checkpoint account is can (inr 
 formatting_reads taken shut base file generation checkpoint account is can (inr (inr opening)) =
     inr (torn_open taken (closed shut base) file Two generation checkpoint account (is_closed shut base is).some can opening)
 
--- once it is formatted it stands with the new generation
+-- Once a file is formatted it is valid with the new generation.
 abbrev pub formatted : Bool → List ℕ → List ℕ → List ℕ
 formatted shut bytes base = overlay 0 (OPEN_GATE ∷ []) (overlay 1 bytes (closed shut base))
 
@@ -95,7 +94,7 @@ pub formatted_reads : (taken : Option ℕ) (shut : Bool) (base : List ℕ) (gene
 formatted_reads taken shut base generation checkpoint account is can =
     opened_reads taken (closed shut base) Two generation checkpoint account (is_closed shut base is).some can
 
--- ---- how long it is
+-- ---- the file's length
 
 closed_length : (shut : Bool) (base : List ℕ) → length (closed shut base) ≤ max (length base) 1
 closed_length true base = omega arith
@@ -120,7 +119,7 @@ formatted_short shut bytes base is short room =
     let some : 0 < length (closed shut base) = (is_closed shut base is).some in
     omega (arith, closed_length shut base, written_length bytes (closed shut base) some, length-overlay 0 (OPEN_GATE ∷ []) (overlay 1 bytes (closed shut base)))
 
--- ---- what is told
+-- ---- the model
 
 abbrev pub after_closing : FileNo → Bool → Told → Told
 after_closing file shut t = after_acts (closing_acts file shut) t

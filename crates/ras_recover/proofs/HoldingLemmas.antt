@@ -1,4 +1,4 @@
--- What the window holds where a board tells.
+-- What the window contains, over a modelled board.
 use Rattle.std.proofs.Common.{◌≡◌, ◌∙◌, ℕ, ◌+◌, ◌-◌, ◌^◌, ◌≤◌, ◌<◌, min, List, length, take, drop, Option, None, Some, Result, Ok, Err, sym, ap, subst, arith, inl, inr}
 use Rattle.std.specs.Prelude.{true, IfSome, OnOk}
 use Rattle.std.specs.Option.{option_map}
@@ -20,7 +20,7 @@ use Rattle.ras_recover.proofs.WindowLemmas.{damage_near, field_piece, early, nex
 pub seen_before : (file : SizedFile) (window : Window) (old new : Option Told) → option_map (λ (t : Told). t.here) new ≡ option_map (λ (t : Told). t.here) old → Sees file new window → Sees file old window
 seen_before file window old new same sees = before (λ (l : Left). IsWindowOf file window (file_in file.no l)) old new same sees
 
--- the bytes that are held from a place on are those of the file there
+-- The window's bytes from an offset on are the bytes of the file there.
 pub rest_is : (file : SizedFile) (place : ℕ) (window : Window) (bytes : List ℕ) → Spans file place window → IsWindowOf file window bytes → drop (place - window.start) window.bytes.items ≡ take (end_of window - place) (drop place bytes)
 rest_is file place window bytes spans is =
     let items = window.bytes.items in
@@ -32,7 +32,7 @@ rest_is file place window bytes spans is =
     ∙ (drop-take (place - window.start) (end_of window - place) (drop window.start bytes)
     ∙ ap (λ (l : List ℕ). take (end_of window - place) l) (drop-drop (place - window.start) window.start bytes ∙ ap (λ (n : ℕ). drop n bytes) behind))
 
--- ---- the link behind a gate
+-- ---- the link after a gate
 
 pub record Gate (file : SizedFile) (gate : ℕ) (window : Window) (rest bytes : List ℕ) : Type 0 where
   pub spans : Spans file gate window
@@ -64,7 +64,7 @@ gate_of : (file : SizedFile) (gate : ℕ) (window : Window) (rest : List ℕ) (t
     → Gate file gate window rest (file_of file.no t)
 gate_of file gate window rest t spans sees held is = record { spans = spans; window_of = sees; held = held; rest_is = is }
 
--- no link is told of
+-- The window has no complete link length.
 pub link_none : (file : SizedFile) (gate : ℕ) (window : Window) (rest : List ℕ) (told : Option Told) → Spans file gate window → Sees file told window → IfSome told (λ t. min (gate + 5) file.size ≤ end_of window) → rest ≡ drop (gate - window.start) window.bytes.items
     → ((count : ℕ) → field is_open_of 0 1 rest ≡ Ok true → field (number_of 4) 1 4 rest ≡ Ok count → ⊥) → IfSome told (λ t. LinkHeld (end_of window - gate) (drop gate (file_of file.no t)))
 link_none file gate window rest None spans sees held is none = tt
@@ -75,7 +75,7 @@ link_none file gate window rest (Some t) spans sees held is none =
       payload = λ count opened counted. absurd (none count (open_there file gate window rest (file_of file.no t) g ∙ opened) (count_there file gate window rest (file_of file.no t) g ∙ counted));
     }
 
--- the link is longer than the file
+-- The link is longer than the file.
 pub link_long : (file : SizedFile) (gate n : ℕ) (window : Window) (rest : List ℕ) (told : Option Told) → Spans file gate window → Sees file told window → IfSome told (λ t. min (gate + 5) file.size ≤ end_of window) → rest ≡ drop (gate - window.start) window.bytes.items
     → ((count : ℕ) → field (number_of 4) 1 4 rest ≡ Ok count → n ≡ 5 + count) → file.size - gate < n → IfSome told (λ t. LinkHeld (end_of window - gate) (drop gate (file_of file.no t)))
 link_long file gate n window rest None spans sees held is some long = tt
@@ -88,7 +88,7 @@ link_long file gate n window rest (Some t) spans sees held is some long =
       payload = λ count opened counted. (let whole : n ≡ 5 + count = some count (count_there file gate window rest bytes g ∙ counted) in inr (omega (arith, length-drop gate bytes)));
     }
 
--- the link was held
+-- The window contained the link.
 whole_there : (file : SizedFile) (gate n : ℕ) (window later : Window) (rest : List ℕ) (t : Told) → Spans file gate window → Sees file (Some t) window → min (gate + 5) file.size ≤ end_of window → rest ≡ drop (gate - window.start) window.bytes.items
     → ((count : ℕ) → field (number_of 4) 1 4 rest ≡ Ok count → n ≡ 5 + count) → 5 ≤ n → n ≤ file.size - gate → min (gate + n) file.size ≤ end_of later → LinkHeld (end_of later - gate) (drop gate (file_of file.no t))
 whole_there file gate n window later rest t spans sees held is some least short now =
@@ -112,7 +112,7 @@ link_whole (Ok x) file gate n window later rest (Some t) None same spans sees he
 link_whole (Ok x) file gate n window later rest (Some t) (Some u) same spans sees held is some least short now =
     whole_there file gate n window later rest t spans (seen_before file window (Some t) (Some u) same sees) held is some least short now
 
--- the next front, as it is read of what is held
+-- The next front, read from the window, is the next front of the file.
 pub next_told : (file : SizedFile) (window : Window) (front : FileFront) (rest : List ℕ) (told : Option Told) (read : Result (Option FileFront) ℕ) → Spans file front.gate window → Sees file told window
     → IfSome told (λ t. LinkHeld (end_of window - front.gate) (drop front.gate (file_of file.no t))) → rest ≡ drop (front.gate - window.start) window.bytes.items → next_front (at_front front) rest ≡ read
     → IfSome told (λ t. next_front front (file_of file.no t) ≡ next_behind front.gate read)
@@ -127,7 +127,7 @@ next_told file window front rest (Some t) read spans sees held is reads =
     (sym (next_held front (end_of window - front.gate) (drop front.gate bytes) held)
     ∙ (ap (λ (l : List ℕ). next_front (at_front front) l) (sym (is ∙ rest_is file front.gate window bytes spans sees)) ∙ reads))
 
--- the place of damage in the file
+-- the offset of damage in the file
 pub damaged_told : (file : SizedFile) (window : Window) (front : FileFront) (rest : List ℕ) (told : Option Told) (at n : ℕ) → Spans file front.gate window → Sees file told window
     → IfSome told (λ t. LinkHeld (end_of window - front.gate) (drop front.gate (file_of file.no t))) → rest ≡ drop (front.gate - window.start) window.bytes.items → next_front (at_front front) rest ≡ Err at
     → n ≡ min (front.gate + at) (2 ^ 64 - 1) → IfSome told (λ t. next_front front (file_of file.no t) ≡ Err n)
@@ -182,7 +182,7 @@ goes_wrong view other (Damaged at) file window (Some t) counter first now sees l
     let size : file.size ≡ length (file_of file.no t) = sees.size in
     so_far ∙ walk_breaks (length (file_of file.no t)) counter at now (file_of file.no t) (omega arith) is
 
--- what a call later answered, of what was told before
+-- What a later call returned holds of the earlier model.
 pub wrong_before : {S : Type 0} (view : S → Option FileFront) (why : ReadRefused) (file : SizedFile) (old new : Option Told) (now : FileFront) → option_map (λ (t : Told). t.here) new ≡ option_map (λ (t : Told). t.here) old
     → IfSome new (λ t. IsAnswer view (Err why) (next_front now (file_of file.no t))) → IfSome old (λ t. IsAnswer view (Err why) (next_front now (file_of file.no t)))
 wrong_before view why file old new now same is = before (λ (l : Left). IsAnswer view (Err why) (next_front now (file_in file.no l))) old new same is

@@ -1,4 +1,4 @@
--- Calls that keep what the board tells of files, store and text.
+-- Calls that don't change the model of files, store and text.
 use Rattle.std.proofs.Common.{◌≡◌, ◌∙◌, ℕ, Option, None, Some, Result, Ok, Err, refl, sym, ap, subst, arith, inl, inr}
 use Rattle.std.specs.Prelude.{IfSome}
 use Rattle.std.specs.Option.{option_map}
@@ -50,17 +50,17 @@ keeps_then told_a a told_b b told_c c first second = record {
   ends = λ left now. first.ends left (second.ends left now);
 }
 
--- what holds of what is told still holds
+-- A property of the model before still holds.
 pub still : (P : Left → Type 0) (old new : Option Told) → option_map (λ (t : Told). t.here) new ≡ option_map (λ (t : Told). t.here) old → IfSome old (λ t. P t.here) → IfSome new (λ t. P t.here)
 still P old None same holds = tt
 still P None (Some u) same holds = absurd cc
 still P (Some t) (Some u) same holds = let here : u.here ≡ t.here = cc in subst P (sym here) holds
 
--- and what held before
+-- A property of the model after held before.
 pub before : (P : Left → Type 0) (old new : Option Told) → option_map (λ (t : Told). t.here) new ≡ option_map (λ (t : Told). t.here) old → IfSome new (λ t. P t.here) → IfSome old (λ t. P t.here)
 before P old new same holds = still P new old (sym same) holds
 
--- a stop still leaves just what is told
+-- A crash still leaves exactly what the model says.
 pub rests_still : (here : Left) (told_old : Option Told) (old : Clock) (told_new : Option Told) (new : Clock) → RestsHere here told_old old → KeepsTold told_old old told_new new → RestsHere here told_new new
 rests_still here told_old old None new rests keeps = absurd (nothing (keeps.here ∙ ap (λ (o : Option Told). option_map (λ (t : Told). t.here) o) rests.rests.is))
   where
@@ -75,7 +75,7 @@ rests_still here told_old old (Some u) new rests keeps =
       rests = record { is = refl; only = λ left now. rests.rests.only left (keeps.ends left now) ∙ sym same };
     }
 
--- both files are synced
+-- Both files are synced.
 pub both_synced : (t : Told) (told mid new : Option Told) (synced last : Clock) → told ≡ Some t → Steps (with_call (Sync Zero)) told mid → IfSome told (λ u. IsSynced Zero (file_of Zero u) synced) → Passes Same synced last
     → Steps (with_call (Sync One)) mid new → IfSome mid (λ u. IsSynced One (file_of One u) last)
     → StoreIsLeft new last → ((u : Told) (left : Left) → new ≡ Some u → LeftNow last left → left.out ≡ u.here.out) → RestsHere t.here new last

@@ -1,4 +1,4 @@
--- What a stop leaves, whatever happened to a journal.
+-- What a crash leaves, whatever happened to a journal.
 use Rattle.std.proofs.Common.{◌≡◌, ◌∙◌, ℕ, ◌≤◌, List, [], ◌∷◌, ◌++◌, length, Option, None, Some, Ok, refl, sym, ap, subst, arith, inl, inr}
 use Rattle.std.proofs.lemmas.List.Sums.{fold-append}
 use Rattle.board_core.specs.Clock.{Clock, LeftNow, Adds}
@@ -48,7 +48,7 @@ first_version file0 file1 front short0 short1 zero version one =
       short_one = short1;
     })) ∙ ap (λ (v : Version). Ok (account_by v front.account)) version
 
--- two files give one account
+-- Two files give at most one account.
 one_account : (a b : State) (left : Left) → Recovers a left → Recovers b left → a ≡ b
 one_account a b left of_a of_b = same_ok a b (sym of_a.is ∙ of_b.is)
 
@@ -64,7 +64,7 @@ continues_done account now life entries c = record { links = c.links ++ entries 
 continues_cut : (account now : State) (life : Life) (entries : List Entry) → Continues account life now → Continues account (cut life (an_append entries)) (account_after_all now entries)
 continues_cut account now life entries c = record { links = c.links ++ entries ∷ []; kept = inr (c.links, c.kept, refl); is = kept_is account now c.links entries c.is }
 
--- a call that was cut before it did anything
+-- A call was cut before it did anything.
 continues_without : (account now : State) (life : Life) (call : JournalCall) → Continues account life now → Continues account (cut life call) now
 continues_without account now life (an_append entries) c = record { links = c.links; kept = inl c.kept; is = c.is }
 continues_without account now life a_switch c = record { links = c.links; kept = c.kept; is = c.is }
@@ -73,9 +73,9 @@ continues_without account now life an_opening c = record { links = c.links; kept
 without : (account : State) (life : Life) (call : JournalCall) (left : Left) → RecoversBehind account life left → RecoversBehind account (cut life call) left
 without account life call left r = record { now = r.now; continues = continues_without account r.now life call r.continues; recovers = r.recovers }
 
--- ---- what holds of a board between calls
+-- ---- a board between calls
 
--- a journal is open there, and the files hold an account of this life
+-- A journal is open on the board, and the files contain an account of this life.
 record InForce (account : State) (life : Life) (standing : Standing) (told : Option Told) (clock : Clock) : Type 0 where
   pub now : State
   pub continues : Continues account life now
@@ -113,14 +113,14 @@ module _ {B : Type 0} (see : B → Seen) where
         subst (λ (s : Standing). InForce account life s (told site.board) (clock site.board)) (same_standing standing other (sym journal ∙ is)) f;
   }
 
-  -- started again over files of such an account
+  -- The machine was started again over files of such an account.
   holds_started : (account : State) (life : Life) (left : Left) (site : Site B) → RecoversBehind account life left → StartsOver see left site → Holds account life site
   holds_started account life left site behind starts = record {
     left = λ l now. subst (RecoversBehind account life) (sym (starts.rests.rests.only l now ∙ starts.rests.same)) behind;
     in_force = λ standing is. absurd (none_stands standing (sym starts.journal ∙ is));
   }
 
-  -- ---- a call at work
+  -- ---- a call in progress
 
   append_adds : (account : State) (life : Life) (entries : List Entry) (old : Site B) (new : B) → Holds account life old → Works see (an_append entries) old new
       → Adds (RecoversBehind account (cut life (an_append entries))) (clock old.board) (clock new)
@@ -133,7 +133,7 @@ module _ {B : Type 0} (see : B → Seen) where
         | inr with_link ↦ record { now = account_after_all f.now entries; continues = continues_cut account f.now life entries f.continues; recovers = with_link }
       ])
 
-  -- the account that a switch is called with is the one that the files hold
+  -- A switch is called with the account that the files contain.
   switch_before : (account : State) (life : Life) (old : Site B) (call : CallsSwitch see old) (f : InForce account life call.standing (told old.board) (clock old.board)) → Before call.standing call.account f.there (told old.board) (clock old.board)
   switch_before account life old call f =
       subst (λ (a : State). Before call.standing a f.there (told old.board) (clock old.board))
@@ -154,14 +154,14 @@ module _ {B : Type 0} (see : B → Seen) where
         recovers = (switch_leaves call.standing call.account f.there left (can made) before.at moment).recovers;
       })
 
-  -- what the board tells is among what a stop leaves
+  -- The board's model is among what a crash leaves.
   abbrev pub TellsLeft : Type 0
   TellsLeft = (board : B) (t : Told) → told board ≡ Some t → LeftNow (clock board) t.here
 
   abbrev pub Earlier : Type 0
   Earlier = (board : B) (s t : ℕ) (left : Left) → s ≤ t → (clock board).may_leave_since t left → (clock board).may_leave_since s left
 
-  -- where no file stands the account is the empty one
+  -- If no file is valid, the account is the empty account.
   formats_behind : (account : State) (life : Life) (here left : Left) → RecoversBehind account life here → FormatsFirst here left → RecoversBehind account life left
   formats_behind account life here left behind formats = record {
     now = behind.now;
@@ -190,7 +190,7 @@ module _ {B : Type 0} (see : B → Seen) where
         | inr behind ↦ behind
       ]
 
-  -- ---- a call that was answered
+  -- ---- a call that returned
 
   opening_answered : TellsLeft → (account : State) (life : Life) (now : State) (old new : Site B) → Holds account life old → OpensJournal see now old new → Continues account life now
   opening_answered tells account life now old new holds opens =
@@ -226,7 +226,7 @@ module _ {B : Type 0} (see : B → Seen) where
         before = opens.is.before;
       })
 
-  -- ---- a call that was cut, and a stop
+  -- ---- a call that was cut, and a crash
 
   holds_cut : TellsLeft → Earlier → (account : State) (life : Life) (call : JournalCall) (old new : Site B) → Holds account life old → IsCut see call old new → Holds account (cut life call) new
   holds_cut tells earlier account life call old new holds (board, works, inl (left, since, starts)) =

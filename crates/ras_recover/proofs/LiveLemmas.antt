@@ -1,4 +1,4 @@
--- What the clauses of one call of a journal say once it has answered Ok.
+-- What the clauses of one call of a journal say once it has returned Ok.
 use Rattle.std.proofs.Common.{◌≡◌, ◌≤◌, List, ℕ, Option, Some, Result, Ok, Err, subst}
 use Rattle.std.specs.Prelude.{IfOk, IfSome, OnOk, false}
 use Rattle.board_core.specs.Doing.{Does, GoesWell, IsMade, Seen}
@@ -33,7 +33,7 @@ switched see (Err why) standing next account old new does can moves follows = tt
 
 -- ---- an opening
 
--- what is told of an answer, if a board tells something, and what follows of it if it is Ok
+-- A property of the result over a modelled board, and what follows from it if the result is Ok.
 pub if-told : {T E X : Type 0} {Q R : T → Type 0} → (P : Result T E → X → Type 0) (result : Result T E) (told : Option X) → IfSome told (P result) → IfOk result Q
     → ((x : T) → IfSome told (P (Ok x)) → Q x → R x) → IfOk result R
 if-told P (Ok x) told p q follows = follows x p q

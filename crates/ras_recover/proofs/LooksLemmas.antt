@@ -23,7 +23,7 @@ use Rattle.ras_recover.proofs.KeepingLemmas.{keeps_call, keeps_failed, keeps_not
 
 -- ---- one call
 
--- a call that only reads was made, with this result
+-- A call that only reads was made, with this result.
 pub looks_call : {T E : Type 0} (call : DiskCall) (result : Result T E) (old new : Seen) → IsReading call → ActMade (asks call) result old new → Looks (one_end disk_call result) (λ t made. made ≡ call ∷ []) old new
 looks_call call (Ok x) old new reads made = record {
   keeps = keeps_call call old.told old.clock new.told new.clock made.told made.stops;
@@ -36,7 +36,7 @@ looks_call call (Err why) old new reads made = record {
   faults = record { later = made.cause.own.later; own = made.cause.own.failed; others = made.cause.others };
 }
 
--- nothing was called
+-- No call was made.
 pub looks_nothing : (Done : Told → List DiskCall → Type 0) (seen : Seen) → ((t : Told) → Done t []) → Looks went_well Done seen seen
 looks_nothing Done seen none = record {
   keeps = keeps_nothing seen.told seen.clock;
@@ -44,7 +44,7 @@ looks_nothing Done seen none = record {
   faults = refl;
 }
 
--- ---- the same calls, seen otherwise
+-- ---- the same calls with another property
 
 are_weaker : (ended : Ended) (P Q : List DiskCall → Type 0) (calls : List DiskCall) → IfWell ended (P calls → Q calls) → AreReads ended P calls → AreReads ended Q calls
 are_weaker went_well P Q calls weaker are = record { alone = are.alone; done = weaker are.done }
@@ -64,7 +64,7 @@ looks_weaker ended P Q old new weaker looks = record {
   faults = looks.faults;
 }
 
--- a refusal is no success
+-- A refusal isn't a success.
 pub if_read : (why : ReadRefused) (P : Type 0) → IfWell (read_refused_end why) P
 if_read Disk P = tt
 if_read (Damaged place) P = tt
@@ -82,7 +82,7 @@ read_refused why P Q old new looks = looks_weaker (read_refused_end why) P Q old
 pub open_refused : (why : OpenRefused) (P Q : Told → List DiskCall → Type 0) (old new : Seen) → Looks (open_refused_end why) P old new → Looks (open_refused_end why) Q old new
 open_refused why P Q old new looks = looks_weaker (open_refused_end why) P Q old new (if_opened why _) looks
 
--- a function gave up after calls that succeeded
+-- A function gave up after calls that succeeded.
 pub looks_given_up : (P Q : Told → List DiskCall → Type 0) (old new : Seen) → Looks went_well P old new → Looks gave_up Q old new
 looks_given_up P Q old new looks = record {
   keeps = looks.keeps;
@@ -91,17 +91,17 @@ looks_given_up P Q old new looks = record {
   faults = looks.faults;
 }
 
--- a function that makes no call gave up after calls that succeeded
+-- A function that makes no call gave up after calls that succeeded.
 pub front_refused : {A : Type 0} (why : ReadRefused) (read : Result A ℕ) (P Q : Told → List DiskCall → Type 0) (old new : Seen) → IsUnread why read → Looks went_well P old new → Looks (read_refused_end why) Q old new
 front_refused Disk read P Q old new is looks = absurd is
 front_refused (Damaged at) read P Q old new is looks = looks_given_up P Q old new looks
 front_refused NoMemory read P Q old new is looks = looks_given_up P Q old new looks
 
--- before any call
+-- A function gave up before any call.
 pub looks_none : (Done : Told → List DiskCall → Type 0) (seen : Seen) → Looks gave_up Done seen seen
 looks_none Done seen = looks_given_up (λ t calls. Unit {0}) Done seen seen (looks_nothing (λ t calls. Unit {0}) seen (λ t. tt))
 
--- and another function goes on from there
+-- After a function gave up, another function continues.
 pub looks_taken_up : (P Q : Told → List DiskCall → Type 0) (old new : Seen) → ((t : Told) (calls : List DiskCall) → Q t calls) → Looks gave_up P old new → Looks went_well Q old new
 looks_taken_up P Q old new all looks = record {
   keeps = looks.keeps;
@@ -110,14 +110,14 @@ looks_taken_up P Q old new all looks = record {
   faults = looks.faults;
 }
 
--- ---- calls that succeeded, and then others
+-- ---- calls that succeeded, and then other calls
 
 are_then : (ended : Ended) (P Q R : List DiskCall → Type 0) (xs ys : List DiskCall) → IfWell ended (P xs → Q ys → R (xs ++ ys)) → AreReads went_well P xs → AreReads ended Q ys → AreReads ended R (xs ++ ys)
 are_then went_well P Q R xs ys joins first second = record { alone = both_read_alone xs ys first.alone second.alone; done = joins first.done second.done }
 are_then (broke kind) P Q R xs ys joins first second = record { alone = both_read_alone xs ys first.alone second.alone; done = tt }
 are_then gave_up P Q R xs ys joins first second = record { alone = both_read_alone xs ys first.alone second.alone; done = tt }
 
--- The first ones leave what the board tells of the files.
+-- The first calls don't change the model of the files.
 abbrev pub Joins : (P Q R : Told → List DiskCall → Type 0) → Type 0
 Joins P Q R = (t u : Told) → u.here ≡ t.here → (xs ys : List DiskCall) → P t xs → Q u ys → R t (xs ++ ys)
 
@@ -147,7 +147,7 @@ open_then why P Q R a b c first second = looks_then (open_refused_end why) P Q R
 pub part_read : (file : FileNo) (place count : ℕ) (calls : List DiskCall) → calls ≡ ReadAt file place count ∷ [] → ReadsPart file place (place + count) calls
 part_read file place count calls is = λ at from before. subst (λ l. Any (ReadsPlace file at) l) (sym is) (0, ReadAt file place count, omega arith, refl, (refl, from, before))
 
--- a read from within what was buffered, up to where is buffered now
+-- A read that covers a range of the file covers each part of the range.
 pub part_more : (file : FileNo) (place last from end : ℕ) → place ≤ from → end ≤ last → (calls : List DiskCall) → ReadsPart file place last calls → ReadsPart file from end calls
 part_more file place last from end early within calls reads = λ at behind before. reads at (omega arith) (omega arith)
 
@@ -165,7 +165,7 @@ parts_joined file from mid end t u here xs ys first second = λ place behind bef
   | inr late ↦ any_right (ReadsPlace file place) xs ys (second place late before)
 ]
 
--- a part of a file was read, and then the next one
+-- A part of a file was read, and then the next part.
 pub looks_on : (ended : Ended) (file : FileNo) (from mid end : ℕ) (a b c : Seen) → Looks went_well (λ t. ReadsPart file from mid) a b → Looks ended (λ t. ReadsPart file mid end) b c → Looks ended (λ t. ReadsPart file from end) a c
 looks_on went_well file from mid end a b c first second = looks_then went_well (λ t. ReadsPart file from mid) (λ t. ReadsPart file mid end) (λ t. ReadsPart file from end) a b c (parts_joined file from mid end) first second
 looks_on (broke kind) file from mid end a b c first second = looks_then (broke kind) (λ t. ReadsPart file from mid) (λ t. ReadsPart file mid end) (λ t. ReadsPart file from end) a b c tt first second

@@ -29,7 +29,7 @@ pub after_reading : (made : List DiskCall) (t : Told) → after_acts (map calls 
 after_reading [] t = ap (λ (l : List DiskCall). record t { disk_calls = l }) (sym (append-nil t.disk_calls))
 after_reading (call ∷ made) t = after_reading made (with_call call t) ∙ with_more call made t
 
--- a beginning of them was made, and the next one or the last of them failed
+-- A beginning of the calls was made, and the next call or the last of them failed.
 pub reading_fails : (made rest : List DiskCall) (more : List Act) (t : Told) → 1 ≤ length (made ++ rest) → FailsActs disk_call (map calls (made ++ rest) ++ more) t (with_calls made t)
 reading_fails [] [] more t some = absurd (omega arith)
 reading_fails [] (call ∷ rest) more t some = inl (refl, inl (ap (λ (l : List DiskCall). record t { disk_calls = l }) (append-nil t.disk_calls)))
@@ -37,7 +37,7 @@ reading_fails (call ∷ []) rest more t some = inl (refl, inr refl)
 reading_fails (call ∷ next ∷ made) rest more t some =
     inr (subst (FailsActs disk_call (map calls (next ∷ made ++ rest) ++ more) (with_call call t)) (with_more call (next ∷ made) t) (reading_fails (next ∷ made) rest more (with_call call t) (omega arith)))
 
--- only the list of disk calls is told anew
+-- In the model only the list of disk calls changed.
 pub listed_alone : (t u : Told) (made : List DiskCall) → u.here.file0 ≡ t.here.file0 → u.here.file1 ≡ t.here.file1 → u.here.store ≡ t.here.store → u.here.out ≡ t.here.out → u.volatile ≡ t.volatile → u.accesses ≡ t.accesses
     → u.disk_calls ≡ t.disk_calls ++ made → u ≡ with_calls made t
 listed_alone t u made file0 file1 store out volatile accesses listed =
@@ -60,7 +60,7 @@ pub record FailsOpening (t u : Told) : Type 0 where
   pub are : AreOpeningActs t.here acts
   pub fails : FailsActs disk_call acts t u
 
--- While the files are read nothing tells a call that failed from one that went well.
+-- While the files are read, the model doesn't distinguish a failed call from one that succeeded.
 pub recovery_fails : (t u : Told) → AfterRecovery t u → FailsOpening t u
 recovery_fails t u after =
     let made : List DiskCall = after.calls.made in
@@ -89,7 +89,7 @@ formatting_fails t u formatting =
           (subst (λ (v : Told). FailsActs disk_call (opening_acts t.here) v u) (sym (after_reading formatting.recovery t)) formatting.fails);
     }
 
--- ---- what an opening leaves that wasn't answered Ok
+-- ---- what an opening leaves that didn't return Ok
 
 pub unopened_read : (Failed : Type 0) (a b : Option Told) → Relates AfterRecovery a b → Relates (LeavesUnopened Failed) a b
 unopened_read Failed a b after = relates_weaker AfterRecovery (LeavesUnopened Failed) (λ t u read. inl read) a b after

@@ -40,7 +40,7 @@ syncs = Sync Zero ∷ Sync One ∷ []
 
 -- ---- a recovery
 
--- the calls of a recovery that ended so
+-- the calls of a recovery that ended in this way
 pub record OfRecovery (ended : Ended) (here : Left) (calls : List DiskCall) : Type 0 where
   pub recovery : IsRecovery calls
   pub reads : IfWell ended (ReadsBoth here calls)
@@ -65,7 +65,7 @@ recovers {S} E done ended a b c first second =
     relates_then (Calls (λ l. l ≡ syncs)) (λ y. Calls (AreReads ended (ReadsBoth y.here)) y) (Recovers ended) (recovers_then ended) a b c
     (calls_seen (AreSyncs {E = E} (Ok done)) (λ l. l ≡ syncs) (λ xs are. are.done) a b first) second
 
--- ---- what is told after it
+-- ---- the model after a recovery
 
 recovery_told : (x y : Told) → Calls (IsBeginning IsRecovery) x y → AfterRecovery x y
 recovery_told x y calls = record {
@@ -101,7 +101,7 @@ reads_recovered (Err why) a b calls = tt
 
 -- ---- whole recoveries and openings of any files
 
--- each place of both files
+-- Reads of every offset of both files.
 abbrev pub reads_all : Left → List DiskCall
 reads_all here = ReadAt Zero 0 (length here.file0) ∷ ReadAt One 0 (length here.file1) ∷ []
 
@@ -118,7 +118,7 @@ reads_all_both here = record {
       any_right (ReadsPlace One place) (ReadAt Zero 0 (length here.file0) ∷ []) (ReadAt One 0 (length here.file1) ∷ []) (0, ReadAt One 0 (length here.file1), omega arith, refl, (refl, omega arith, omega arith)));
 }
 
--- a recovery goes on to one that reads all that counts
+-- Any recovery can be continued to one that reads all that decides the result.
 pub recovery_on : (here : Left) (calls : List DiskCall) → IsRecovery calls → IsRecoveryOf here (calls ++ reads_all here)
 recovery_on here calls is = record {
   recovery = record {
@@ -132,7 +132,7 @@ recovery_on here calls is = record {
 opening_of : (here : Left) (calls : List DiskCall) → IsRecoveryOf here calls → IsOpening here (calls ++ calls_of (opening_acts here))
 opening_of here calls is = record { recovery = calls; recovers = is; is = refl }
 
--- there is an opening of any files
+-- There is an opening of any two files.
 pub an_opening : (here : Left) → (calls : List DiskCall) × IsOpening here calls
 an_opening here = (_, opening_of here (syncs ++ reads_all here) (recovery_on here syncs (record { reading = []; is = refl; alone = All-nil IsReading })))
 
@@ -165,7 +165,7 @@ told_opened a b after = relates_weaker AfterRecovery AfterOpening opening_told a
 abbrev pub Reads : Told → Told → Type 0
 Reads old new = Calls (IsRecoveryOf old.here) old new
 
--- if a file stands, an opening is a recovery
+-- If a file is valid, an opening is a recovery.
 pub opens_standing : (standing : Standing) (a b : Option Told) → IfSome a (λ t. position_of t.here.file0 t.here.file1 ≡ Some standing) → Relates Reads a b → Relates MakesOpening a b
 opens_standing standing a b stands reads =
     relates_weaker (λ x y. (position_of x.here.file0 x.here.file1 ≡ Some standing) × Reads x y) MakesOpening
@@ -177,7 +177,7 @@ opens_standing standing a b stands reads =
 
 -- ---- an opening that formats
 
--- nothing stands, and it is known whether file 0 is shut
+-- No file is valid, and this says whether file 0 is shut.
 abbrev pub Formats : State → Bool → Left → Type 0
 Formats account shut here = HoldsNone account here × (shut ≡ is_shut here.file0)
 
@@ -246,9 +246,9 @@ refusal_cause T see acts TooLong f a b is same = no_faults f (see b).faults tt (
 refusal_cause T see acts (Damaged file place) f a b is same = no_faults f (see b).faults tt (ap (λ x. (see x).faults) same ∙ is)
 refusal_cause T see acts NoMemory f a b is same = no_faults f (see b).faults tt (ap (λ x. (see x).faults) same ∙ is)
 
--- ---- what was called
+-- ---- the calls of an opening
 
--- an opening that was answered `Ok` made the calls of a whole one
+-- An opening that returned `Ok` made the calls of a whole opening.
 pub opens_calls : (x y : Told) → MakesOpening x y → Makes (IsOpening x.here) x y
 opens_calls x y opens = record {
   made = opens.recovery ++ calls_of (opening_acts x.here);
@@ -264,24 +264,24 @@ recovers_alone : (here : Left) (calls : List DiskCall) → opening_acts here ≡
 recovers_alone here calls none opening =
     subst (IsRecoveryOf here) (sym (opening.is ∙ (ap (λ (acts : List Act). opening.recovery ++ calls_of acts) none ∙ append-nil opening.recovery))) opening.recovers
 
--- if a file stands these are those of a recovery
+-- If a file is valid, the calls of an opening are the calls of a recovery.
 pub standing_recovers : (standing : Standing) (here : Left) (calls : List DiskCall) → position_of here.file0 here.file1 ≡ Some standing → IsOpening here calls → IsRecoveryOf here calls
 standing_recovers standing here calls stands opening = recovers_alone here calls (no_acts here standing stands) opening
 
--- ---- where the files are refused, nothing is written
+-- ---- if the files are rejected, nothing is written
 
--- the files are as they were
+-- The files are unchanged.
 pub refused_keeps : (why : Refusal) (x y : Told) → recovered x.here.file0 x.here.file1 ≡ Err why → AfterOpening x y → y.here.file0 ≡ x.here.file0
 refused_keeps why x y refused after = elim after.file0 [ inl same ↦ same | inr none ↦ absurd (no_account (sym refused ∙ none.recovers)) ]
   where
     no_account : ◌≡◌ {A = Result State Refusal} (Err why) (Ok (account_of empty)) → ⊥
     no_account e = cc
 
--- and the opening is a recovery alone, which writes to no file
+-- The opening is only a recovery, which writes to no file.
 pub refused_recovers : (why : Refusal) (here : Left) (calls : List DiskCall) → recovered here.file0 here.file1 ≡ Err why → IsOpening here calls → IsRecovery calls
 refused_recovers why here calls refused opening = (recovers_alone here calls (refused_acts here why refused) opening).recovery
 
--- ---- what is read of a journal that stands
+-- ---- what is read of a journal whose files are valid
 
 reads_in : (file : FileNo) (here : Left) (calls : List DiskCall) → ReadsBoth here calls → ReadsStanding file (file_in file here) calls
 reads_in Zero here calls reads = reads.zero

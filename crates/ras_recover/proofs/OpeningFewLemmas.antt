@@ -1,4 +1,4 @@
--- How many links the files of a journal have while it is opened, and once it is open.
+-- How many links the files of a journal have while the journal is opened, and once it is open.
 use Rattle.std.proofs.Common.{◌≡◌, length, Option, None, Some, Result, Ok, Err, refl, sym, ap, subst, arith, inl, inr}
 use Rattle.board_core.specs.declared.board.FileNo.TheVariants.{Zero}
 use Rattle.board_core.specs.Clock.{Adds, Always, Clock, LeftNow}
@@ -26,7 +26,7 @@ pub opening_few : (clock : Clock) (here left : Left) → Always clock clock.now 
 opening_few clock here left few (inl now) = few left now
 opening_few clock here left few (inr formats) = formats.few
 
--- what holds of all that a stop may leave at first, and of all that the calls add
+-- All crash images at first have few links, and so do all that the calls add.
 always_few : (P : Left → Type 0) (old new : Clock) → ((left : Left) → P left → HasFewLinks left) → Always old old.now HasFewLinks → Adds P old new → Always new old.now HasFewLinks
 always_few P old new each few adds left since = elim (adds.each old.now left (omega arith) since) [ inl before ↦ few left before | inr then ↦ each left then ]
 
@@ -36,7 +36,7 @@ openings_few old new here few adds = always_few (Opening old here) old new (λ l
 pub recovery_few : (told_old told_new : Option Told) (old new : Clock) → Always old old.now HasFewLinks → KeepsTold told_old old told_new new → Always new old.now HasFewLinks
 recovery_few told_old told_new old new few keeps = always_few (LeftNow old) old new few few keeps.stops
 
--- the empty account has a checkpoint
+-- The empty account has a checkpoint.
 empty_is : IsCheckpoint Two (account_of empty) (checkpoint_bytes Two (account_of empty))
 empty_is = record { account = empty-sound; told = tt; module_count = omega arith; page_count = omega arith; spelled = refl }
 
@@ -44,7 +44,7 @@ empty_begins : CanBegin None Two 1 (checkpoint_bytes Two (account_of empty)) (ac
 empty_begins =
     begins (account_of empty) (checkpoint_bytes Two (account_of empty)) (record { room = (let long : length (checkpoint_bytes Two (account_of empty)) ≡ 72 = empty_length in omega arith); is = empty_is })
 
--- what an opening writes is written where nothing stands
+-- An opening writes only if no file is valid.
 nothing_held : (here : Left) → journal_of here.file0 here.file1 ≡ Ok None → HoldsNone (account_of empty) here
 unfolding recovered position_of
 nothing_held here nothing = record {
@@ -60,7 +60,7 @@ opening_leaves t left moment = by (journal_of t.here.file0 t.here.file1) refl mo
     by (Ok (Some journal)) is never = absurd never
     by (Err why) is never = absurd never
 
--- and once that is done the files have few links
+-- Once the formatting is done the files have few links.
 acts_few : (t : Told) → HasFewLinks t.here → (journal : Result (Option JournalFile) Refusal) → HasFewLinks (after_acts (acts_behind t.here journal) t).here
 acts_few t few (Ok None) =
     let bytes = behind_gate 1 (checkpoint_bytes Two (account_of empty)) in

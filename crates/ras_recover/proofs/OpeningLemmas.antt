@@ -1,4 +1,4 @@
--- What a stop leaves while file 0 is formatted, where no file stands.
+-- What a crash leaves while file 0 is formatted, because no file is valid.
 use Rattle.std.proofs.Common.{◌≡◌, ◌∙◌, ℕ, ◌+◌, ◌-◌, ◌≤◌, ◌⊎◌, ◌^◌, min, List, [], ◌∷◌, ◌++◌, length, length-append, Option, None, Some, Result, Ok, Err, refl, sym, ap, subst, arith, inl, inr}
 use Rattle.std.specs.Prelude.{Bool, true, false, if◌then◌else◌, nat_lt, IfSome, unwrap_or}
 use Rattle.std.specs.Option.{option_map}
@@ -36,7 +36,7 @@ use Rattle.ras_recover.proofs.FewLemmas.{formatting_few}
 use Rattle.ras_recover.proofs.KeepingLemmas.{still}
 use Rattle.ras_recover.proofs.FormattingLemmas.{formatted, formatted_reads, formatted_short, formatted_told, formatting_reads, formatting_short, moment_formats}
 
--- a file of which nothing counts doesn't stand
+-- A file without a front isn't valid.
 not_standing : (taken : Option ℕ) (file : List ℕ) → front_of taken file ≡ Ok None → has_open_gate file ≡ false
 unfolding front_of
 not_standing taken file e = by (has_open_gate file) refl e
@@ -134,7 +134,7 @@ bytes_length account =
     let n = u64_bytes (length c) in
     omega (arith, length-u64_bytes 1, length-u64_bytes (length c), length-append g (n ++ c), length-append n c, length-append (g ++ (n ++ c)) (0 ∷ []))
 
--- the acts of the formatting, for a file that is known to be shut or not
+-- the acts of the formatting, given whether the file is shut
 abbrev pub first_acts : Bool → State → List Act
 first_acts shut account = formatting_acts Zero shut (behind_gate 1 (checkpoint_bytes Two account))
 
@@ -216,7 +216,7 @@ pub zero_is_shut : (one two : Bool) (told : Option Told) → IfSome told (λ t. 
 zero_is_shut one two None is = tt
 zero_is_shut one two (Some t) is = is.0
 
--- what format_first gives, after a recovery that found nothing
+-- What format_first returns after a recovery that found no valid file.
 module _ {X : Type 0} (see : X → Seen) (account : State) (one two : Bool) (old a b : X) (t : Told) (told : (see old).told ≡ Some t) (holds : Holds account (see old).told) (none : HasPosition None (see old).told)
     (shut : IfSome (see old).told (λ u. (one ≡ is_shut u.here.file0) × (two ≡ is_shut u.here.file1))) (r : RestsHere t.here (see a).told (see a).clock) where
   there_none : HoldsNone account r.there.here
@@ -249,7 +249,7 @@ module _ {X : Type 0} (see : X → Seen) (account : State) (one two : Bool) (old
   pub opening_opens : IsCheckpoint Two account (checkpoint_bytes Two account) → GoesWell (first_acts one account) (see a) (see b) → IsOpened (standing_begun account two) account (see b).told (see b).clock
   opening_opens is does = first_opened account one two r.there (see b).told (see b).clock there_none is there_shut.0 there_shut.1 (does.rests r.there r.rests)
 
--- ---- files that are refused
+-- ---- files that are rejected
 
 pub on_refusal : (why : OpenRefused) (P : Type 0) → UnlessDisk {T = Unit {0}} (Err why) P → OnRefusal why P
 on_refusal opening.Disk P holds = tt
@@ -257,7 +257,7 @@ on_refusal opening.TooLong P holds = holds
 on_refusal (opening.Damaged file place) P holds = holds
 on_refusal opening.NoMemory P holds = tt
 
--- where no file stands none is refused
+-- If no file is valid, the files aren't rejected.
 pub refuses_any : (why : OpenRefused) (told : Option Told) → ((held : Result State Refusal) → RefusesHeld why held) → IfSome told (λ t. RefusesHeld why (recovered t.here.file0 t.here.file1))
 refuses_any why None refuses = tt
 refuses_any why (Some t) refuses = refuses (recovered t.here.file0 t.here.file1)
@@ -271,7 +271,7 @@ not_refused (opening.Damaged file place) P refuses =
     absurd cc
 not_refused opening.NoMemory P refuses = tt
 
--- ---- where the journal stands then
+-- ---- the journal's position afterwards
 
 pub holds_nothing : (account : State) (told : Option Told) → Holds account told → HasPosition None told → IfSome told (λ t. HoldsNone (account_of empty) t.here)
 holds_nothing account None holds none = tt
@@ -291,7 +291,7 @@ stands_first account one two (Some t) holds none is =
     first_of_empty account t.here.file1 two (none_of account t.here holds none).account_is is.1
     ∙ sym (ap (λ (o : Option Standing). unwrap_or o (first_standing t.here.file1)) none)
 
--- ---- what is written then
+-- ---- what is written afterwards
 
 nothing_stands : (account : State) (here : Left) → recovered here.file0 here.file1 ≡ Ok account → position_of here.file0 here.file1 ≡ None → journal_of here.file0 here.file1 ≡ Ok None
 unfolding recovered position_of
@@ -303,14 +303,14 @@ nothing_stands account here is none =
     by (Some journal) e none = absurd cc
     by None e none = e
 
--- if nothing stands, file 0 is formatted with the empty account
+-- If no file is valid, file 0 is formatted with the empty account.
 pub acts_are : (account : State) (here : Left) (shut : Bool) → HoldsNone account here → shut ≡ is_shut here.file0 → first_acts shut account ≡ opening_acts here
 acts_are account here shut holds is =
     ap (λ (s : Bool). first_acts s account) is
     ∙ (ap (λ (a : State). first_acts (is_shut here.file0) a) (none_of account here holds.recovers holds.none).account_is
     ∙ sym (ap (acts_behind here) (nothing_stands account here holds.recovers holds.none)))
 
--- and if a file stands, nothing is written
+-- If a file is valid, nothing is written.
 pub no_acts : (here : Left) (standing : Standing) → position_of here.file0 here.file1 ≡ Some standing → opening_acts here ≡ []
 unfolding position_of
 no_acts here standing is = by (journal_of here.file0 here.file1) is
@@ -320,7 +320,7 @@ no_acts here standing is = by (journal_of here.file0 here.file1) is
     by (Ok (Some journal)) is = refl
     by (Err why) is = refl
 
--- nor if the files are refused
+-- If the files are rejected, nothing is written.
 pub refused_acts : (here : Left) (why : Refusal) → recovered here.file0 here.file1 ≡ Err why → opening_acts here ≡ []
 unfolding recovered
 refused_acts here why is = by (journal_of here.file0 here.file1) is

@@ -1,4 +1,4 @@
--- What two files hold together, where each was read.
+-- What two files contain together, each read separately.
 use Rattle.std.proofs.Common.{◌≡◌, ◌∙◌, ℕ, ◌≤◌, List, length, Option, None, Some, Result, Ok, Err, refl, sym, ap, subst, arith}
 use Rattle.std.specs.Prelude.{false, IfSome, ◌<◌}
 use Rattle.std.specs.Option.{option_map}
@@ -15,7 +15,7 @@ use Rattle.ras_recover.specs.declared.refused.OpenRefused.{OpenRefused}
 use Rattle.ras_recover.specs.declared.refused.OpenRefused.TheVariants.{Disk, TooLong, Damaged, NoMemory}
 use Rattle.ras_recover.specs.Recovering.{RefusesHeld}
 
--- a refusal stays one
+-- A refusal of a part is a refusal of the whole.
 refuses_on : {A B : Type 0} (refused : OpenRefused) (held : Result A Refusal) (f : A → Result B Refusal) → RefusesHeld refused held → RefusesHeld refused (held >>= f)
 refuses_on Disk held f refuses = tt
 refuses_on TooLong held f refuses = bind_err held f _ refuses
@@ -51,7 +51,7 @@ both_read file0 file1 zero one taken short0 short1 e0 same e1 =
     journal_is file0 file1 short0 short1
     ∙ (bind_of (in_file Zero (front_of None file0)) _ zero e0 ∙ bind_of (in_file One (front_of (generation_in zero) file1)) _ one (ap (λ (t : Option ℕ). in_file One (front_of t file1)) (sym same) ∙ e1))
 
--- ---- the account, and where the journal stands
+-- ---- the account, and the journal's position
 
 pub recovers_fails : (refused : OpenRefused) (file0 file1 : List ℕ) → RefusesHeld refused (journal_of file0 file1) → RefusesHeld refused (recovered file0 file1)
 unfolding recovered

@@ -28,7 +28,7 @@ use Rattle.ras_recover.specs.declared.place.ReadRefused.{ReadRefused}
 use Rattle.ras_recover.specs.declared.place.ReadRefused.TheVariants.{Disk, Damaged, NoMemory}
 use Rattle.ras_recover.specs.Steps.Reading.{IsDamage, IsUnread}
 
--- no field was read that is damaged
+-- A field that was read isn't damaged.
 pub no_damage : {A : Type 0} (why : ReadRefused) (read : Result A ℕ) (x : A) → IsDamage why read → read ≡ Ok x → ⊥
 no_damage Disk read x is same = is
 no_damage (Damaged at) read x is same = not_both x at (sym same ∙ is)
@@ -76,7 +76,7 @@ count_read gate count file e =
     let is : number_at 0 4 (take 4 (drop (gate + 1) file)) ≡ count = cc in
     sym (number_at-take 4 0 4 (drop (gate + 1) file) (omega arith)) ∙ is
 
--- the payload of the link behind a gate, where the file isn't cut before its end
+-- The payload of the link after a gate, if the file's end doesn't cut it.
 payload_read : (gate count : ℕ) (file bytes : List ℕ) → field (number_of 4) (gate + 1) 4 file ≡ Ok count → gate + 5 + count ≤ length file → part (gate + 5) count file ≡ Some bytes → payload_in (drop (gate + 1) file) ≡ bytes
 payload_read gate count file bytes e within is =
     let five : gate + 1 + 4 ≡ gate + 5 = omega arith in
@@ -112,7 +112,7 @@ payload_bad version gate count file bytes fits e within is bad =
 within_test : (account : State) → IsWithin account → are_past (numbers_of account) ≡ false
 within_test account within = let names = within.names in let entries = within.entries in let total = within.total in grind (arith, nat_tests)
 
--- those that are left, and how the account goes on from them
+-- The entries that are left, and the account once they are counted too.
 pub record Counting (start : State) (all left : List Entry) (number : ℕ) (account : View) : Type 0 where
   pub count : number ≡ length left
   pub valid : AllByRecursion IsValidEntry left
@@ -195,7 +195,7 @@ pub link_past : (front : FileFront) (file : List ℕ) (count : ℕ) (entries : L
     → stays_within front.account entries ≡ false → front_behind_link front file ≡ Err (front.gate + 5)
 link_past front file count entries size e stays = bind_of _ _ _ size ∙ bind_err _ _ (front.gate + 5) (counted_field front.version front.account (front.gate + 5) count file entries false e stays)
 
--- ---- a refusal is passed on
+-- ---- a refusal is returned to the caller
 
 pub count_refused : (why : ReadRefused) (front : FileFront) (file : List ℕ) → IsDamage why (field (number_of 4) (front.gate + 1) 4 file) → IsUnread why (front_behind_link front file)
 count_refused Disk front file is = absurd is
@@ -261,7 +261,7 @@ pub walk_over : (length i : ℕ) (front : FileFront) (file : List ℕ) → lengt
 unfolding whole_front
 walk_over length i front file over = let none : length - i ≡ 0 = omega arith in ap (λ (n : ℕ). whole_front n front file) none
 
--- all of a file from a place on
+-- all bytes of a file from an offset on
 pub rest_of : (n : ℕ) (file : List ℕ) → take (length file - n) (drop n file) ≡ drop n file
 rest_of n file = take_all (length file - n) (drop n file) (omega (arith, length-drop n file))
 

@@ -174,12 +174,12 @@ file_unbegun other Disk taken file (Some t) broken = tt
 file_unbegun other NoMemory taken file (Some t) broken = tt
 file_unbegun other (Damaged at) taken file (Some t) broken = file_broken taken (file_of file.no t) at broken.0 broken.1
 
--- of what was told before
+-- Results that hold of a later model hold of the earlier one.
 pub walks_before : {S : Type 0} (view : S → FileFront) (result : Result S ReadRefused) (file : SizedFile) (first : FileFront) (old new : Option Told) → option_map (λ (t : Told). t.here) new ≡ option_map (λ (t : Told). t.here) old
     → IfSome new (λ t. IsAnswer view result (whole_front (length (file_of file.no t)) first (file_of file.no t))) → IfSome old (λ t. IsAnswer view result (whole_front (length (file_of file.no t)) first (file_of file.no t)))
 walks_before view result file first old new same is = before (λ (l : Left). IsAnswer view result (whole_front (length (file_in file.no l)) first (file_in file.no l))) old new same is
 
--- ---- the gate doesn't depend on the generation that the other file has taken
+-- ---- the gate doesn't depend on the generation of the other file
 
 generation_is : (taken : Option ℕ) (bytes : List ℕ) (n : ℕ) → field (generation_of taken) 9 8 bytes ≡ Ok n → n ≡ number_at 0 8 (take 8 (drop 9 bytes))
 generation_is taken bytes n e = by (is_generation taken (number_at 0 8 (take 8 (drop 9 bytes)))) (field_made (generation_of taken) 9 8 bytes n e)
@@ -211,7 +211,7 @@ gate_alike taken other bytes one two e d =
 
 -- ---- all of a file was read
 
--- where a file stands, its closed gate lies before this place
+-- If a file is valid, its closed gate lies before this offset.
 abbrev pub GateBefore : FileNo → ℕ → Told → Type 0
 GateBefore file end t = (taken : Option ℕ) (front : FileFront) → front_of taken (file_of file t) ≡ Ok (Some front) → front.gate < end
 

@@ -1,4 +1,4 @@
--- What a stop leaves while the journal is switched, and where the journal stands once it is.
+-- What a crash leaves while the journal is switched, and the journal's position afterwards.
 use Rattle.std.proofs.Common.{◌≡◌, ◌∙◌, ℕ, ◌+◌, ◌≤◌, ◌<◌, ◌⊎◌, List, [], ◌∷◌, ◌++◌, length, Option, None, Some, Ok, Err, refl, sym, ap, subst, arith, inl, inr, length-append}
 use Rattle.std.specs.Prelude.{Bool, true, false, nat_lt, if◌then◌else◌}
 use Rattle.std.proofs.lemmas.Bool.Decides.{nat_tests}
@@ -57,7 +57,7 @@ as_zero (Some zero) (Some one) front e = which (nat_lt zero.generation one.gener
     which true e = absurd (one_is_zero one front e)
     which false e = same_zero zero front e
 
--- the journal that counts, where the other file is read as before
+-- The current file is unchanged, if the other file is read as before.
 other_as_before : (file : FileNo) (left : Left) (front : FileFront) → journal_of left.file0 left.file1 ≡ Ok (Some (record { file = file; front = front })) → (bytes : List ℕ) → length bytes ≤ LONGEST_FILE
     → front_of (taken_for_other file front) bytes ≡ front_of (taken_for_other file front) (file_in (other file) left)
     → journal_of (with_file_in (other file) bytes left).file0 (with_file_in (other file) bytes left).file1 ≡ Ok (Some (record { file = file; front = front }))
@@ -149,7 +149,7 @@ bytes_length standing account =
     let n = u64_bytes (length c) in
     omega (arith, length-u64_bytes (standing.generation + 1), length-u64_bytes (length c), length-append g (n ++ c), length-append n c, length-append (g ++ (n ++ c)) (0 ∷ []))
 
--- ---- at every moment
+-- ---- at any point
 
 new_counts : (file : FileNo) (front next : FileFront) → front.generation < next.generation → greater_with file front (Some next) ≡ Some (record { file = other file; front = next })
 new_counts Zero front next less = let test : nat_lt front.generation next.generation ≡ true = grind (arith, nat_tests) in rw test refl
@@ -162,7 +162,7 @@ old_counts One front = refl
 is_apart : (standing : Standing) (account : State) (front : FileFront) → front.generation ≡ standing.generation → is_taken (generation_in (Some (begun_front Two (standing.generation + 1) (checkpoint_bytes Two account) account))) front.generation ≡ false
 is_apart standing account front is = grind (arith, nat_tests)
 
--- the other file stands with the new generation, and counts
+-- The other file is valid with the new generation, and is the current file.
 next_counts : (standing : Standing) (account : State) (here : Left) (r : Ready standing account here) (bytes : List ℕ) → length bytes ≤ LONGEST_FILE
     → front_of (taken_for_other standing.file r.front) bytes ≡ Ok (Some (begun_front Two (standing.generation + 1) (checkpoint_bytes Two account) account))
     → journal_of (with_file_in (other standing.file) bytes here).file0 (with_file_in (other standing.file) bytes here).file1
@@ -201,7 +201,7 @@ switching_moment standing account here left r room by =
       rest = by.rest ∙ ap (λ (l : List ℕ). with_file_in file l here) bytes_are;
     }
 
--- ---- once it is switched
+-- ---- after the switch
 
 pub switched_told : (standing : Standing) (account : State) (t : Told)
     → (after_switch standing account t).here ≡ with_file_in (other standing.file) (formatted standing.shut (next_bytes standing account) (file_in (other standing.file) t.here)) t.here
@@ -229,7 +229,7 @@ at_switched standing account here r room =
     (ap (λ (shut : Bool). record { file = file; version = Two; generation = standing.generation + 1; length = 25 + length (checkpoint_bytes Two account); links = 0; shut = shut }) not_shut)
     refl
 
--- ---- what a switch comes to
+-- ---- what a switch leads to
 
 pub switch_leaves : (standing : Standing) (account : State) (t : Told) (left : Left) → CanSwitch standing account → IsAt standing account t.here → Moment (switch_acts standing account) t left → Switching standing account t.here left
 switch_leaves standing account t left can at moment =
@@ -242,7 +242,7 @@ switch_ends standing account t can at =
 
 -- ---- for the function
 
--- the file, whether it is shut, and the bytes that are written there are those of the switch
+-- The file, whether it is shut, and the bytes written to it are those of the switch.
 pub record IsSwitch (standing : Standing) (account : State) (file : FileNo) (shut : Bool) (bytes : List ℕ) : Type 0 where
   pub file_is : file ≡ other standing.file
   pub shut_is : shut ≡ standing.shut
@@ -259,7 +259,7 @@ can_switch standing next account is generation fits checkpoint =
     let long : next.length ≡ 25 + length (checkpoint_bytes Two account) = ap (λ (s : Standing). s.length) is in
     record { generation = generation; room = omega arith; is = checkpoint }
 
--- The other file wasn't written for want of room or of memory.
+-- The other file wasn't written, because there was no room or no memory.
 pub full_as : (S T : Type 0) (why : SwitchRefused) (lacks : Bool) → IsFullBy {T = S} (Err why) lacks → IsFullBy {T = T} (Err why) lacks
 full_as S T Full lacks full = full
 full_as S T Disk lacks full = full

@@ -1,4 +1,4 @@
--- That both files are synced before anything else, and what a crash leaves from then on.
+-- Both files are synced before anything else, and what a crash leaves from then on.
 use Rattle.std.proofs.Common.{◌≡◌, ◌∙◌, ap, subst, inl, inr, List, Option, None, Some, Result, Ok, Err, IsSomeAnd}
 use Rattle.board_core.specs.Clock.{Adds, Clock, LeftNow, Rests}
 use Rattle.board_core.specs.Doing.{Seen}
@@ -24,7 +24,7 @@ synced_rests T E x t told new clock is rests calls = record {
     by None never = absurd never
     by (Some u) calls = ap Some (calls.is ∙ ap (λ (made : List DiskCall). with_calls made t) calls.are.done)
 
--- or if one failed
+-- What was called if a sync failed.
 pub synced_at_most : (T E : Type 0) (result : Result T E) (t : Told) (told new : Option Told) → told ≡ Some t → Relates (Calls (AreSyncs result)) told new → IsSomeAnd new (Calls (λ made. IsPrefixOf made both_syncs) t)
 synced_at_most T E result t told new is calls = by new (subst (λ (o : Option Told). Relates (Calls (AreSyncs result)) o new) is calls)
   where
@@ -37,7 +37,7 @@ module _ {X : Type 0} (see : X → Seen) (t : Told) (old : X) where
   on_result P (Ok x) new synced = synced
   on_result P (Err why) new synced = inl synced
 
-  -- the files were read after that
+  -- The files were read after the syncs.
   pub syncs_read : {T E : Type 0} (result : Result T E) (mid new : X) → Rests (with_calls both_syncs t) (see mid).told (see mid).clock
       → KeepsTold (see old).told (see old).clock (see mid).told (see mid).clock
       → KeepsTold (see mid).told (see mid).clock (see new).told (see new).clock → SyncsBy see (Same t.here) t result old new
@@ -48,7 +48,7 @@ module _ {X : Type 0} (see : X → Seen) (t : Told) (old : X) where
     since = adds_weaker (LeftNow (see mid).clock) (Same t.here) (see mid).clock (see new).clock second.stops rests.only;
   })
 
-  -- an opening goes on as a recovery ends
+  -- An opening without formatting continues as a recovery.
   pub opening_synced : (new : X) → SyncsFirst see (Same t.here) t old new → SyncsFirst see (OpeningSynced t.here) t old new
   opening_synced new s = record {
     synced = s.synced;

@@ -1,4 +1,4 @@
--- A file's fields, read from a piece of it that suffices.
+-- The fields of a file, read from a large enough piece of it.
 use Rattle.std.proofs.Common.{◌≡◌, ◌∙◌, ℕ, ◌+◌, ◌-◌, ◌≤◌, ◌<◌, min, List, length, take, drop, Option, None, Some, Result, Ok, Err, refl, sym, ap, subst, arith, inl, inr}
 use Rattle.std.specs.Prelude.{Bool, true, false, if◌then◌else◌, slice_index}
 use Rattle.std.specs.Option.{option_and_then}
@@ -29,7 +29,7 @@ bind_same : {A B E : Type 0} (r s : Result A E) (f g : A → Result B E) → r �
 bind_same {A} {B} {E} r (Ok x) f g same each = ap (λ (q : Result A E). q >>= f) same ∙ each x refl
 bind_same {A} {B} {E} r (Err why) f g same each = ap (λ (q : Result A E). q >>= f) same
 
--- the first bytes of a file that aren't more than so many
+-- A field near the file's start is in the piece.
 pub early : (most count held : ℕ) (bytes : List ℕ) → count ≤ most → min most (length bytes) ≤ held → IsHeld count held bytes
 early most count held bytes few enough = elim (cases_lt (length bytes) count) [ inl cut ↦ inr cut | inr within ↦ inl (omega arith) ]
 
@@ -78,7 +78,7 @@ next_held front held bytes is = bind_same _ _ _ _ (field_piece is_open_of 0 1 he
         bind_same _ _ _ _ (field_piece (entries_by front.version front.account) 5 count held bytes (is.payload count open_is count_is)) (λ entries entries_is. refl)))
         (λ next next_is. refl)
 
--- ---- a file from a place on
+-- ---- a file from an offset on
 
 abbrev pub err_behind : {A : Type 0} → ℕ → Result A ℕ → Result A ℕ
 err_behind before (Ok x) = Ok x
@@ -142,7 +142,7 @@ next_from front bytes within = bind_next front.gate _ _ _ _ (field_behind is_ope
     by_gate false = refl
     by_gate true = some_behind front.gate (front_behind_link front bytes) (front_behind_link (at_front front) (drop front.gate bytes)) (link_behind front bytes within)
 
--- ---- the place of damage isn't far behind the gate
+-- ---- the damage's offset isn't far after the gate
 
 field_err : {A : Type 0} (make : List ℕ → Option A) (place count at : ℕ) (bytes : List ℕ) → field make place count bytes ≡ Err at → at ≡ place
 unfolding field

@@ -13,7 +13,7 @@ IsReading (ReadAt file place count) = Unit {0}
 IsReading (WriteAt file place count) = ⊥
 IsReading (Sync file) = ⊥
 
--- a read covers this offset of a file
+-- A read covers this offset of a file.
 abbrev pub ReadsPlace : FileNo → ℕ → DiskCall → Type 0
 ReadsPlace file place (Size other) = ⊥
 ReadsPlace file place (ReadAt other from count) = (other ≡ file) × (from ≤ place) × (place < from + count)
@@ -36,7 +36,7 @@ pub record Makes (Are : List DiskCall → Type 0) (old new : Told) : Type 0 wher
   pub listed : new.disk_calls ≡ old.disk_calls ++ made
   pub are : Are made
 
--- these calls are a beginning of calls of this kind, possibly none or all of them
+-- These calls are a beginning of calls of this kind, possibly none or all of them.
 pub record IsBeginning (Are : List DiskCall → Type 0) (calls : List DiskCall) : Type 0 where
   pub whole : List DiskCall
   pub are : Are whole

@@ -13,8 +13,8 @@ use Rattle.entry_format.specs.declared.version.Version.TheVariants.{Two}
 use Rattle.ras_journal.specs.declared.limits.TheConstants.{OPEN_GATE, CLOSED_GATE}
 use Rattle.ras_journal.specs.Laws.{magic}
 
--- what is written after the gate at the front: the magic of version 2, the generation, the number
--- of the checkpoint's bytes, the checkpoint, and a closed gate
+-- the bytes after the gate at the front: the magic of version 2, the generation, the number of the checkpoint's bytes,
+-- the checkpoint, and a closed gate
 abbrev pub behind_gate : ℕ → List ℕ → List ℕ
 behind_gate generation checkpoint =
     (magic Two ++ (u64_bytes generation ++ (u64_bytes (length checkpoint) ++ checkpoint))) ++ CLOSED_GATE ∷ []
@@ -28,6 +28,6 @@ abbrev pub formatting_acts : FileNo → Bool → List ℕ → List Act
 formatting_acts file shut bytes =
     closing_acts file shut ++ (through file 1 bytes ∷ through file 0 (OPEN_GATE ∷ []) ∷ [])
 
--- what the model says after the formatting
+-- the model after the formatting
 abbrev pub after_formatting : FileNo → Bool → List ℕ → Told → Told
 after_formatting file shut bytes t = after_acts (formatting_acts file shut bytes) t

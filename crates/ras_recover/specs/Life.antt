@@ -16,15 +16,15 @@ use Rattle.ras_recover.specs.Opening.{Opening, IsOpened}
 use Rattle.ras_recover.specs.Recovering.{RestsHere}
 use Rattle.ras_recover.specs.Switching.{CanSwitch, switch_acts, switched}
 
--- a call that works on a journal: an append of a link of these entries, a switch to the other file,
--- or an opening of the two files
+-- A call that works on a journal: an append of a link of these entries, a switch to the other file, or an opening of
+-- the two files.
 pub data JournalCall : Type 0 where
   an_append : List Entry → JournalCall
   a_switch : JournalCall
   an_opening : JournalCall
 
--- What has happened to a journal so far, the latest last: a call returned Ok; or it was cut, by a crash of
--- the machine at any point or by a fault; or a crash came between two calls.
+-- What has happened to a journal so far, the latest last: a call returned Ok; or a call was cut, by a crash of the
+-- machine at any point or by a fault; or the machine crashed between two calls.
 pub data Life : Type 0 where
   start : Life
   done : Life → JournalCall → Life
@@ -35,8 +35,8 @@ pub data Life : Type 0 where
 abbrev pub account_after_links : State → List (List Entry) → State
 account_after_links account links = fold account_after_all account links
 
--- The links that count, each by its entries: all whose append returned Ok, in order. A link whose append was
--- cut counts or doesn't.
+-- The links in the journal, each by its entries: all whose append returned Ok, in order. A link whose append was cut
+-- may be in the journal or not.
 abbrev pub AreKept : Life → List (List Entry) → Type 0
 AreKept start links = links ≡ []
 AreKept (done life (an_append entries)) links = (front : List (List Entry)) × AreKept life front × (links ≡ front ++ entries ∷ [])
@@ -46,13 +46,13 @@ AreKept (done life call) links = AreKept life links
 AreKept (cut life call) links = AreKept life links
 AreKept (stopped life) links = AreKept life links
 
--- an account, continued by the entries of the links that count
+-- An account is another account, continued by the entries of the links in the journal.
 pub record Continues (account : State) (life : Life) (now : State) : Type 0 where
   pub links : List (List Entry)
   pub kept : AreKept life links
   pub is : now ≡ account_after_links account links
 
--- A crash leaves files that give such an account, and so are never damaged.
+-- A crash leaves files that give an account continued in this way, and so are never damaged.
 pub record RecoversBehind (account : State) (life : Life) (left : Left) : Type 0 where
   pub now : State
   pub continues : Continues account life now
@@ -64,7 +64,7 @@ with_links history links = fold with_entries history links
 
 -- ---- what one call does
 
--- a board, and the position of the journal that is open on it, if one is
+-- a board, and the position of the journal that is open on it, if any
 pub record Site (B : Type 0) : Type 0 where
   pub board : B
   pub journal : Option Standing
@@ -73,35 +73,35 @@ pub record Site (B : Type 0) : Type 0 where
 abbrev pub open_site : {B : Type 0} → B → Standing → Site B
 open_site board standing = record { board = board; journal = Some standing }
 
--- the files give this account
+-- The files give this account.
 abbrev pub IsHeld : Option Told → State → Type 0
 IsHeld told account = (t : Told) → told ≡ Some t → Recovers account t.here
 
--- a link of these entries, which can continue the account that the files give
+-- A link of these entries can continue the account that the files give.
 abbrev pub CanLinkHere : Option Told → List Entry → List ℕ → Type 0
 CanLinkHere told entries link = (account : State) (t : Told) → told ≡ Some t → Recovers account t.here → Links account entries link
 
--- an append is called, of a link of these entries
+-- An append is called, of a link of these entries.
 pub record CallsAppend {B : Type 0} (see : B → Seen) (entries : List Entry) (site : Site B) : Type 0 where
   pub standing : Standing
   pub link : List ℕ
   pub journal : site.journal ≡ Some standing
   pub links : CanLinkHere (see site.board).told entries link
 
--- a switch is called, with the account that the files give
+-- A switch is called, with the account that the files give.
 pub record CallsSwitch {B : Type 0} (see : B → Seen) (site : Site B) : Type 0 where
   pub standing : Standing
   pub account : State
   pub journal : site.journal ≡ Some standing
   pub held : IsHeld (see site.board).told account
 
--- an opening is called, of a modelled board
+-- An opening is called, of a modelled board.
 pub record CallsOpening {B : Type 0} (see : B → Seen) (site : Site B) : Type 0 where
   pub there : Told
   pub tells : (see site.board).told ≡ Some there
 
--- A call is in progress, or has returned, whatever it returned: an append and a switch do their acts, or
--- begin them. What crashes leave of an opening is what the function's clause says.
+-- A call is in progress, or has returned, with any result: an append or a switch does its acts, or begins them. What
+-- crashes leave of an opening is what the function's clause says.
 abbrev pub Works : {B : Type 0} → (B → Seen) → JournalCall → Site B → B → Type 0
 Works see (an_append entries) old new =
     (c : CallsAppend see entries old) × (ended : Ended) × (IsMade ended → HasRoom c.standing c.link)
@@ -112,7 +112,7 @@ Works see a_switch old new =
 Works see an_opening old new =
     (c : CallsOpening see old) × Adds (Opening (see old.board).clock c.there.here) (see old.board).clock (see new).clock
 
--- an opening returned Ok, with this account
+-- An opening returned Ok, with this account.
 pub record OpensJournal {B : Type 0} (see : B → Seen) (account : State) (old new : Site B) : Type 0 where
   pub call : CallsOpening see old
   pub standing : Standing
@@ -138,7 +138,7 @@ pub record StartsOver {B : Type 0} (see : B → Seen) (left : Left) (site : Site
   pub rests : RestsHere left (see site.board).told (see site.board).clock
   pub journal : site.journal ≡ None
 
--- A life begins here with this account: the machine was started over files that give it, or an open journal
+-- A life begins here with this account: the machine was started over files that give the account, or an open journal
 -- has it.
 abbrev pub BeginsWith : {B : Type 0} → (B → Seen) → State → Site B → Type 0
 BeginsWith see account site =
@@ -153,11 +153,11 @@ IsCut {B} see call old new =
     × (((left : Left) × (see board).clock.may_leave_since (see old.board).clock.now left × StartsOver see left new)
     ⊎ (new ≡ record { board = board; journal = None }))
 
--- a crash came between two calls, and the machine was started again
+-- The machine crashed between two calls, and was started again.
 abbrev pub IsStopped : {B : Type 0} → (B → Seen) → Site B → Site B → Type 0
 IsStopped see old new = (left : Left) × LeftNow (see old.board).clock left × StartsOver see left new
 
--- All of this happened, one after the other.
+-- A life as a relation of its first and last site: all of this happened, one after the other.
 abbrev pub Lives : {B : Type 0} → (B → Seen) → Life → Site B → Site B → Type 0
 Lives see start first last = last ≡ first
 Lives {B} see (done life call) first last = (mid : Site B) × Lives see life first mid × IsAnswered see call mid last

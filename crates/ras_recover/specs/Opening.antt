@@ -16,20 +16,20 @@ use Rattle.ras_recover.specs.Formatting.{behind_gate, formatting_acts}
 use Rattle.ras_recover.specs.declared.refused.OpenRefused.{OpenRefused}
 use Rattle.ras_recover.specs.declared.refused.OpenRefused.TheVariants.{Damaged, TooLong}
 
--- no file is valid: this account is recovered, and there is no position
+-- No file is valid: this account is recovered, and there is no position.
 pub record HoldsNone (account : State) (here : Left) : Type 0 where
   pub recovers : recovered here.file0 here.file1 ≡ Ok account
   pub none : position_of here.file0 here.file1 ≡ None
 
--- While file 0 is formatted, because no file is valid, whatever a crash leaves gives the empty account, and
--- no valid file has more than 256 links. All but file 0 is as it was.
+-- While file 0 is formatted, because no file is valid, whatever a crash leaves gives the empty account, and no valid
+-- file has more than 256 links. Everything except file 0 is unchanged.
 pub record FormatsFirst (here left : Left) : Type 0 where
   pub none : HoldsNone (account_of empty) here
   pub recovers : Recovers (account_of empty) left
   pub few : HasFewLinks left
   pub rest : left ≡ with_file_in Zero left.file0 here
 
--- what holds if an opening is refused for what the files contain
+-- What holds if an opening is rejected because of what the files contain.
 abbrev pub OnRefusal : OpenRefused → Type 0 → Type 0
 OnRefusal TooLong P = P
 OnRefusal (Damaged file place) P = P
@@ -39,11 +39,11 @@ OnRefusal why P = ⊤
 abbrev pub Opening : Clock → Left → Left → Type 0
 Opening clock here left = LeftNow clock left ⊎ FormatsFirst here left
 
--- Once both files are synced, it leaves everything as it was, or file 0 is being formatted.
+-- Once both files are synced, a crash leaves everything unchanged, or file 0 is being formatted.
 abbrev pub OpeningSynced : Left → Left → Type 0
 OpeningSynced here left = (left ≡ here) ⊎ FormatsFirst here left
 
--- the files give this account at this position, and a crash leaves exactly what the model says
+-- The files give this account at this position, and a crash leaves exactly what the model says.
 pub record IsOpened (standing : Standing) (account : State) (told : Option Told) (clock : Clock) : Type 0 where
   pub there : Told
   pub before : Before standing account there told clock

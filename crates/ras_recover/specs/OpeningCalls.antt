@@ -1,5 +1,4 @@
--- The disk calls of a recovery and of an opening, and how these change what a board's model says, whatever is
--- returned.
+-- The disk calls of a recovery and of an opening, and how these change the board's model, whatever is returned.
 use Rattle.std.specs.Prelude.{◌≡◌, ℕ, ◌≤◌, ◌⊎◌, List, ◌∷◌, ◌++◌, All, Any, Option, Some, Ok}
 use Rattle.board_core.specs.declared.board.FileNo.{FileNo}
 use Rattle.board_core.specs.declared.board.FileNo.TheVariants.{Zero, One}
@@ -20,8 +19,8 @@ pub record IsRecovery (calls : List DiskCall) : Type 0 where
   pub is : calls ≡ Sync Zero ∷ Sync One ∷ reading
   pub alone : All IsReading reading
 
--- If a file is valid, one of these reads covers each offset from 0 up to and including its closed gate,
--- whatever generation the other file has taken.
+-- If a file is valid, one of these reads covers each offset from 0 up to and including its closed gate, whatever
+-- generation the other file has.
 abbrev pub ReadsStanding : FileNo → List ℕ → List DiskCall → Type 0
 ReadsStanding file bytes calls =
     (taken : Option ℕ) (front : FileFront) (place : ℕ)
@@ -36,18 +35,18 @@ pub record ReadsBoth (here : Left) (calls : List DiskCall) : Type 0 where
 abbrev pub ReadsTo : FileNo → ℕ → List DiskCall → Type 0
 ReadsTo file last calls = (place : ℕ) → place ≤ last → Any (ReadsPlace file place) calls
 
--- a whole recovery over files of these bytes: everything that counts of them is read
+-- A whole recovery over these files: all that decides the result is read.
 pub record IsRecoveryOf (here : Left) (calls : List DiskCall) : Type 0 where
   pub recovery : IsRecovery calls
   pub reads : ReadsBoth here calls
 
--- A whole opening: such a recovery, and then the calls of the formatting, if no file is valid.
+-- A whole opening over these files: a whole recovery, and then the calls of the formatting, if no file is valid.
 pub record IsOpening (here : Left) (calls : List DiskCall) : Type 0 where
   pub recovery : List DiskCall
   pub recovers : IsRecoveryOf here recovery
   pub is : calls ≡ recovery ++ calls_of (opening_acts here)
 
--- An opening returned Ok: it made such a recovery, and then exactly its writes.
+-- An opening returned Ok: it made a whole recovery, and then exactly the writes of the formatting.
 pub record MakesOpening (old new : Told) : Type 0 where
   pub recovery : List DiskCall
   pub recovers : IsRecoveryOf old.here recovery
@@ -55,7 +54,7 @@ pub record MakesOpening (old new : Told) : Type 0 where
 
 -- ---- the model afterwards, whatever is returned
 
--- after a recovery: its calls were made, all of them or a beginning, and nothing else changed
+-- After a recovery: its calls were made, all of them or a beginning, and nothing else changed.
 pub record AfterRecovery (old new : Told) : Type 0 where
   pub file0 : new.here.file0 ≡ old.here.file0
   pub file1 : new.here.file1 ≡ old.here.file1
@@ -65,7 +64,7 @@ pub record AfterRecovery (old new : Told) : Type 0 where
   pub accesses : new.accesses ≡ old.accesses
   pub calls : Makes (IsBeginning IsRecovery) old new
 
--- after an opening: as after a recovery, except that file 0 may have changed if no file is valid
+-- After an opening: as after a recovery, except that file 0 may have changed if no file is valid.
 pub record AfterOpening (old new : Told) : Type 0 where
   pub file0 : (new.here.file0 ≡ old.here.file0) ⊎ HoldsNone (account_of empty) old.here
   pub file1 : new.here.file1 ≡ old.here.file1

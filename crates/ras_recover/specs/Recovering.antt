@@ -1,4 +1,4 @@
--- What recovery returns, and what it leaves of the files.
+-- What recovery returns, and what a crash leaves of the files.
 use Rattle.std.specs.Prelude.{◌≡◌, ℕ, ◌⊎◌, List, [], ◌∷◌, IsSomeAnd, Option, Result, Ok, Err}
 use Rattle.std.specs.Option.{option_map}
 use Rattle.board_core.specs.declared.board.FileNo.{FileNo}
@@ -21,7 +21,7 @@ abbrev pub file_number : FileNo → ℕ
 file_number Zero = 0
 file_number One = 1
 
--- the file with this number is damaged at this offset
+-- The file with this number is damaged at this offset.
 pub record IsDamagedAt {A : Type 0} (number place : ℕ) (held : Result A Refusal) : Type 0 where
   pub file : FileNo
   pub number_is : number ≡ file_number file
@@ -34,21 +34,21 @@ RefusesHeld (Damaged file place) held = IsDamagedAt file place held
 RefusesHeld Disk held = Unit {0}
 RefusesHeld NoMemory held = Unit {0}
 
--- What is returned is what the files contain, seen so, or why they are refused.
+-- A recovery returns this view of what the files contain, or why they are rejected.
 abbrev pub TellsHeld : {T A : Type 0} → (T → A) → Result T OpenRefused → Result A Refusal → Type 0
 TellsHeld view (Ok x) held = held ≡ Ok (view x)
 TellsHeld view (Err refused) held = RefusesHeld refused held
 
 -- ---- what a recovery leaves
 
--- The board's model says the same of files, store and text as before. Whatever a crash leaves is what a crash
--- before may have left.
+-- The board's model of files, store and text is unchanged. Whatever a crash leaves is what a crash before may have
+-- left.
 pub record KeepsTold (told_old : Option Told) (old : Clock) (told_new : Option Told) (new : Clock) : Type 0 where
   pub here : option_map (λ (t : Told). t.here) told_new ≡ option_map (λ (t : Told). t.here) told_old
   pub stops : Adds (LeftNow old) old new
   pub ends : (left : Left) → LeftNow new left → LeftNow old left
 
--- A crash now leaves exactly this, and it is what the board's model says.
+-- A crash now leaves exactly this, and the board's model says so.
 pub record RestsHere (here : Left) (told : Option Told) (clock : Clock) : Type 0 where
   pub there : Told
   pub same : there.here ≡ here
@@ -57,9 +57,9 @@ pub record RestsHere (here : Left) (told : Option Told) (clock : Clock) : Type 0
 abbrev pub both_syncs : List DiskCall
 both_syncs = Sync Zero ∷ Sync One ∷ []
 
--- Both files were synced before any other call, over what the model said. Until both syncs had returned Ok, a
--- crash leaves what a crash before may have left. Then it leaves exactly what the model says, and afterwards
--- what has this property.
+-- Both files were synced before any other call, over what the model said. Until both syncs had returned Ok, a crash
+-- left what a crash before may have left. Then it left exactly what the model said, and afterwards something with this
+-- property.
 pub record SyncsFirst {X : Type 0} (see : X → Seen) (P : Left → Type 0) (before : Told) (old new : X) : Type 0 where
   -- the board when both syncs had returned Ok
   pub synced : X
@@ -75,7 +75,7 @@ pub record SyncsAtMost {X : Type 0} (see : X → Seen) (before : Told) (old new 
 abbrev pub MaySync : {X : Type 0} → (X → Seen) → (Left → Type 0) → Told → X → X → Type 0
 MaySync see P before old new = SyncsFirst see P before old new ⊎ SyncsAtMost see before old new
 
--- After Ok, both files were synced first. Otherwise they were, or at most the syncs were called.
+-- After Ok, both files were synced first. Otherwise they were, or at most the two syncs were called.
 abbrev pub SyncsBy : {X T E : Type 0} → (X → Seen) → (Left → Type 0) → Told → Result T E → X → X → Type 0
 SyncsBy see P before (Ok x) old new = SyncsFirst see P before old new
 SyncsBy see P before (Err why) old new = MaySync see P before old new
@@ -85,7 +85,7 @@ abbrev pub UnlessDisk : {T : Type 0} → Result T OpenRefused → Type 0 → Typ
 UnlessDisk (Err Disk) P = Unit {0}
 UnlessDisk result P = P
 
--- Only a failed disk call is a fault of the disk.
+-- Only a failed disk call counts as a fault of the disk.
 abbrev pub open_failure : {T : Type 0} → Result T OpenRefused → Result (Unit {0}) OpenRefused
 open_failure (Ok x) = Ok tt
 open_failure (Err Disk) = Err Disk
@@ -93,7 +93,7 @@ open_failure (Err TooLong) = Ok tt
 open_failure (Err (Damaged file place)) = Ok tt
 open_failure (Err NoMemory) = Ok tt
 
--- Disk comes if a disk call failed. Each other refusal comes from a call that gave up.
+-- Disk is returned if a disk call failed. Before any other refusal no call failed.
 abbrev pub open_refused_end : OpenRefused → Ended
 open_refused_end Disk = broke disk_call
 open_refused_end TooLong = gave_up

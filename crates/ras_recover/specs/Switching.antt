@@ -28,7 +28,7 @@ switched standing account = record {
   shut = false;
 }
 
--- what is written after the gate at the front of the other file
+-- the bytes after the gate at the front of the other file
 abbrev pub next_bytes : Standing → State → List ℕ
 next_bytes standing account = behind_gate (standing.generation + 1) (checkpoint_bytes Two account)
 
@@ -36,7 +36,7 @@ next_bytes standing account = behind_gate (standing.generation + 1) (checkpoint_
 abbrev pub switch_acts : Standing → State → List Act
 switch_acts standing account = formatting_acts (other standing.file) standing.shut (next_bytes standing account)
 
--- what the model says after a switch
+-- the model after a switch
 abbrev pub after_switch : Standing → State → Told → Told
 after_switch standing account t = after_acts (switch_acts standing account) t
 
@@ -47,12 +47,12 @@ has_no_room standing account link =
     nat_le LAST_GENERATION standing.generation
     || nat_lt LONGEST_FILE (length_with (switched standing account) link)
 
--- Full comes if and only if there is no room.
+-- Full is returned if and only if there is no room.
 abbrev pub IsFullBy : {T : Type 0} → Result T SwitchRefused → Bool → Type 0
 IsFullBy (Err Full) lacks = IsTrue lacks
 IsFullBy result lacks = ¬ IsTrue lacks
 
--- Full and NoMemory come before any call, Disk if a disk call failed.
+-- Full and NoMemory are returned before any call, Disk if a disk call failed.
 abbrev pub switch_refused_end : SwitchRefused → Ended
 switch_refused_end Full = gave_up
 switch_refused_end Disk = broke disk_call
@@ -61,8 +61,8 @@ switch_refused_end NoMemory = gave_up
 abbrev pub switch_end : Result (Unit {0}) SwitchRefused → Ended
 switch_end result = ended_by switch_refused_end result
 
--- What happens to a journal that is switched, if `next` is its next position: if a disk call failed, the
--- journal has failed.
+-- What a switch does to a journal, if `next` is the journal's next position: if a disk call failed, the journal has
+-- failed.
 abbrev pub MovesOver : Result (Unit {0}) SwitchRefused → Standing → JournalView → JournalView → Type 0
 MovesOver (Ok done) next old new = new ≡ record { standing = next; failed = false }
 MovesOver (Err Full) next old new = new ≡ old
@@ -75,8 +75,8 @@ pub record CanSwitch (standing : Standing) (account : State) : Type 0 where
   pub room : 27 + length (checkpoint_bytes Two account) ≤ LONGEST_FILE
   pub is : IsCheckpoint Two account (checkpoint_bytes Two account)
 
--- While a journal is switched, whatever a crash leaves gives the account. All but the other file is as it
--- was.
+-- While a journal is switched, whatever a crash leaves gives the account. Everything except the other file is
+-- unchanged.
 pub record Switching (standing : Standing) (account : State) (here left : Left) : Type 0 where
   pub recovers : Recovers account left
   pub rest : left ≡ with_file_in (other standing.file) (file_in (other standing.file) left) here

@@ -14,7 +14,7 @@ use ras_base::little_endian::{u32_at, u64_at};
 use ras_journal::{LAST_GENERATION, OPEN_GATE};
 use std::alloc::Global;
 
-// Returns `count` bytes of a file from an offset on, if the file has so many bytes there.
+// Returns `count` bytes of a file from an offset on, if the file has that many there.
 #[tactic(auto, unfolding(ras_journal::specs::Fields::part))]
 pub(crate) fn part<'a>(place: usize, count: u64, file: &'a [u8]) -> Option<&'a [u8]>
     ensures some { IfSome result (λ bytes. part place count file.now ≡ Some bytes.now) }

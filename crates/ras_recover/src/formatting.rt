@@ -41,7 +41,7 @@ fn room_for(account: &Account) -> usize {
         .saturating_add(modules)
         .saturating_add(pages)
         .saturating_add(72 + BYTES_BESIDE_CHECKPOINT);
-    // The allocator gives a large block back to the kernel, and takes it anew page by page, unless
+    // The allocator gives a large block back to the kernel, and gets it again page by page, unless
     // the next block has the same size. So the size grows in steps.
     (all / STEP).saturating_add(1).saturating_mul(STEP)
 }

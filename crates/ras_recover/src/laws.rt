@@ -22,7 +22,7 @@ ghost use Rattle.ras_recover.specs.Switching.{CanSwitch, Switching, after_switch
 
 use board_core::Board;
 
-/// What holds of the acts of a switch, if the journal can be switched.
+/// The laws of a switch's acts, if the journal can be switched.
 pub fn switch_laws()
     // Whatever a crash leaves at any point of a switch gives the account.
     ensures moments { (standing : Standing) (account : State) (t : Told) (left : Left)
@@ -35,15 +35,15 @@ pub fn switch_laws()
         → IsAt (switched standing account) account (after_switch standing account t).here }
 {}
 
-/// What holds of a whole recovery: it reads every byte of the journal's file up to the closed gate
-/// at the journal's position.
+/// The law of a whole recovery: it reads every byte of the journal's file up to the closed gate at
+/// the journal's position.
 pub fn recovery_laws()
     ensures reads { (standing : Standing) (account : State) (here : Left) (calls : List DiskCall)
         → IsAt standing account here → IsRecoveryOf here calls
         → ReadsTo standing.file standing.length calls }
 {}
 
-/// What holds of an opening: what its writes leave, and how many links the files of a journal have
+/// The laws of an opening: what its writes leave, and how many links the files of a journal have
 /// while it is recovered and opened, and afterwards. No valid file has more than 256, if none had
 /// at the start.
 pub fn opening_laws<B: Board>()
@@ -52,8 +52,8 @@ pub fn opening_laws<B: Board>()
     ensures moments { (t : Told) (left : Left)
         → Moment (opening_acts t.here) t left → FormatsFirst t.here left }
 
-    // If all that a crash at the start of an opening may leave has few links, so has all that a
-    // crash may leave from there on. The same holds of a recovery.
+    // If every crash image at the start of an opening has few links, so has every crash image from
+    // there on. The law holds for a recovery too.
     ensures few { (old new : B) (here : Left)
         → Always (B.seen old).clock (B.seen old).clock.now HasFewLinks
         → Adds (Opening (B.seen old).clock here) (B.seen old).clock (B.seen new).clock
@@ -69,9 +69,9 @@ pub fn opening_laws<B: Board>()
         → HasFewLinks new.here }
 {}
 
-/// What holds over any appends, switches and openings of a journal, and any crashes of the machine
-/// during them and between them: no link whose append returned `Ok` is lost, and no other link
-/// counts, except one whose append was interrupted.
+/// The laws of any appends, switches and openings of a journal, and any crashes of the machine
+/// during them and between them: no link whose append returned `Ok` is lost, and no other link is
+/// in the journal, except one whose append was interrupted.
 ///
 /// A life begins with an account: on a machine that was started over files which give it, whether
 /// no file is valid or one of either version; or with an open journal that has it, as after an

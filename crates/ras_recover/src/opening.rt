@@ -78,7 +78,7 @@ pub fn open_journal<B: Board>(
 
     // A crash leaves what a crash before may have left, or gives the empty account if no file is
     // valid. After `Ok` a crash leaves exactly what the board's model says, and the journal's
-    // position is that of the files.
+    // position is the position of the files.
     ensures stops { (t : Told) → (B.seen board.old).told ≡ Some t
         → Adds (Opening (B.seen board.old).clock t.here) (B.seen board.old).clock
         (B.seen board.new).clock }

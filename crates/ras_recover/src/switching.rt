@@ -76,7 +76,8 @@ fn next_file(
         return Err(SwitchRefused::Full);
     }
     let Ok((bytes, count)) = next_bytes(alloc, standing.generation + 1, account) else {
-        // Want of room comes before want of memory, and only now is it worth a look at each name.
+        // Lack of room is reported rather than lack of memory. The length is only computed here,
+        // because that visits each name.
         return match switched(standing, checkpoint_len(account), link) {
             Some(_) => Err(SwitchRefused::NoMemory),
             None => Err(SwitchRefused::Full),

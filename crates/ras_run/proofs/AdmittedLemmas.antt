@@ -28,7 +28,7 @@ drivable-line settings (asks.Table (Erst bytes)) before = with-driver settings (
 drivable-line settings (asks.Table (Hest bytes)) before = subst IsDrivable (sym (sources-leave settings bytes)) before
 drivable-line settings line before = before
 
--- those that are told before a line, and after it
+-- The lists in the machine description are admitted before a line and after it.
 pub drivable-after : (settings : Settings) (read : NumberedLine) → IsDrivable settings.driver → IsDrivable (settings_read settings read).driver
 drivable-after settings (number, Ok line) before = drivable-line settings line before
 drivable-after settings (number, Err why) before = before

@@ -1,4 +1,4 @@
--- A deed asks the record store before all else: what that leaves, and what stops leave meanwhile.
+-- The first acts of a deed: what the device calls leave, and what crashes leave meanwhile.
 use Rattle.std.proofs.Common.{◌≡◌, ◌∙◌, ℕ, List, sym, ap, subst, inl, inr}
 use Rattle.board_core.specs.Device.{KeepsDevice}
 use Rattle.board_core.specs.Doing.{Moment, after_acts}
@@ -26,24 +26,24 @@ use Rattle.ras_run.proofs.DrivesLemmas.{Drives}
 use Rattle.ras_run.proofs.DeviceActLemmas.{calls_leave}
 use Rattle.ras_run.proofs.StoreLemmas.{put_store}
 
--- what is told once it has asked
+-- the model once a deed has made its device calls
 abbrev pub asked_told : Lists → Asking → Told → Told
 asked_told lists asks t = after_acts (acts_of (asking_calls lists asks t)) t
 
--- ---- what holds of a board then
+-- ---- what holds of a board after these calls
 
--- records can be cleared by a deed that clears some
+-- A deed that clears records can clear them.
 abbrev pub CanClearFor : Lists → Asking → Told → Type 0
 CanClearFor lists (polls seconds) u = IsAdmittedTable lists × IsDevice (device_of u)
 CanClearFor lists asks u = Unit {0}
 
--- the store has its record
+-- The store has the deed's record.
 pub record BoardAsked (site : Site) (asks : Asking) (u : Told) : Type 0 where
   pub store : u.here.store ≡ store_asked asks site.store
   pub slow : u.volatile.slow ≡ site.slow
   pub clear : CanClearFor (driving_lists site) asks u
 
--- and the files hold the account of the site
+-- The files contain the account of the site, and the store has the deed's record.
 pub record HasAsked (site : Site) (asks : Asking) (u : Told) : Type 0 where
   pub account : IsAccount site.account
   pub at : IsAt site.standing site.account u.here
@@ -56,7 +56,7 @@ can_still lists (polls seconds) u v keeps can = (
 )
 can_still lists asks u v keeps can = tt
 
--- it holds still over acts that leave the device alone
+-- Acts that leave the device alone keep this.
 pub board_kept : (site : Site) (asks : Asking) (u v : Told) → KeepsDevice u v → BoardAsked site asks u → BoardAsked site asks v
 board_kept site asks u v keeps asked = record {
   store = keeps.store ∙ asked.store;
@@ -64,7 +64,7 @@ board_kept site asks u v keeps asked = record {
   clear = can_still (driving_lists site) asks u v keeps asked.clear;
 }
 
--- ---- over a board of the site, where nothing was asked
+-- ---- over a board of the site, before any device call
 
 module _ (site : Site) (t : Told) (holds : HasAsked site nothing t) where
   abbrev lists : Lists
@@ -101,7 +101,7 @@ module _ (site : Site) (t : Told) (holds : HasAsked site nothing t) where
     };
   }
 
-  -- ---- what stops leave meanwhile
+  -- ---- what crashes leave meanwhile
 
   becomes_by : (one two : List Stored) (left : Left) → InStore (Becomes one) t.here left → one ≡ two → Becomes two site.store left.store
   becomes_by one two left by is = elim by.step [

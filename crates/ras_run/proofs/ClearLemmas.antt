@@ -1,4 +1,4 @@
--- Records that a poll could read are cleared, once its news are kept and its text is printed.
+-- A poll clears the readable records, once its new entries are appended and its text is printed.
 use Rattle.std.proofs.Common.{◌≡◌, ◌∙◌, ℕ, ◌&&◌, Bool, true, false, not, nat_eq, List, [], ◌∷◌, ◌++◌, length, Some, IfSome, Result, Ok, Err, OnErr, arith, refl, sym, ap, subst}
 use Rattle.std.specs.Option.{option_map}
 use Rattle.std.proofs.lemmas.Bool.Decides.{nat_tests}
@@ -28,8 +28,8 @@ use Rattle.ras_records.proofs.ClearingLemmas.{clears_answer}
 use Rattle.ras_run.specs.Status.{driver_exit}
 use Rattle.ras_run.proofs.CountLemmas.{IsCutShort}
 
--- The identifiers are those of the readable records of a device, which was fast enough to be read.
--- Then all can be cleared.
+-- The identifiers are those of the readable records of a device that was fast enough to be read. Then all of them can
+-- be cleared.
 pub record CanClear (lists : Lists) (ids : List ℕ) (t : Told) : Type 0 where
   pub admitted : IsAdmittedTable lists
   pub device : IsDevice (device_of t)
@@ -45,7 +45,7 @@ is_true true is = refl
 is_true false is = cc
 
 module _ (lists : Lists) (ids : List ℕ) where
-  -- acts that leave the device alone leave what can be cleared
+  -- Acts that leave the device alone don't change which records can be cleared.
   pub clear_kept : (t u : Told) → KeepsDevice t u → CanClear lists ids t → CanClear lists ids u
   clear_kept t u keeps can = record {
     admitted = can.admitted;
@@ -84,7 +84,7 @@ module _ {X : Type 0} (see : X → Seen) (lists : Lists) (told done : List Act) 
       (does_then see clears done (one_end print_call result) y z w
       (at_told (λ v. Does see (acts_of (each_calls (clear_calls lists) ids v)) went_well y z) (see y).told u cleared told_then) (made_one print_call result) last))
 
-  -- the driver refused a clear: then a call of the board failed
+  -- If the driver refused a clear, a call of the board failed.
   module _ (why : DriverRefused) (is : IsAnswered {T = Unit {0}} (Err why)) (gives : IfSome (see y).told (λ v. AnswersAs (Err why) (each_answer (clear_calls lists) ids v))) where
     gives_then : AnswersAs (Err why) (each_answer (clear_calls lists) ids u)
     gives_then = at_told (λ v. AnswersAs (Err why) (each_answer (clear_calls lists) ids v)) (see y).told u gives told_then

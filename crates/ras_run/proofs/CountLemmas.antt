@@ -1,4 +1,4 @@
--- An event that counts what is made of its line, by the account that it is counted after.
+-- An event that counts its line's pieces, by the account before the event.
 use Rattle.std.proofs.Common.{◌≡◌, ℕ, Bool, true, false, if◌then◌else◌, ◌||◌, Option, None, Some, List, [], ◌++◌, Result, Ok, Err, OnErr, IfErr, refl, sym, ap, subst, ◌∙◌, append-nil, arith}
 use Rattle.std.proofs.lemmas.Bool.Decides.{nat_tests}
 use Rattle.board_core.specs.Cause.{print_call}
@@ -47,13 +47,13 @@ text_told a now made news first text same news_are first_is text_is =
     ∙ (ap (λ (entries : List Entry). text_along a made ++ order_lines (account_after_all a entries).modules (orders_along_entries a entries)) news_are
     ∙ event_by_news a made)))
 
--- ---- what is answered
+-- ---- results
 
 pub print_exit : {T : Type 0} (result : Result T Exit) → OnErr result (result ≡ Err PrintFault) → IfErr result IsPrintExit
 print_exit (Ok done) is = tt
 print_exit {T} (Err why) is = subst (λ (r : Result T Exit). IfErr r IsPrintExit) (sym is) refl
 
--- what comes once the news are counted was cut short
+-- The run was cut short after the new entries were counted.
 abbrev pub IsCutShort : Exit → Type 0
 IsCutShort exit = EndsBy ⊥ (Unit {0}) AnyFault (ending_of exit)
 
@@ -67,7 +67,7 @@ end_is_bad starved = tt
 end_is_bad source_failed = tt
 end_is_bad (faulted kind) = tt
 
--- what is counted stays so, if what comes then is cut short
+-- The pieces are counted even if the part after that is cut short.
 pub counted_still : {T : Type 0} (made : List Piece) (before after : Ledger) (result : Result T Exit) → CountsMade {T = Unit {0}} made (Ok tt) before after → IfErr result IsCutShort → CountsMade made result before after
 counted_still made before after (Ok done) counts ends = counts
 counted_still made before after (Err exit) counts ends =
@@ -96,19 +96,19 @@ module _ (made : List Piece) (news : List Entry) (before now after : Ledger) (sa
         counts.2 ∙ (rw (same, still) (ap (standing_with_news a s) news_are)),
       ) ends
 
-  -- ---- what is done
+  -- ---- acts
 
   list_is : news_acts now.journal.standing now.account.state news ≡ news_acts s a (fresh_entries_in a (entries_in made))
   list_is = rw (same, still) (ap (news_acts s a) news_are)
 
   module _ {X : Type 0} (see : X → Seen) where
-    -- the news aren't kept
+    -- The new entries aren't appended.
     pub told_not_kept : (exit : Exit) (x y : X) → Does see (news_acts now.journal.standing now.account.state news) (end_of (ending_of exit)) x y → Does see (told_acts a s made) (end_of (ending_of exit)) x y
     told_not_kept exit x y does =
         does_first see (news_acts s a (fresh_entries_in a (entries_in made))) (print_acts (event_text_in a made)) (end_of (ending_of exit)) x y (end_is_bad (ending_of exit))
         (subst (λ (acts : List Act). Does see acts (end_of (ending_of exit)) x y) list_is does)
 
-    -- they are, and the text is printed
+    -- The new entries are appended, and the text is printed.
     pub told_kept : (text : List ℕ) (printed : Result (Unit {0}) Exit) (x y z : X) → text ≡ event_text_in a made → Does see (news_acts now.journal.standing now.account.state news) went_well x y
         → Does see (print_acts text) (one_end print_call printed) y z → OnErr printed (printed ≡ Err PrintFault) → Does see (told_acts a s made) (part_end printed) x z
     told_kept text printed x y z text_is first second fault =
@@ -117,7 +117,7 @@ module _ (made : List Piece) (news : List Entry) (before now after : Ledger) (sa
         (subst (λ (acts : List Act). Does see acts went_well x y) list_is first) (made_one print_call printed)
         (subst (λ bytes. Does see (print_acts bytes) (one_end print_call printed) y z) text_is second))
 
--- ---- what was made is counted unless there is a refusal, of which only the lack of room isn't known before
+-- ---- the pieces are counted unless the part is rejected, for which only the lack of room isn't known before
 
 module _ (made : List Piece) (before after : Ledger) (fit : IsFit made) (refusal : Option Exit)
     (by_room : (full : Bool) → has_no_room_for before.account.state before.journal.standing (entries_in made) ≡ full → refusal ≡ (if full then Some Full else None)) where
@@ -136,7 +136,7 @@ module _ (made : List Piece) (before after : Ledger) (fit : IsFit made) (refusal
       ends_weaker ((exit ≡ Full) × (lacks ≡ true)) (Unit {0}) (Unit {0}) (Unit {0}) (λ kind. lacks ≡ false) (λ kind. (refusal ≡ None) × IsFit made) exit
       (λ full. tt) (λ memory over. over) (λ kind room. (by_room false room, fit)) e
 
--- ---- its text is printed, and then its done line
+-- ---- the text is printed, and then the done line
 
 module _ {X : Type 0} (see : X → Seen) (a : State) (number : ℕ) (s : Standing) (made : List Piece) where
   pub not_told : (exit : Exit) (x y : X) → Does see (told_acts a s made) (end_of (ending_of exit)) x y → Does see (made_acts a number s made) (end_of (ending_of exit)) x y
@@ -150,7 +150,7 @@ module _ {X : Type 0} (see : X → Seen) (a : State) (number : ℕ) (s : Standin
       (does_then see (told_acts a s made) (print_acts (done_line number)) (one_end print_call printed) x y z first (made_one print_call printed)
       (subst (λ bytes. Does see (print_acts bytes) (one_end print_call printed) y z) done_is second))
 
--- ---- a line that reports no news
+-- ---- a line that reports nothing new
 
 module _ (number : ℕ) (settings : Settings) (line : Line) (text : List ℕ) (before : Ledger) (repeat : IsRepeat before.account.state settings line text) where
   pub repeat_counted : (result : Result (Unit {0}) Exit) → IfErr result IsPrintExit → CountsMade repeat.made result before before

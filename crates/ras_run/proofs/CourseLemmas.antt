@@ -1,4 +1,4 @@
--- What stops leave of the prints of a line, as the course of the line has it.
+-- What crashes leave while a line prints is one of the line's stages.
 use Rattle.std.proofs.Common.{◌≡◌, ◌∙◌, ℕ, List, [], ◌++◌, refl, sym, ap, subst, inl, inr, append-nil}
 use Rattle.board_core.specs.Doing.{Moment}
 use Rattle.board_core.specs.Stop.{Begins, InOut, Left}
@@ -26,10 +26,10 @@ recovers_printed s a piece here left at by = record { is = ap (λ (l : Left). re
 pub begins_nothing : (piece : List ℕ) (here left : Left) → left.out ≡ here.out → Begins piece here.out left.out
 begins_nothing piece here left same = record { part = []; missing = piece; splits = refl; is = same ∙ sym (append-nil here.out) }
 
--- ---- the prints of a line, whose news are kept
+-- ---- the prints of a line whose new entries are appended
 
 module _ (Accepted : Type 0) (accepted : Accepted) (c : Course) (out : List ℕ) (u : Told) (s : Standing) (at : IsAt s c.after u.here) where
-  -- of its text
+  -- While the line's text is printed.
   pub text_moment : u.here.store ≡ c.stored → u.here.out ≡ out → (left : Left) → Moment (print_acts c.text) u left → CourseMoment Accepted c out left
   text_moment store text left moment =
       let by : InOut (Begins c.text) u.here left = print_moment c.text u left moment in
@@ -42,7 +42,7 @@ module _ (Accepted : Type 0) (accepted : Accepted) (c : Course) (out : List ℕ)
         }),
       )
 
-  -- and of its done line, once all is cleared
+  -- While the done line is printed, once all records are cleared.
   pub done_moment : u.here.store ≡ store_left c → u.here.out ≡ out ++ c.text → (left : Left) → Moment (print_acts c.done) u left → CourseMoment Accepted c out left
   done_moment store text left moment =
       let by : InOut (Begins c.done) u.here left = print_moment c.done u left moment in

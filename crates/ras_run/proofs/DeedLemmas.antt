@@ -1,4 +1,4 @@
--- A deed that isn't refused, once it has asked: what it leaves, and what stops leave.
+-- The acts of an accepted deed after its device calls: what they leave, and what crashes leave.
 use Rattle.std.proofs.Common.{◌≡◌, ◌∙◌, ℕ, Bool, true, false, ◌&&◌, not, nat_eq, List, [], ◌++◌, length, map, Option, None, Some, unwrap_or, inl, inr, refl, sym, ap, subst, if◌then◌else◌, append_assoc, append-nil, arith}
 use Rattle.board_core.specs.declared.board.DiskCall.{DiskCall}
 use Rattle.board_core.specs.Doing.{Act, DeviceCall, Moment, after_acts, calls, calls_of}
@@ -45,7 +45,7 @@ use Rattle.ras_run.proofs.PrintActLemmas.{calls_before, calls_both, news_calls, 
 use Rattle.ras_run.proofs.ReopenLemmas.{reading_moment}
 use Rattle.ras_run.proofs.StandsLemmas.{print_at}
 
--- ---- there is room for what it counts, if it isn't refused
+-- ---- an accepted deed has room for what it counts
 
 not_busy : (busy : Bool) (room : Option Exit) → (if busy then Some ErstBusy else room) ≡ None → (busy ≡ false) × (room ≡ None)
 not_busy true room is = absurd cc
@@ -90,7 +90,7 @@ module _ (site : Site) (number : ℕ) (v : Told) where
       (by.step.count, ap (λ (l : Left). l.store) by.rest ∙ (by.step.is ∙ ap (without_first by.step.count) b.store))
   clears_first asks room b taken left never = absurd never
 
--- ---- the acts, whatever the board tells
+-- ---- the acts, over any model of the board
 
 module _ (site : Site) (number : ℕ) (deed : Deed) where
   abbrev pub made : List Piece
@@ -116,14 +116,14 @@ module _ (site : Site) (number : ℕ) (deed : Deed) where
       let v : Told = after_acts telling t in
       after-append telling (acts_of (cleared v) ++ prints_done) t ∙ after-append (acts_of (cleared v)) prints_done v
 
-  -- the disk calls are those by which the news are kept
+  -- The disk calls are the calls that append the new entries.
   deed_calls : (t : Told) → calls_of (deed_acts site number deed t) ≡ calls_of (news_acts site.standing site.account news)
   deed_calls t =
       let v : Told = after_acts telling t in
       calls_before telling (acts_of (cleared v) ++ prints_done) (calls_before (acts_of (cleared v)) prints_done (print_calls (deed_done number deed)) ∙ device_calls_none (cleared v))
       ∙ calls_before (news_acts site.standing site.account news) (print_acts (deed_text site deed)) (print_calls (deed_text site deed))
 
-  -- the text grows by what it prints
+  -- The printed text grows by the deed's text and done line.
   deed_out : (t : Told) → (after_acts (deed_acts site number deed t) t).here.out ≡ t.here.out ++ (deed_text site deed ++ deed_done number deed)
   deed_out t =
       let v : Told = after_acts telling t in
@@ -131,7 +131,7 @@ module _ (site : Site) (number : ℕ) (deed : Deed) where
       ∙ (ap (λ out. out ++ deed_done number deed) (ap (λ (l : Left). l.out) (calls_keep (cleared v) v).here ∙ told_out site.standing site.account made (deed_text site deed) t)
       ∙ append_assoc t.here.out (deed_text site deed) (deed_done number deed))
 
-  -- and so does it with what it reads before
+  -- With the disk calls of a reading before, the printed text grows in the same way.
   pub follow_out : (t : Told) (acts : List Act) → AreFollowingIn site number deed t acts → (after_acts acts t).here.out ≡ t.here.out ++ (deed_text site deed ++ deed_done number deed)
   follow_out t acts are =
       let u : Told = after_acts (map calls are.0) t in
@@ -150,7 +150,7 @@ module _ (site : Site) (number : ℕ) (deed : Deed) where
   kept_calls t acts are none =
       subst (AreNewsCalls news) (sym (follow_calls_are t acts are ∙ ap (λ (l : List DiskCall). l ++ calls_of (news_acts site.standing site.account news)) none)) (news_calls site.standing site.account news)
 
--- its disk calls, once it has asked
+-- The disk calls of a deed after its device calls.
 pub follow_calls : (site : Site) (number : ℕ) (asks : Asking) (reported : Option (List Piece)) (has_done_line : Bool) (t : Told) (acts : List Act)
     → AreFollowingIn site number (record { asks = asks; reported = reported; has_done_line = has_done_line }) (asked_told (driving_lists site) asks t) acts
     → AreDeedCalls site t.here (record { asks = asks; reported = reported; has_done_line = has_done_line }) (calls_of acts)
@@ -158,9 +158,9 @@ follow_calls site number reopens reported has_done_line t acts are =
     subst (IsRecoveryOf t.here) (sym (follow_calls_are site number (record { asks = reopens; reported = reported; has_done_line = has_done_line }) t acts are ∙ append-nil are.0)) are.1
 follow_calls site number asks reported has_done_line t acts are = kept_calls site number (record { asks = asks; reported = reported; has_done_line = has_done_line }) (asked_told (driving_lists site) asks t) acts are are.1
 
--- ---- over a board of which it has asked
+-- ---- over a board after the deed's device calls
 
--- what it reads of the journal changes nothing
+-- Reading the journal changes nothing.
 pub read_asked : (site : Site) (asks : Asking) (u : Told) (reading : List DiskCall) → HasAsked site asks u → HasAsked site asks (after_acts (map calls reading) u)
 read_asked site asks u reading asked = record {
   account = asked.account;
@@ -168,11 +168,11 @@ read_asked site asks u reading asked = record {
   board = board_kept site asks u (after_acts (map calls reading) u) (acts_device (map calls reading) (reading_off reading) u) asked.board;
 }
 
--- how a deed goes that leads to the account with what it counts
+-- The stages of a deed that leads to the account with what it counts.
 abbrev pub course_of : Site → ℕ → Deed → Course
 course_of site number deed = course_to site number deed (account_after_all site.account (entries_in (deed_pieces site deed)))
 
--- what holds once a deed is done: the files hold the account with what it counts, and the store is what it leaves
+-- A deed is done: the files contain the account with what it counts, and the store is as the deed leaves it.
 pub record IsDone (site : Site) (number : ℕ) (deed : Deed) (x : Told) : Type 0 where
   pub account : IsAccount (account_after_all site.account (entries_in (deed_pieces site deed)))
   pub at :
@@ -196,7 +196,7 @@ module _ (site : Site) (number : ℕ) (deed : Deed) (u : Told) (asked : HasAsked
   abbrev s_then : Standing
   s_then = standing_with_news a s (news site number deed)
 
-  -- once its news are kept and its text is printed
+  -- the model once the new entries are appended and the text is printed
   abbrev v : Told
   v = after_acts (telling site number deed) u
 
@@ -206,7 +206,7 @@ module _ (site : Site) (number : ℕ) (deed : Deed) (u : Told) (asked : HasAsked
   v_board : BoardAsked site deed.asks v
   v_board = board_kept site deed.asks u v (acts_device (telling site number deed) (told_off s a (deed_pieces site deed) (deed_text site deed)) u) asked.board
 
-  -- once the records are cleared
+  -- the model once the records are cleared
   abbrev w : Told
   w = after_cleared site number deed v
 
@@ -227,7 +227,7 @@ module _ (site : Site) (number : ℕ) (deed : Deed) (u : Told) (asked : HasAsked
     slow = ap (λ (x : Told). x.volatile.slow) (after_printed (deed_done number deed) w) ∙ ((calls_keep (cleared site number deed v) v).slow ∙ v_board.slow);
   })
 
-  -- what stops leave
+  -- what crashes leave
   module _ (Accepted : Type 0) (accepted : Accepted) (out : List ℕ) (here : u.here.out ≡ out) where
     v_out : v.here.out ≡ out ++ c.text
     v_out = told_out s a (deed_pieces site deed) (deed_text site deed) u ∙ ap (λ text. text ++ deed_text site deed) here
@@ -256,7 +256,7 @@ module _ (site : Site) (number : ℕ) (deed : Deed) (u : Told) (asked : HasAsked
       ]
     ]
 
--- with what it reads before
+-- With the disk calls of a reading before.
 module _ (site : Site) (number : ℕ) (deed : Deed) (u : Told) (asked : HasAsked site deed.asks u) (taken : deed_refusal site number deed ≡ None) (fit : IsFit (deed_pieces site deed)) (acts : List Act) (are : AreFollowingIn site number deed u acts) where
   abbrev read : Told
   read = after_acts (map calls are.0) u

@@ -1,4 +1,4 @@
--- What calls of the device leave as it is, and the clears of a poll.
+-- What device calls leave unchanged, and the clears of a poll.
 use Rattle.std.proofs.Common.{◌≡◌, ◌∙◌, ℕ, Bool, true, false, ◌&&◌, not, nat_eq, List, [], ◌∷◌, length, Some, refl, sym, ap, subst, inl, inr, arith}
 use Rattle.std.proofs.lemmas.Bool.Decides.{nat_tests}
 use Rattle.erst_store.specs.DeviceLaws.{IsDevice}
@@ -18,12 +18,12 @@ use Rattle.ras_records.proofs.FirstLemmas.{none_readable}
 
 -- ---- calls of the device
 
--- they are no disk calls
+-- Device calls are no disk calls.
 pub device_calls_none : (made : List DeviceCall) → calls_of (acts_of made) ≡ []
 device_calls_none [] = refl
 device_calls_none (call ∷ made) = device_calls_none made
 
--- what a stop leaves meanwhile differs in the store alone
+-- A crash during a device call leaves everything but the store unchanged.
 same_leaves : (here left : Left) → left ≡ here → left ≡ record here { store = left.store }
 same_leaves here left same = same ∙ ap (λ (s : List Stored). record here { store = s }) (sym (ap (λ (l : Left). l.store) same))
 
@@ -43,9 +43,9 @@ calls_leave (call ∷ made) t left (inl torn) = call_leaves call t left torn
 calls_leave (call ∷ made) t left (inr later) =
     calls_leave made (after_device call t) left later ∙ ap (λ (l : Left). record l { store = left.store }) (calls_keep (call ∷ []) t).here
 
--- ---- the clears of a poll that is not refused
+-- ---- the clears of an accepted poll
 
--- a device that is too slow is one of a store with no record
+-- A poll over a device that is too slow is accepted only if the store has no record.
 not_both : (free some : Bool) → (not free && not some) ≡ false → free ≡ false → some ≡ true
 not_both free true is slow = refl
 not_both true false is slow = absurd cc

@@ -1,4 +1,4 @@
--- An event that wants the driver of the record store finds one, and leaves what is told of the machine.
+-- An event that needs the driver of the record store finds a driver, and doesn't change the machine description.
 use Rattle.std.proofs.Common.{◌≡◌, Some, Result, Ok, IfOk, refl, subst}
 use Rattle.ras_script.specs.declared.line.Line.{Line}
 use Rattle.ras_script.specs.declared.line.Line.TheVariants as asks
@@ -9,7 +9,7 @@ use Rattle.ras_events.specs.Events.{Lists, event_of, settings_after}
 use Rattle.ras_events.proofs.AskedLemmas.{Asks, of-line}
 use Rattle.ras_events.specs.Deeds.{Asking, deed_of, polls, saves}
 
--- what is asked for is done by the driver
+-- The driver does what the deed asks of the store.
 abbrev pub IsByDriver : Asking → Type 0
 IsByDriver (saves r) = Unit {0}
 IsByDriver (polls seconds) = Unit {0}
@@ -23,7 +23,7 @@ pub record Driven (settings : Settings) (line : Line) : Type 0 where
   pub driver : settings.driver ≡ Some lists
   pub same : settings_after settings line ≡ settings
 
--- what an event wants of the settings under which its line is taken
+-- An event that needs the driver has it in the settings under which its line is processed.
 abbrev Wants : Settings → Line → Result Event LineRefusal → Type 0
 Wants settings line event = IfOk event (λ asked. IsDriven asked → Driven settings line)
 

@@ -1,4 +1,4 @@
--- A line that drives the record store has admitted lists by which it does.
+-- A line that drives the record store has admitted lists for it.
 use Rattle.std.proofs.Common.{◌≡◌, [], Option, Result, Ok, Err, ap, refl, subst, sym, unwrap_or}
 use Rattle.erst_interp.specs.Admission.{IsAdmittedTable}
 use Rattle.erst_interp.proofs.AdmitsLemmas.{is-admitted}
@@ -11,7 +11,7 @@ use Rattle.ras_run.specs.Places.{Place, deed_at}
 use Rattle.ras_run.specs.Sites.{IsDrivable, Site, driving_lists}
 use Rattle.ras_run.proofs.DrivenLemmas.{IsByDriver, driven}
 
--- the lists are admitted, if it is asked for what is done by them
+-- The lists are admitted, if a deed needs the driver.
 abbrev pub Drives : Lists → Asking → Type 0
 Drives lists asks = IsByDriver asks → IsAdmittedTable lists
 

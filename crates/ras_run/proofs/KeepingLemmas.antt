@@ -1,4 +1,4 @@
--- Making room for a link and then appending it, as one.
+-- Making room for a link and then appending it, as one operation.
 use Rattle.std.proofs.Common.{◌≡◌, ◌<◌, ◌+◌, Bool, true, false, List, [], ◌∷◌, ◌++◌, ℕ, length, Option, None, Some, Err, IfSome, IsTrue, ◌&&◌, if◌then◌else◌, inl, inr, ap, refl, subst, sym, ◌∙◌, arith, length-append}
 use Rattle.std.proofs.lemmas.Bool.Decides.{nat_tests}
 use Rattle.board_core.specs.declared.board.FileNo.{FileNo}
@@ -31,7 +31,7 @@ use Rattle.ras_run.specs.declared.refused.KeepRefused.TheVariants.{Full, Disk, N
 use Rattle.ras_run.specs.Keeping.{CanMake, Keeping, KeepsLedger, Stands, after_keeping, keeping_acts, lacks_room, keep_refused_end, room_acts, standing_kept, standing_roomy}
 use Rattle.ras_run.specs.KeepingCalls.{IsKeeping, write_through_calls}
 
--- ---- what a journal's place says of its files
+-- ---- what a journal's position says about its files
 
 gate_of : (standing : Standing) (account : State) (left : Left) → IsAt standing account left → standing.length < length (file_in standing.file left)
 gate_of standing account left at =
@@ -64,7 +64,7 @@ on_disk_if false shut standing account link = (tt, (tt, tt))
 on_disk_if true true standing account link = (tt, (tt, (tt, (tt, tt))))
 on_disk_if true false standing account link = (tt, (tt, (tt, (tt, (tt, tt)))))
 
--- all are acts of the disk
+-- All of these acts are acts of the disk.
 pub keeping_on_disk : (standing : Standing) (account : State) (link : List ℕ) → AreOnDisk (keeping_acts standing account link)
 keeping_on_disk standing account link = on_disk_if (needs_switch standing link) standing.shut standing account link
 
@@ -88,14 +88,14 @@ roomy_at : (standing : Standing) (account : State) (link : List ℕ) (t : Told) 
     → IsAt (standing_roomy standing account link) account (after_acts (room_acts standing account link) t).here
 roomy_at standing account link t can at = roomy_at_if (needs_switch standing link) standing account t can at
 
--- the gate lies in the file
+-- The gate lies in the file.
 pub roomy_gate : (standing : Standing) (account : State) (link : List ℕ) (a b : Option Told) (clock : Clock) → CanMake standing account link → Stands standing account a clock → Steps (after_acts (room_acts standing account link)) a b
     → IfSome b (λ t. (standing_roomy standing account link).length < length (file_of (standing_roomy standing account link).file t))
 roomy_gate standing account link None b clock can stands told = rw told tt
 roomy_gate standing account link (Some t) b clock can stands told =
     rw told (gate_of (standing_roomy standing account link) account (after_acts (room_acts standing account link) t).here (roomy_at standing account link t can stands.at))
 
--- ---- what stops leave, and what the files hold then
+-- ---- what crashes leave, and what the files contain afterwards
 
 room_leaves : (due : Bool) (standing : Standing) (account : State) (t : Told) (left : Left) → (IsTrue due → CanSwitch standing account) → IsAt standing account t.here → Moment (if due then switch_acts standing account else []) t left → Recovers account left
 room_leaves true standing account t left can at switching = (switch_leaves standing account t left (can refl) at switching).recovers
@@ -122,7 +122,7 @@ keeping_ends standing account entries link t can not links at =
     subst (λ (u : Told). IsAt (standing_with s link) (account_after_all account entries) u.here) (sym (after-append room (append_acts s link) t))
     (append_ends s account entries link (after_acts room t) (roomy standing account link not) links (roomy_at standing account link t can at))
 
--- ---- how many links the files have then
+-- ---- how many links the files have afterwards
 
 roomy_links : (due : Bool) (standing : Standing) (account : State) (link : List ℕ) → needs_switch standing link ≡ due → (if due then switched standing account else standing).links < 256
 roomy_links true standing account link is = omega arith

@@ -1,4 +1,4 @@
--- No file that stands has more than 256 links at a moment of a line, or once it is done.
+-- No valid file has more than 256 links at any point of a line, or once it is done.
 use Rattle.std.proofs.Common.{◌≡◌, ◌∙◌, ℕ, false, List, [], ◌∷◌, ◌++◌, map, None, refl, sym, ap, subst, inl, inr}
 use Rattle.board_core.specs.Doing.{Act, DeviceCall, Moment, after_acts, calls}
 use Rattle.board_core.specs.Stop.{Begins, InOut, Left}
@@ -37,11 +37,11 @@ use Rattle.ras_run.proofs.MadeLemmas.{is_not, links, parts}
 use Rattle.ras_run.proofs.PrintActLemmas.{can_make, reading_here, told_is}
 use Rattle.ras_run.proofs.ReopenLemmas.{reading_moment}
 
--- the same files
+-- Equal files have equally many links.
 pub few_same : (here left : Left) → left.file0 ≡ here.file0 → left.file1 ≡ here.file1 → HasFewLinks here → HasFewLinks left
 few_same here left zero one few = record { zero = subst AreLinksFew (sym zero) few.zero; one = subst AreLinksFew (sym one) few.one }
 
--- over a print
+-- during a print
 pub print_few : (text : List ℕ) (t : Told) (left : Left) → HasFewLinks t.here → Moment (print_acts text) t left → HasFewLinks left
 print_few text t left few moment =
     let by : InOut (Begins text) t.here left = print_moment text t left moment in
@@ -50,7 +50,7 @@ print_few text t left few moment =
 pub printed_few : (text : List ℕ) (t : Told) → HasFewLinks t.here → HasFewLinks (after_acts (print_acts text) t).here
 printed_few text t few = subst (λ (u : Told). HasFewLinks u.here) (sym (after_printed text t)) (few_same t.here (after_print text t).here refl refl few)
 
--- over calls of the device
+-- during device calls
 stored_few : (here left : Left) → left ≡ record here { store = left.store } → HasFewLinks here → HasFewLinks left
 stored_few here left is few = few_same here left (ap (λ (l : Left). l.file0) is) (ap (λ (l : Left). l.file1) is) few
 
@@ -60,14 +60,14 @@ device_few made t left few moment = stored_few t.here left (calls_leave made t l
 kept_few : (t u : Told) → KeepsButDevice t u → HasFewLinks t.here → HasFewLinks u.here
 kept_few t u keeps few = stored_few t.here u.here keeps.here few
 
--- over what a line asks
+-- during the first device calls of a line
 pub asking_few : (place : Place) (t : Told) → HasFewLinks t.here → (left : Left) → Moment (asking_acts place t) t left → HasFewLinks left
 asking_few place t few left moment = device_few (asking_calls (driving_lists place.0) (deed_at place).asks t) t left few moment
 
 asked_few : (place : Place) (t : Told) → HasFewLinks t.here → HasFewLinks (after_asked place t).here
 asked_few place t few = kept_few t (after_asked place t) (calls_keep (asking_calls (driving_lists place.0) (deed_at place).asks t) t) few
 
--- ---- over what is made of a line
+-- ---- during the acts for a line's pieces
 
 module _ (a : State) (s : Standing) (u : Told) (account : IsAccount a) (at : IsAt s a u.here) (few : HasFewLinks u.here) (made : List Piece) (room : has_no_room_for a s (entries_in made) ≡ false) (fit : IsFit made) where
   abbrev news : List Entry
@@ -96,7 +96,7 @@ module _ (a : State) (s : Standing) (u : Told) (account : IsAccount a) (at : IsA
   news_done : HasFewLinks (after_acts (news_acts s a news) u).here
   news_done = link_done news refl lacks_not
 
-  -- a deed, whatever it prints and clears
+  -- during a deed, whatever it prints and clears
   module _ (text done : List ℕ) (clears : Told → List DeviceCall) where
     abbrev telling : List Act
     telling = telling_acts a s made text
@@ -136,7 +136,7 @@ module _ (a : State) (s : Standing) (u : Told) (account : IsAccount a) (at : IsA
         subst (λ (x : Told). HasFewLinks x.here) (sym (after-append telling (acts_of (clears v) ++ print_acts done) u ∙ after-append (acts_of (clears v)) (print_acts done) v))
         (printed_few done w cleared_few)
 
--- with what it reads of the journal before
+-- during a deed with the disk calls of a reading before
 module _ (site : Site) (number : ℕ) (deed : Deed) (u : Told) (asked : HasAsked site deed.asks u) (few : HasFewLinks u.here) (taken : deed_refusal site number deed ≡ None) (fit : IsFit (deed_pieces site deed)) (acts : List Act)
     (are : AreFollowingIn site number deed u acts) where
   abbrev read : Told
@@ -167,7 +167,7 @@ module _ (site : Site) (number : ℕ) (deed : Deed) (u : Told) (asked : HasAsked
       (subst (λ (x : Told). HasFewLinks x.here) (sym (after-append (map calls are.0) (deed_acts site number deed read) u))
       (done_few site.account site.standing read read_has.account read_has.at read_few (deed_pieces site deed) room fit (deed_text site deed) (deed_done number deed) clears))
 
--- ---- over a line that is accepted
+-- ---- during an accepted line
 
 module _ (place : Place) (t : Told) (holds : HoldsAt place.0 t) (can : CanAsk (event_at place) t) (few : HasFewLinks t.here) (acts : List Act) (are : AreLineActs place t acts) (accepted : IsAccepted place) where
   abbrev site : Site

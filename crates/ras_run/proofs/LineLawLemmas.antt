@@ -1,4 +1,4 @@
--- What the acts of a line at its place come to.
+-- What the acts of a line at its place lead to.
 use Rattle.std.proofs.Common.{◌≡◌, ◌∙◌, ◌⊎◌, ℕ, Bool, true, false, if◌then◌else◌, List, [], ◌++◌, Option, None, Some, Result, Ok, Err, refl, sym, ap, subst, inl, inr}
 use Rattle.board_core.specs.declared.board.DiskCall.{DiskCall}
 use Rattle.board_core.specs.Doing.{Act, Moment, after_acts, calls_of}
@@ -34,9 +34,9 @@ use Rattle.ras_run.proofs.MadeLemmas.{account_made}
 use Rattle.ras_run.proofs.PrintActLemmas.{calls_both}
 use Rattle.ras_run.proofs.StoreLemmas.{full_with, refused_with}
 
--- ---- whatever the board tells
+-- ---- over any model of the board
 
--- what is told once a line has asked
+-- the model after a line's first device calls
 abbrev pub after_asked : Place → Told → Told
 after_asked place t = after_acts (asking_acts place t) t
 
@@ -69,7 +69,7 @@ module _ (place : Place) (t : Told) (acts : List Act) (accepted : IsAccepted pla
       ∙ (follow_out place.0 place.1.0 (deed_at place) (after_asked place t) are.rest (event_acts place t acts are accepted.taken)
       ∙ ap (λ out. out ++ output_at place) (ap (λ (l : Left). l.out) (calls_keep (asking_calls (driving_lists place.0) (deed_at place).asks t) t).here))
 
--- ---- over a board that holds what its site says
+-- ---- over the files and the record store of the line's site
 
 site_holds : (site : Site) (t : Told) → HoldsAt site t → HasAsked site nothing t
 site_holds site t holds = record {
@@ -78,9 +78,9 @@ site_holds site t holds = record {
   board = record { store = holds.board.store; slow = holds.board.slow; clear = tt };
 }
 
--- ---- of a line that is refused
+-- ---- a rejected line
 
--- the store that it leaves, if it leaves the store or is too late
+-- the store after a rejected line: unchanged, or with the record of a device that was too late
 left_refused : (exit : Exit) (event : Result Event LineRefusal) (store : List Stored) → stored_by event store ≡ store → stored_by event store ≡ refused_store exit event store
 left_refused ErstBusy event store same = refl
 left_refused exit event store same = same
@@ -114,7 +114,7 @@ line_still place exit t acts refused can holds are =
     ∙ (asked_here place.0 t (site_holds place.0 t holds) (deed_at place).asks (place_drives place holds.drivable) can
     ∙ ap (λ (rs : List Stored). record t.here { store = rs }) (refused_is place exit (event_at place) refused)))
 
--- ---- of a line that is accepted, once it has asked
+-- ---- an accepted line, after its first device calls
 
 pub deed_taken : (site : Site) (number : ℕ) (event : Result Event LineRefusal) → site_refusal site number event ≡ None → deed_refusal site number (deed_of event) ≡ None
 deed_taken site number (Ok event) none = none

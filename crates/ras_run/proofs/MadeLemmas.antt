@@ -1,4 +1,4 @@
--- What is made of a line, if there is room for it: what its news come to, and what stops leave.
+-- The pieces of a line, if there is room for them: what their new entries lead to, and what crashes leave.
 use Rattle.std.proofs.Common.{◌≡◌, ◌∙◌, ℕ, Bool, true, false, ◌||◌, List, [], ◌∷◌, None, Some, IsTrue, ◌⊎◌, inl, inr, refl, sym, subst, if◌then◌else◌, arith}
 use Rattle.std.proofs.lemmas.Bool.Decides.{nat_tests}
 use Rattle.board_core.specs.Doing.{Moment, after_acts}
@@ -34,7 +34,7 @@ use Rattle.ras_run.proofs.NewsLemmas.{fit_news}
 use Rattle.ras_run.proofs.PrintActLemmas.{can_make, news_off, news_out, told_is}
 use Rattle.ras_run.proofs.StandsLemmas.{print_at}
 
--- ---- news that there is room for
+-- ---- new entries that there is room for
 
 within_room : (n : Numbers) → are_past n ≡ false → AreWithin n
 within_room n is = record { names = grind (arith, nat_tests); entries = grind (arith, nat_tests); total = grind (arith, nat_tests) }
@@ -50,7 +50,7 @@ pub none_if : (b : Bool) → (if b then Some Full else None) ≡ None → b ≡ 
 none_if true is = absurd cc
 none_if false is = refl
 
--- ---- an account that has room for what is made
+-- ---- an account that has room for the pieces
 
 module _ (a : State) (s : Standing) (account : IsAccount a) (made : List Piece) (room : has_no_room_for a s (entries_in made) ≡ false) (fit : IsFit made) where
   abbrev pub news : List Entry
@@ -81,7 +81,7 @@ module _ (a : State) (s : Standing) (account : IsAccount a) (made : List Piece) 
     within = subst (StaysWithin a) is stays;
   }
 
-  -- ---- over files that hold it
+  -- ---- over files that contain this account
 
   module _ (u : Told) (at : IsAt s a u.here) where
     kept_at : (list : List Entry) → news ≡ list → lacks_room_for a s list ≡ false → IsAt (standing_with_news a s list) (account_after_all a list) (after_acts (news_acts s a list) u).here
@@ -100,7 +100,7 @@ module _ (a : State) (s : Standing) (account : IsAccount a) (made : List Piece) 
         let keeping = keeping_leaves s a (entry ∷ entries) link u left (can_make s a link account (is_not (lacks_room s a link) lacks)) (is_not (lacks_room s a link) lacks) (links entry entries is) at moment in
         (keeping.beside.out, keeping.recovers)
 
-    -- ---- and its text is printed
+    -- ---- the text is printed then
 
     abbrev kept : Told
     kept = after_acts (news_acts s a news) u
@@ -108,7 +108,7 @@ module _ (a : State) (s : Standing) (account : IsAccount a) (made : List Piece) 
     pub told_at : (text : List ℕ) → IsAt made_standing made_account (after_acts (telling_acts a s made text) u).here
     told_at text = subst (λ (v : Told). IsAt made_standing made_account v.here) (sym (told_is s a made text u)) (print_at text made_standing made_account kept news_at)
 
-    -- what stops leave meanwhile, of a line that goes so
+    -- What crashes leave meanwhile is one of the line's stages.
     module _ (Accepted : Type 0) (accepted : Accepted) (c : Course) (out : List ℕ) (before : c.before ≡ a) (after : c.after ≡ made_account) (store : u.here.store ≡ c.stored) (here : u.here.out ≡ out) where
       news_store : kept.here.store ≡ c.stored
       news_store = (acts_device (news_acts s a news) (news_off s a news) u).store ∙ store

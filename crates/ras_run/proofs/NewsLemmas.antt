@@ -1,4 +1,4 @@
--- The news of an event, kept in the journal and counted.
+-- The new entries of an event, appended to the journal and counted.
 use Rattle.std.proofs.Common.{◌≡◌, ◌≤◌, List, [], ◌∷◌, length, All, Option, None, Some, IfSome, refl, ap, arith}
 use Rattle.std.proofs.lemmas.List.Elements.{All-from_recursion, recursion_from_All}
 use Rattle.std.specs.List.{AllByRecursion}
@@ -22,7 +22,7 @@ use Rattle.ras_events.proofs.NewsLemmas.{few_news, short_news, valid_news}
 use Rattle.ras_run.specs.LineActs.{news_acts}
 use Rattle.ras_run.specs.Taking.{CanBeKept}
 
--- ---- of news the link is that of its entries
+-- ---- the link of new entries
 
 pub acts_of : (s : Standing) (a : State) (news : News) → CanBeKept news → keeping_acts s a news.link ≡ news_acts s a news.entries.items
 acts_of s a news can = by news.entries.items can.can.payload.some can.bytes
@@ -34,7 +34,7 @@ acts_of s a news can = by news.entries.items can.can.payload.some can.bytes
 pub links_of : (a : State) (news : News) → CanBeKept news → StaysWithin a news.entries.items → Links a news.entries.items news.link
 links_of a news can within = record { can = can.can; bytes = can.bytes; within = within }
 
--- ---- the news of an event that is fit can be kept
+-- ---- the new entries of an event that can be done can be appended
 
 each_held : (entries : List Entry) → AllByRecursion IsValidEntry entries → AllByRecursion (IsEntryOf Two) entries
 each_held [] all = tt
@@ -51,7 +51,7 @@ can_link entries some few valid short = record {
   fits = omega arith;
 }
 
--- so can news that are found in what is made
+-- The new entries found among an event's pieces can be appended too.
 pub fit_news : (a : State) (made : List Piece) (news : List Entry) → news ≡ fresh_entries_in a (entries_in made) → 1 ≤ length news → IsFit made → CanLink Two news
 fit_news a made news is some fit =
     can_link news some (few_news a (entries_in made) news MOST_LINK_ENTRIES is fit.few) (valid_news a (entries_in made) news is fit.valid)

@@ -1,4 +1,4 @@
--- What an opening tells of a journal that stands.
+-- What an opening returns for a journal whose files are valid.
 use Rattle.std.proofs.Common.{◌≡◌, ℕ, ◌≤◌, List, Option, None, Some, ap, sym, subst, ◌∙◌, inl, inr}
 use Rattle.erst_store.specs.Store.{Stored}
 use Rattle.board_core.specs.Clock.{Clock}
@@ -16,7 +16,7 @@ use Rattle.ras_exit.specs.Endings.{OnAnswer}
 use Rattle.ras_exit.specs.declared.exit.Exit.{Exit}
 use Rattle.ras_run.specs.Taking.{unopened_exit}
 
--- what is left from a moment on is left from earlier ones on
+-- What a crash may leave since a moment, it may also leave since an earlier moment.
 abbrev pub CountsEarlier : Clock → Type 0
 CountsEarlier clock = (s t : ℕ) (left : Left) → s ≤ t → clock.may_leave_since t left → clock.may_leave_since s left
 
@@ -36,7 +36,7 @@ here_kept s a t u told old before opened =
     ∙ (ap (λ (records : List Stored). record u.here { file0 = t.here.file0; file1 = t.here.file1; store = records }) opened.store
     ∙ ap (λ text. record t.here { out = text }) opened.text))
 
--- files that are refused
+-- files that reject a run
 pub refused_so : (why : OpenRefused) (exit : Exit) (P : Type 0) → exit ≡ unopened_exit why → OnRefusal why P → OnAnswer exit P
 refused_so why exit P is holds = subst (λ (e : Exit). OnAnswer e P) (sym is) (by why holds)
   where

@@ -1,4 +1,4 @@
--- Lines at their places, cut in two, and the site after lines.
+-- Joined lists of lines at their places, and the site after lines.
 use Rattle.std.proofs.Common.{◌≡◌, ◌∙◌, List, [], ◌∷◌, ◌++◌, refl, sym, ap}
 use Rattle.std.specs.List.{fold}
 use Rattle.std.proofs.lemmas.List.Sums.{fold-append}

@@ -1,4 +1,4 @@
--- A poll of the record store: what it keeps, prints and clears of what it found, and how it ends.
+-- A poll of the record store: what it appends, prints and clears, and how it ends.
 use Rattle.std.proofs.Common.{◌≡◌, ◌∙◌, ℕ, Bool, false, IsTrue, List, ◌++◌, Option, None, Some, Result, Ok, Err, IfSome, OnErr, sym, ap, subst, if◌then◌else◌}
 use Rattle.std.specs.Option.{option_map}
 use Rattle.board_core.specs.Cause.{print_call}
@@ -45,9 +45,9 @@ use Rattle.ras_run.proofs.CountLemmas.{counted_still, counts_unless, cut_short, 
 use Rattle.ras_run.proofs.PrintActLemmas.{told_off}
 use Rattle.ras_run.proofs.StandsLemmas.{same_told}
 
--- ---- a look
+-- ---- listing and reading the records
 
--- what is told once acts went well
+-- the model after acts that succeeded
 told_behind : (acts : List Act) (old new : Seen) (t : Told) → GoesWell acts old new → old.told ≡ Some t → new.told ≡ Some (after_acts acts t)
 told_behind acts old new t well at = well.told ∙ ap (option_map (after_acts acts)) at
 
@@ -55,7 +55,7 @@ module _ (lists : Lists) (t : Told) (admitted : IsAdmittedTable lists) (device :
   abbrev asked : List Act
   asked = acts_of (look_calls lists t)
 
-  -- some of its calls, from the first on
+  -- A beginning of the calls only reads.
   begun_still : (done later : List DeviceCall) → done ++ later ≡ look_calls lists t → AreStill (acts_of done) t
   begun_still done later is = record {
     here = look_begun lists admitted t device done later is;
@@ -66,7 +66,7 @@ module _ (lists : Lists) (t : Told) (admitted : IsAdmittedTable lists) (device :
   look_still : AreStill asked t
   look_still = record { here = look_here lists admitted t device; moments = look_moment lists admitted t device }
 
-  -- what it found can be cleared
+  -- The readable records that were found can be cleared.
   can_behind : (rows : List Row) (seconds : ℕ) (looked : Looked) → HasLooked rows seconds t looked → CanClear lists looked.readable.items (after_acts asked t)
   can_behind rows seconds looked has =
       let here : (after_acts asked t).here ≡ t.here = look_here lists admitted t device in
@@ -93,14 +93,14 @@ module _ (t : Told) (old : Ledger) (made : List Piece) where
   not_looked rows seconds (EndedWith code) looks new = absurd looks
   not_looked rows seconds NoMemory looks new = tt
 
-  -- a device that is fast enough leaves but the room
+  -- Over a device that is fast enough, only a lack of room rejects the poll.
   by_room : is_busy_for_reads t.volatile.slow t.here.store ≡ false → (full : Bool) → has_no_room_for old.account.state old.journal.standing (entries_in made) ≡ full → refusal ≡ (if full then Some Full else None)
   by_room free full is =
       ap (λ b. if b then Some ErstBusy else counting_refusal old.account.state old.journal.standing (entries_in made)) free ∙ ap (λ b. if b then Some Full else None) is
 
--- ---- what was found is kept, and then told and cleared
+-- ---- what was found is appended, printed and cleared
 
--- what a look found, over a board that tells
+-- what a look found, over a modelled board
 pub record Found {X : Type 0} (see : X → Seen) (lists : Lists) (rows : List Row) (seconds : ℕ) (t : Told) (looked : Looked) (x y : X) : Type 0 where
   pub admitted : IsAdmittedTable lists
   pub device : IsDevice (device_of t)
@@ -110,7 +110,7 @@ pub record Found {X : Type 0} (see : X → Seen) (lists : Lists) (rows : List Ro
   pub does : GoesWell (acts_of (look_calls lists t)) (see x) (see y)
 
 module _ {X : Type 0} (see : X → Seen) (lists : Lists) (rows : List Row) (seconds : ℕ) (x y : X) (device : IfSome (see x).told (λ t. IsDevice (device_of t))) where
-  -- the look was refused
+  -- The driver refused to list or read the records.
   pub not_found : (why : DriverRefused) → (IsAdmittedTable lists → IfSome (see x).told (λ t. Looks rows seconds (Err why) t)) → IfSome (see x).told (λ t. DoesListing {T = Looked} see (look_calls lists t) (Err why) x y)
       → (number : ℕ) (old : Ledger) (t : Told) → (see x).told ≡ Some t → IsAdmittedTable lists → DoesPoll see lists t number (polled rows seconds t.here.store) (readable_ids t.here.store) (Err (driver_exit why)) old old x y
   not_found why looks does number old t at admitted =
@@ -139,7 +139,7 @@ module _ {X : Type 0} {see : X → Seen} {lists : Lists} {rows : List Row} {seco
   abbrev s : Standing
   s = old.journal.standing
 
-  -- what is told once it has asked
+  -- the model after the look
   abbrev u : Told
   u = after_acts (acts_of (look_calls lists t)) t
 
@@ -160,11 +160,11 @@ module _ {X : Type 0} {see : X → Seen} {lists : Lists} {rows : List Row} {seco
             (ends_unless looked.made old new f.fit (refusal t old looked.made) room result counts) f.does does,
       ))
 
-  -- what was found isn't kept, or not printed
+  -- The new entries of what was found aren't appended, or their text isn't printed.
   pub not_told : (exit : Exit) (new : Ledger) (z : X) → CountsMade {T = Unit {0}} looked.made (Err exit) old new → Does see told (end_of (ending_of exit)) y z → Ends (Err exit) new z
   not_told exit new z counts does = poll_ends (Err exit) new z counts (does_first see told _ (end_of (ending_of exit)) y z (end_is_bad (ending_of exit)) does)
 
-  -- it is, and then its records are cleared
+  -- The new entries are appended, the text is printed, and then the records are cleared.
   module _ (new : Ledger) (w : X) (counts : CountsMade {T = Unit {0}} looked.made (Ok tt) old new) (well : GoesWell told (see y) (see w)) (ids : List ℕ) (are : ids ≡ looked.readable.items) where
     at_y : (see y).told ≡ Some u
     at_y = told_behind (acts_of (look_calls lists t)) (see x) (see y) t f.does f.at

@@ -1,4 +1,4 @@
--- The acts of a line, one sort after another: what they leave, and which calls they are.
+-- The acts of a line, one kind after another: what they leave, and which disk calls they are.
 use Rattle.std.proofs.Common.{◌≡◌, ℕ, ◌+◌, ◌≤◌, Bool, true, false, ◌&&◌, List, [], ◌∷◌, ◌++◌, length, map, IsTrue, refl, sym, ap, ◌∙◌, append_assoc, append-nil, length-append, arith}
 use Rattle.std.proofs.lemmas.Bool.Decides.{nat_tests}
 use Rattle.std.specs.List.{flat_map}
@@ -32,7 +32,7 @@ use Rattle.ras_run.specs.LineActs.{news_acts, telling_acts}
 use Rattle.ras_run.specs.LineCalls.{AreNewsCalls}
 use Rattle.ras_recover.proofs.OpeningActsLemmas.{after_reading}
 
--- ---- the device is left alone
+-- ---- acts that leave the device alone
 
 pub off_both : (xs ys : List Act) → AreOffDevice xs → AreOffDevice ys → AreOffDevice (xs ++ ys)
 off_both [] ys one two = two
@@ -83,7 +83,7 @@ news_out s a (entry ∷ entries) t = acts_out _ (keeping_on_disk s a (link_bytes
 pub reading_here : (made : List DiskCall) (t : Told) → (after_acts (map calls made) t).here ≡ t.here
 reading_here made t = ap (λ (u : Told). u.here) (after_reading made t)
 
--- ---- the news and the text of what is made
+-- ---- the new entries and the text of pieces
 
 pub told_is : (s : Standing) (a : State) (made : List Piece) (text : List ℕ) (t : Told)
     → after_acts (telling_acts a s made text) t ≡ after_acts (print_acts text) (after_acts (news_acts s a (fresh_entries_in a (entries_in made))) t)

@@ -11,7 +11,7 @@ if_some (Some t) P Q leads holds = leads t holds
 
 -- ---- how it ends
 
--- only printing failed
+-- Only printing failed.
 pub printed_ends : (refusal : Option Exit) (result : Result (Unit {0}) Exit) → OnErr result (result ≡ Err PrintFault) → refusal ≡ None → EndsUnless refusal result
 printed_ends refusal (Ok over) fault none = none
 printed_ends refusal (Err exit) fault none = subst (λ (r : Result (Unit {0}) Exit). EndsUnless refusal r) (sym fault) tt

@@ -1,4 +1,4 @@
--- A journal that is opened again in the midst of a run: what is told of it, as acts.
+-- Opening the journal again during a run: the clauses of an opening, as acts.
 use Rattle.std.proofs.Common.{◌≡◌, ℕ, ◌≤◌, List, [], ◌∷◌, ◌++◌, length, map, Option, None, Some, Result, Ok, Err, OnErr, IfErr, refl, sym, ap, subst, ◌∙◌, inl, inr, append_assoc, arith}
 use Rattle.std.specs.Option.{option_map}
 use Rattle.std.proofs.lemmas.List.{map-append}
@@ -43,7 +43,7 @@ reading_moment (call ∷ made) t left (inr later) = reading_moment made (with_ca
 reading_still : (made : List DiskCall) (t : Told) → AreStill (map calls made) t
 reading_still made t = record { here = ap (λ (u : Told). u.here) (after_reading made t); moments = reading_moment made t }
 
--- ---- what is told of an opening over a journal that stands
+-- ---- the clauses of an opening, over a journal whose files are valid
 
 pub opened_at : (a b : Option Told) (t : Told) → a ≡ Some t → Relates AfterOpening a b → (u : Told) × (b ≡ Some u) × AfterOpening t u
 opened_at a b t is tells = by b refl (subst (λ (o : Option Told). Relates AfterOpening o b) is tells)
@@ -72,7 +72,7 @@ module _ {X : Type 0} (see : X → Seen) (x y : X) (s : Standing) (a : State) (t
   some_reading : (whole : List DiskCall) → IsRecoveryOf t.here whole → 1 ≤ length whole
   some_reading whole recovers = rw recovers.recovery.is (omega arith)
 
-  -- a stop meanwhile leaves what one before left
+  -- A crash meanwhile leaves what a crash before left.
   adds_any : (P : Left → Type 0) → Adds P (see x).clock (see y).clock
   adds_any P = record {
     later = stops.later;
@@ -106,7 +106,7 @@ module _ {X : Type 0} (see : X → Seen) (x y : X) (s : Standing) (a : State) (t
     abbrev prints : List Act
     prints = event_prints (standing_lines a) number
 
-    -- memory ran out: a beginning was read
+    -- Memory ran out after a beginning of the reading.
     pub read_some : (see y).faults ≡ (see x).faults → DoesSome see (map calls begun.whole ++ prints) x y
     read_some same = record {
       done = map calls opened.calls.made;
@@ -132,7 +132,7 @@ module _ {X : Type 0} (see : X → Seen) (x y : X) (s : Standing) (a : State) (t
     read_broke disk_call is raises = read_failed raises
     read_broke kind is raises = absurd cc
 
-    -- it was refused, which a journal that stands is not, or a call failed, or memory ran out
+    -- A call failed, or memory ran out. The opening can't be rejected, because the journal's files are valid.
     pub not_reopened : (exit : Exit) → OpensLedger (Err exit) (recovered t.here.file0 t.here.file1) → BoardCause exit (see x).faults (see y).faults → DoesReopening see a number t.here (Err exit) x y
     not_reopened exit opens cause = (map calls begun.whole ++ prints, (begun.whole, reading, refl), by (ending_of exit) opens cause)
       where
@@ -145,7 +145,7 @@ module _ {X : Type 0} (see : X → Seen) (x y : X) (s : Standing) (a : State) (t
     pub starved_reopening : (see y).faults ≡ (see x).faults → DoesReopening see a number t.here (Err NoMemory) x y
     starved_reopening same = (map calls begun.whole ++ prints, (begun.whole, reading, refl), read_some same)
 
-    -- all was read, and then printed
+    -- The whole journal was read, and then the text was printed.
     pub reopened : (made : List DiskCall) → u.disk_calls ≡ t.disk_calls ++ made → IsRecoveryOf t.here made → (see y).faults ≡ (see x).faults → (printed : Result (Unit {0}) Exit) (text done : List ℕ) (z : X)
         → text ≡ standing_lines a → done ≡ done_line number → Does see (print_acts text ++ print_acts done) (one_end print_call printed) y z → OnErr printed (printed ≡ Err PrintFault)
         → DoesReopening see a number t.here printed x z
@@ -163,13 +163,13 @@ module _ {X : Type 0} (see : X → Seen) (x y : X) (s : Standing) (a : State) (t
         no_answer (Ok over) f = tt
         no_answer (Err exit) f = λ is. absurd (let same : exit ≡ PrintFault = cc in let ended : ending_of exit ≡ faulted print_call = ap ending_of same in cc)
 
--- an opening that went well read all that counts
+-- An opening that returned Ok read all that decides the result.
 pub all_read : (s : Standing) (t u : Told) (a b : Option Told) → position_of t.here.file0 t.here.file1 ≡ Some s → a ≡ Some t → b ≡ Some u → Relates MakesOpening a b
     → (made : List DiskCall) × (u.disk_calls ≡ t.disk_calls ++ made) × IsRecoveryOf t.here made
 all_read s t u a b stands at now opens =
     let makes : Makes (IsOpening t.here) t u = rw (at, now) at (calls_opened a b opens) in
     (makes.made, makes.listed, standing_recovers s t.here makes.made stands makes.are)
 
--- files hold one account
+-- Two files give at most one account.
 pub account_held : (file0 file1 : List ℕ) (a b : State) → recovered file0 file1 ≡ Ok a → recovered file0 file1 ≡ Ok b → a ≡ b
 account_held file0 file1 a b one two = cc

@@ -1,4 +1,4 @@
--- How the saving of a record ends.
+-- How saving a record ends.
 use Rattle.std.proofs.Common.{◌≡◌, ◌∙◌, ℕ, ◌||◌, Bool, true, false, List, Option, None, Some, Ok, Err, refl, sym, ap, if◌then◌else◌}
 use Rattle.erst_store.specs.declared.device.CommandStatus.TheVariants.{Success, NotEnoughSpace}
 use Rattle.erst_store.specs.Store.{is_full_for, is_reserved}
@@ -13,7 +13,7 @@ use Rattle.ras_exit.specs.declared.exit.Exit.TheVariants.{ErstBusy, ErstStatus}
 use Rattle.ras_run.specs.Status.{driver_exit, saving_refusal}
 use Rattle.ras_run.specs.Taking.{EndsUnless}
 
--- the exit of an answer of the driver, if it refuses
+-- the exit for an answer of the driver, unless the answer is a success
 abbrev refusal_by : Answer → Option Exit
 refusal_by (Ok done) = None
 refusal_by (Err why) = Some (driver_exit why)

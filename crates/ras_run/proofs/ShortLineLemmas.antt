@@ -1,4 +1,4 @@
--- What is read of a line that isn't too long is short.
+-- A line that isn't too long is parsed to a short line.
 use Rattle.std.proofs.Common.{ℕ, ◌≤◌, List, length, subst, arith, Result, Ok, IfOk}
 use Rattle.ras_script.specs.declared.line.ErrorReport.TheVariants.{Bank, Block, Boot}
 use Rattle.ras_script.specs.declared.line.Line.{Line}

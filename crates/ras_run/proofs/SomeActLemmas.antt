@@ -1,4 +1,4 @@
--- A line has acts, whatever a board tells.
+-- A line has acts, over any model of the board.
 use Rattle.std.proofs.Common.{ℕ, List, [], ◌++◌, map, Option, None, Some, Result, refl}
 use Rattle.board_core.specs.declared.board.DiskCall.{DiskCall}
 use Rattle.board_core.specs.Doing.{Act, after_acts, calls}

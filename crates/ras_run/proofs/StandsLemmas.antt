@@ -1,4 +1,4 @@
--- Where a ledger stands over acts that went well.
+-- The ledger agrees with the board's model again after acts that succeeded.
 use Rattle.std.proofs.Common.{◌≡◌, ℕ, List, [], ◌∷◌, ◌++◌, Option, None, Some, IfSome, Result, Ok, Err, OnOk, refl, sym, subst}
 use Rattle.board_core.specs.Cause.{print_call}
 use Rattle.board_core.specs.Clock.{Clock}
@@ -56,7 +56,7 @@ prints_at one two s a t at =
     subst (λ (u : Told). IsAt s a u.here) (sym (after-append (print_acts one) (print_acts two) t))
     (print_at two s a (after_acts (print_acts one) t) (print_at one s a t at))
 
--- the next line can be taken after prints
+-- The run can process the next line after prints.
 pub ready_printed : {X : Type 0} (see : X → Seen) (one two : List ℕ) (ledger : Ledger) (result : Result (Unit {0}) Exit) (x y : X) → IsReady ledger (see x) → Does see (print_acts one ++ print_acts two) (part_end result) x y
     → OnOk result (IsReady ledger (see y))
 ready_printed see one two ledger (Ok over) x y ready does = record {

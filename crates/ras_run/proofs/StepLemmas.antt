@@ -1,4 +1,4 @@
--- A line that was read, taken at the site that the run has come to.
+-- A line that was read, processed at the run's site.
 use Rattle.std.proofs.Common.{◌≡◌, ◌∙◌, ℕ, Bool, if◌then◌else◌, List, [], ◌∷◌, ◌++◌, unwrap_or, Option, None, Some, Result, Ok, Err, IfErr, append_assoc, append-nil, refl, sym, ap, subst, inl, inr}
 use Rattle.board_core.specs.Cause.{Kind, print_call}
 use Rattle.board_core.specs.Told.{Told, device_of}
@@ -48,7 +48,7 @@ use Rattle.ras_run.proofs.CountLemmas.{counts_unless, ends_unless}
 use Rattle.ras_run.proofs.DrivenLemmas.{IsDriven, driven}
 use Rattle.ras_run.proofs.SomeActLemmas.{some_in}
 
--- ---- an event that asks, and then does the rest
+-- ---- an event that makes device calls, and then does the rest
 
 module _ (site : Site) (number : ℕ) (event : Result Event LineRefusal) (t : Told) where
   abbrev asked : List Act
@@ -64,7 +64,7 @@ module _ (site : Site) (number : ℕ) (event : Result Event LineRefusal) (t : To
   taken_acts rest accepted follow = record { rest = rest; is = refl; follow = subst (λ (r : Option Exit). AreUnlessRefused r Follows rest) (sym accepted.taken) follow }
 
   module _ {X : Type 0} (see : X → Seen) (x y : X) where
-    -- a beginning of what it asks by was done, and then memory ran out
+    -- A beginning of the device calls was made, and then memory ran out.
     some_does : DoesSome see asked x y → (acts : List Act) × AreActsIn site number event t acts × DoesSome see acts x y
     some_does some =
         let all = some_in site number event t in (
@@ -79,7 +79,7 @@ module _ (site : Site) (number : ℕ) (event : Result Event LineRefusal) (t : To
           },
         )
 
-    -- it asked, and did the rest if it is accepted
+    -- The device calls were made, and then the rest of the acts if the event is accepted.
     asking_does : (Can Accepted : Type 0) → (Can → CanAsk event t) → (Accepted → IsAcceptedIn site number event) → (rest : List Act) → Follows rest → (told : Settings) (result : Result (Unit {0}) Exit) (run : Run)
         → TakesIn site number told event result run → DoesAsking see Can Accepted asked rest result x y → TakesEvent see site number told event t result run x y
     asking_does Can Accepted can accept rest follow told (Ok done) run takes does = record { takes = takes; does = (asked ++ rest, (can does.0, taken_acts rest takes.0 follow), does.1) }
@@ -95,7 +95,7 @@ module _ (site : Site) (number : ℕ) (event : Result Event LineRefusal) (t : To
           | inr first ↦ (asked, (can d.0, inr (first.0, refl)), subst (λ (kind : Kind). Breaks kind asked (see x) (see y)) (sym first.0) first.1)
         ]
 
-    -- it asked for nothing, and did the rest
+    -- The event makes no device calls, and did the rest of the acts.
     then_does : asked ≡ [] → (Accepted : Type 0) → (Accepted → IsAcceptedIn site number event) → CanAsk event t → (rest : List Act) → Follows rest → (told : Settings) (result : Result (Unit {0}) Exit) (run : Run)
         → TakesIn site number told event result run → IfErr result (λ exit. EndsBy (Unit {0}) (Unit {0}) (λ kind. Accepted) (ending_of exit)) → Does see rest (part_end result) x y → TakesEvent see site number told event t result run x y
     then_does none Accepted accept can rest follow told result run takes ends does =
@@ -112,7 +112,7 @@ module _ {X : Type 0} (see : X → Seen) (site : Site) (number : ℕ) (t : Told)
       let acts = some_in site number event t in
       record { takes = tt; does = (acts.0, acts.1, record { done = []; later = acts.0; splits = refl; still = λ u is. none_still u; does = does_nothing see x }) }
 
-  -- what the line asks for is refused
+  -- The line's event is rejected.
   pub refused_in : (why : LineRefusal) → TakesEvent see site number told (Err why) t (Err (refused_exit number why)) run x x
   refused_in (Bad why) = record { takes = refl; does = ([], (tt, refused_acts site number (Err (Bad why)) t (refused_exit number (Bad why)) refl), does_nothing see x) }
   refused_in NoTable = record { takes = refl; does = ([], (tt, refused_acts site number (Err NoTable) t (refused_exit number NoTable) refl), does_nothing see x) }
@@ -123,13 +123,13 @@ refused_for see old run number t x line why is =
     subst (λ (e : Result Event LineRefusal). TakesEvent see (site_of old t) number (settings_after old.settings line) e t (Err (refused_exit number why)) run x x) (sym is)
     (refused_in see (site_of old t) number t run x (settings_after old.settings line) why)
 
--- the line can't be read
+-- The line can't be read.
 pub unread : {X : Type 0} (see : X → Seen) (site : Site) (number : ℕ) (t : Told) (run : Run) (x : X) (read : Result Line LineRefused) (why : LineRefused) → GivesLine (Err why) read
     → TakesLine see (site, (number, read)) t (Err (unread_exit number why)) run x x
 unread see site number t run x read refused.NoMemory is = starved_in see site number t run x (settings_read site.settings (number, read)) (event_at (site, (number, read)))
 unread see site number t run x read why is = rw is (refused_in see site number t run x site.settings (Bad (reason.Line why)))
 
--- ---- an event that makes nothing
+-- ---- an event without pieces
 
 module _ (site : Site) (number : ℕ) (event : Result Event LineRefusal) (none : made_in site.settings.topology site.store event ≡ []) where
   accepted_quiet : site_refusal site number event ≡ None → IsAcceptedIn site number event
@@ -147,7 +147,7 @@ module _ (site : Site) (number : ℕ) (event : Result Event LineRefusal) (none :
   )
   takes_quiet run account standing (Err exit) ends = ends
 
--- one whose pieces are counted, under settings at its site
+-- An event whose pieces are counted, under the settings after its line.
 takes_made : (old run : Run) (t : Told) (number : ℕ) (event : Result Event LineRefusal) (settings : Settings) (result : Result (Unit {0}) Exit)
     → CountsPolled (site_refusal (record (site_of old t) { settings = settings }) number event) (made_in settings.topology t.here.store event) result old.ledger run.ledger
     → TakesIn (record (site_of old t) { settings = settings }) number run.settings event result run
@@ -162,37 +162,37 @@ print_ends : (result : Result (Unit {0}) Exit) → IfErr result IsPrintExit → 
 print_ends (Ok over) ends = tt
 print_ends (Err exit) ends = ends_weaker ⊥ (Unit {0}) (Unit {0}) (Unit {0}) (OnlyFault print_call) (λ kind. Unit {0}) exit (λ never. tt) (λ memory over. over) (λ kind print. tt) ends
 
--- ---- an event by the driver of the record store
+-- ---- an event that needs the driver of the record store
 
 module _ (old run : Run) (line : Line) (settings : run.settings ≡ settings_after old.settings line) (event : Event) (is : event_of old.settings line ≡ Ok event) (needs : IsDriven event) where
-  -- its line tells nothing of the machine
+  -- The event's line doesn't change the machine description.
   settings_stay : run.settings ≡ old.settings
   settings_stay = settings ∙ (driven old.settings line event is needs).same
 
   pub still_drivable : IsDrivable old.settings.driver → IsDrivable run.settings.driver
   still_drivable = subst (λ (s : Settings). IsDrivable s.driver) (sym settings_stay)
 
-  -- there is a driver
+  -- There is a driver.
   pub not_undriven : run.settings.driver ≡ None → ⊥
   not_undriven none =
       let found = driven old.settings line event is needs in
       let some : run.settings.driver ≡ Some found.lists = ap (λ (s : Settings). s.driver) settings_stay ∙ found.driver in
       cc
 
--- ---- each event, from what a run had at hand to what it has then
+-- ---- each event, from the run before it to the run after it
 
 module _ {X : Type 0} (see : X → Seen) (old run : Run) (number : ℕ) (t : Told) (result : Result (Unit {0}) Exit) (x y : X) where
   abbrev site : Site
   site = site_of old t
 
-  -- the same, once the line told of the machine
+  -- the site, with the machine description after the line
   abbrev behind : Site
   behind = record site { settings = run.settings }
 
   abbrev pub Takes : Settings → Result Event LineRefusal → Type 0
   Takes told event = TakesEvent see site number told event t result run x y
 
-  -- what a line asks for
+  -- the event of a line
   module _ (line : Line) (settings : run.settings ≡ settings_after old.settings line) (event : Result Event LineRefusal) (is : event_of old.settings line ≡ event) where
     pub asked_for : Takes run.settings event → Takes (settings_after old.settings line) (event_of old.settings line)
     asked_for takes = subst (λ (told : Settings). Takes told (event_of old.settings line)) settings (subst (λ (e : Result Event LineRefusal). Takes run.settings e) (sym is) takes)

@@ -1,4 +1,4 @@
--- What a put and a saving do to the record store.
+-- What puts and saves do to the record store.
 use Rattle.std.proofs.Common.{◌≡◌, ℕ, Bool, true, false, nat_lt, if◌then◌else◌, List, length, Option, None, Some, refl, ap}
 use Rattle.std.specs.Option.{option_map_or}
 use Rattle.erst_store.specs.Device.{with_put}
@@ -19,7 +19,7 @@ module _ (id : ℕ) (bytes : List ℕ) (t : Told) where
       by None = refl
       by (Some why) = refl
 
--- ---- a store that takes no record
+-- ---- a store that refuses the record
 
 module _ (id : ℕ) (bytes : List ℕ) (store : List Stored) where
   pub refused_with : (why : PutRefused) → refusal_of id bytes store ≡ Some why → store_with id bytes store ≡ store

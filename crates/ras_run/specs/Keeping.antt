@@ -30,7 +30,7 @@ standing_roomy standing account link =
 abbrev pub standing_kept : Standing → State → List ℕ → Standing
 standing_kept standing account link = standing_with (standing_roomy standing account link) link
 
--- a switch is due, and there is no room for it
+-- Whether a switch is due and has no room.
 abbrev pub lacks_room : Standing → State → List ℕ → Bool
 lacks_room standing account link = needs_switch standing link && has_no_room standing account link
 
@@ -57,27 +57,27 @@ keep_refused_end NoMemory = gave_up
 abbrev pub keep_end : Result (Unit {0}) KeepRefused → Ended
 keep_end result = ended_by keep_refused_end result
 
--- a switch that is due can be made
+-- A switch that is due can be made.
 abbrev pub CanMake : Standing → State → List ℕ → Type 0
 CanMake standing account link = IsTrue (needs_switch standing link) → CanSwitch standing account
 
--- A link of these entries can be kept, over what the model says: a switch that is due can be made, there is room, and the
--- journal is as the standing and the account say.
+-- A link of these entries can be appended: a switch that is due can be made and has room, and the files contain the
+-- account at this position.
 pub record CanKeep (standing : Standing) (account : State) (entries : List Entry) (link : List ℕ) (t : Told) : Type 0 where
   pub can : CanMake standing account link
   pub room : ¬ IsTrue (lacks_room standing account link)
   pub links : Links account entries link
   pub at : IsAt standing account t.here
 
--- What becomes of the ledger, if this is the journal's next position: the account doesn't change, and if a disk call
--- failed the journal has failed.
+-- What appending a link does to the ledger, if this is the journal's next position: the account doesn't change, and if
+-- a disk call failed the journal has failed.
 abbrev pub KeepsLedger : Result (Unit {0}) KeepRefused → Standing → Ledger → Ledger → Type 0
 KeepsLedger (Ok done) next old new =
     (new.account ≡ old.account) × (new.journal ≡ record { standing = next; failed = false })
 KeepsLedger (Err Disk) next old new = (new.account ≡ old.account) × (new.journal.failed ≡ true)
 KeepsLedger (Err why) next old new = new ≡ old
 
--- the printed text and the record store are as they were
+-- The printed text and the record store are unchanged.
 pub record SameBeside (here left : Left) : Type 0 where
   pub out : left.out ≡ here.out
   pub store : left.store ≡ here.store

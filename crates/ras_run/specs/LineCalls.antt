@@ -1,4 +1,4 @@
--- The disk calls of a line, once all of them are made.
+-- The disk calls of a line that has made all of them.
 use Rattle.std.specs.Prelude.{◌≡◌, List, [], ◌∷◌}
 use Rattle.board_core.specs.declared.board.DiskCall.{DiskCall}
 use Rattle.board_core.specs.Stop.{Left}
@@ -13,13 +13,13 @@ use Rattle.ras_events.specs.Making.{entries_in}
 use Rattle.ras_run.specs.Places.{Place, deed_at}
 use Rattle.ras_run.specs.Sites.{Site}
 
--- news are kept as one link, and no news need no call
+-- New entries are appended as one link; without new entries there is no call.
 abbrev pub AreNewsCalls : List Entry → List DiskCall → Type 0
 AreNewsCalls [] calls = calls ≡ []
 AreNewsCalls (entry ∷ entries) calls = IsKeeping (link_bytes (entry ∷ entries)) calls
 
--- A journal that is opened again is recovered, and all that counts of the files here is read. Otherwise the news are
--- kept.
+-- A line that opens the journal again recovers it, by reading all that decides the result. Any other line appends its
+-- new entries.
 abbrev pub AreCallsBy : Asking → Left → List Entry → List DiskCall → Type 0
 AreCallsBy reopens here news calls = IsRecoveryOf here calls
 AreCallsBy asks here news calls = AreNewsCalls news calls

@@ -1,4 +1,4 @@
--- The journal's position once what is news of entries is kept, and whether there is room for it.
+-- The journal's position once the new ones of some entries are appended, and whether there is room for them.
 use Rattle.std.specs.Prelude.{Bool, false, ◌||◌, List, [], ◌∷◌}
 use Rattle.ras_facts.specs.declared.entry.Entry.{Entry}
 use Rattle.ras_account.specs.Account.{State}
@@ -7,18 +7,18 @@ use Rattle.journal_format.specs.Links.{link_bytes}
 use Rattle.ras_journal.specs.declared.standing.Standing.{Standing}
 use Rattle.ras_run.specs.Keeping.{lacks_room, standing_kept}
 
--- the position once an event's new entries are kept after an account: they are one link, and without new entries
--- there is no link
+-- The journal's position once an account's new entries are appended: they are one link, and without new entries there
+-- is no link.
 abbrev pub standing_with_news : State → Standing → List Entry → Standing
 standing_with_news account standing [] = standing
 standing_with_news account standing (entry ∷ entries) = standing_kept standing account (link_bytes (entry ∷ entries))
 
--- whether the journal has no room for the link of an event's news
+-- Whether the journal has no room for the link of an event's new entries.
 abbrev pub lacks_room_for : State → Standing → List Entry → Bool
 lacks_room_for account standing [] = false
 lacks_room_for account standing (entry ∷ entries) = lacks_room standing account (link_bytes (entry ∷ entries))
 
--- whether an account has no room for what is news of entries, or the journal has none
+-- Whether the account or the journal has no room for the new ones of some entries.
 abbrev pub has_no_room_for : State → Standing → List Entry → Bool
 has_no_room_for account standing entries =
     are_past (numbers_with account entries)

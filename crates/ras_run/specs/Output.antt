@@ -1,4 +1,4 @@
--- What a line has printed at its place: its text, and its done line.
+-- What a line prints at its place: its text, and its done line.
 use Rattle.std.specs.Prelude.{List, ◌++◌, ℕ}
 use Rattle.ras_run.specs.Deeds.{deed_done, deed_text}
 use Rattle.ras_run.specs.Places.{Place, deed_at}
@@ -6,7 +6,7 @@ use Rattle.ras_run.specs.Places.{Place, deed_at}
 abbrev pub text_at : Place → List ℕ
 text_at place = deed_text place.0 (deed_at place)
 
--- a line that asks for nothing, and one that is refused, has no done line
+-- A line that asks for nothing has no done line, nor has a rejected line.
 abbrev pub done_at : Place → List ℕ
 done_at place = deed_done place.1.0 (deed_at place)
 

@@ -1,4 +1,4 @@
--- The lines of a script at their places: each is taken at the site that the run has come to.
+-- The lines of a script at their places. Each line is processed at the site of the run before it.
 use Rattle.std.specs.Prelude.{List, [], ◌∷◌, Result}
 use Rattle.std.specs.List.{flat_map, fold}
 use Rattle.ras_facts.specs.declared.entry.Entry.{Entry}
@@ -13,23 +13,23 @@ use Rattle.ras_run.specs.Deeds.{deed_pieces, store_done}
 use Rattle.ras_run.specs.News.{standing_with_news}
 use Rattle.ras_run.specs.Sites.{Site, Start, first_site}
 
--- a line at the site where it is taken
+-- A line, and the site before it.
 abbrev pub Place : Type 0
 Place = Site × NumberedLine
 
--- what it asks for there, or why it is refused; and what it does
+-- The event that the line asks for, or why it is rejected; and the event's deed.
 abbrev pub event_at : Place → Result Event LineRefusal
 event_at place = event_read place.0.settings place.1
 
 abbrev pub deed_at : Place → Deed
 deed_at place = deed_of (event_at place)
 
--- the entries that it reports
+-- the entries that the line reports
 abbrev pub entries_at : Place → List Entry
 entries_at place = entries_in (deed_pieces place.0 (deed_at place))
 
--- The site after it: it may describe the machine, what it reports is counted and its news are kept, and it may change
--- the record store.
+-- The site after a line: the line may describe the machine, its report is counted, its new entries are appended, and
+-- it may change the record store.
 abbrev pub site_after : Site → NumberedLine → Site
 site_after site read = record {
   settings = settings_read site.settings read;
@@ -39,12 +39,12 @@ site_after site read = record {
   slow = site.slow;
 }
 
--- lines at their places, from a site on
+-- the places of lines, from a site on
 abbrev pub places_from : Site → List NumberedLine → List Place
 places_from site [] = []
 places_from site (read ∷ reads) = (site, read) ∷ places_from (site_after site read) reads
 
--- the site after lines, and after the first lines of a run
+-- the site after lines, and the site after the first lines of a run
 abbrev pub site_along : Site → List NumberedLine → Site
 site_along site reads = fold site_after site reads
 

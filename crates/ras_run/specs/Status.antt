@@ -1,4 +1,4 @@
--- Where a run ends among its lines: at the first that is refused.
+-- Where a run ends among its lines: at the first rejected line.
 use Rattle.std.specs.Prelude.{ℕ, List, [], ◌∷◌, Option, None, Some, Result, Ok, Err, is_some, if◌then◌else◌}
 use Rattle.std.specs.Option.{option_map}
 use Rattle.erst_store.specs.declared.store.PutRefused.{PutRefused}
@@ -24,45 +24,45 @@ use Rattle.ras_run.specs.Sites.{Site}
 use Rattle.ras_events.specs.Deeds.{Asking, Deed, deed_of, polls, puts, saves}
 use Rattle.ras_run.specs.Deeds.{deed_counts}
 
--- how a run ends at a line that is refused by what it asks for
+-- how a run ends at a line whose request is invalid, or that needs the record store without an admitted table
 abbrev pub refused_exit : ℕ → LineRefusal → Exit
 refused_exit number (Bad why) = BadLine number why
 refused_exit number NoTable = ErstRefused number
 
--- how it ends at a put that the record store refuses
+-- how a run ends at a put that the record store refuses
 abbrev pub put_refusal : ℕ → Option PutRefused → Option Exit
 put_refusal number refusal = option_map (λ why. BadLine number (reason.Put why)) refusal
 
--- How it ends at a record that can't be saved under an identifier: the device is too slow, or the
--- store is full and has none under it.
+-- How a run ends at a record that can't be saved under an identifier: the device is too slow, or the store is full and
+-- has no record under it.
 abbrev pub saving_refusal : ℕ → ℕ → List Stored → Option Exit
 saving_refusal slow id store =
     if is_free_in_time slow then (if is_full_for id store then Some (ErstStatus 1) else None) else Some ErstBusy
 
--- how it ends at an operation that the driver of the record store refuses
+-- how a run ends at an operation that the driver of the record store refuses
 abbrev pub driver_exit : DriverRefused → Exit
 driver_exit driver.Register = RegisterFault
 driver_exit driver.Busy = ErstBusy
 driver_exit (driver.Status code) = ErstStatus code
 driver_exit driver.NoMemory = NoMemory
 
--- how it ends at entries for which there is no room
+-- how a run ends at entries for which there is no room
 abbrev pub counting_refusal : State → Standing → List Entry → Option Exit
 counting_refusal account standing entries = if has_no_room_for account standing entries then Some Full else None
 
--- How it ends at a poll: the device is too slow for the store's records to be read, or there is no
--- room for what is made of them.
+-- How a run ends at a poll: the device is too slow for reading the store's records, or there is no room for the
+-- entries.
 abbrev pub polling_refusal : ℕ → List Stored → State → Standing → List Entry → Option Exit
 polling_refusal slow store account standing entries =
     if is_busy_for_reads slow store then Some ErstBusy else counting_refusal account standing entries
 
--- how it ends at a deed for whose pieces there is no room
+-- how a run ends at a deed for whose pieces there is no room
 abbrev pub room_refusal : Site → Option (List Piece) → Option Exit
 room_refusal site None = None
 room_refusal site (Some made) = counting_refusal site.account site.standing (entries_in made)
 
--- Why a deed is refused at a site, if it is: the record store refuses the record that it puts or saves, or its device
--- is too slow; or there is no room for what it counts.
+-- Why a deed is rejected at a site: the record store refuses the record that the deed puts or saves, or its device is
+-- too slow; or there is no room for what the deed counts.
 abbrev pub asking_refusal : Site → ℕ → Asking → Option Exit → Option Exit
 asking_refusal site number (puts r) room = put_refusal number (refusal_of r.id r.bytes site.store)
 asking_refusal site number (saves r) room = saving_refusal site.slow r.id site.store
@@ -72,16 +72,17 @@ asking_refusal site number asks room = room
 abbrev pub deed_refusal : Site → ℕ → Deed → Option Exit
 deed_refusal site number deed = asking_refusal site number deed.asks (room_refusal site (deed_counts site deed))
 
--- Why an event is refused there: its line can't be read, or what it asks for can't be done; or its deed is refused.
+-- Why an event is rejected at a site: its request is invalid, or needs the record store without an admitted table; or
+-- its deed is rejected.
 abbrev pub site_refusal : Site → ℕ → Result Event LineRefusal → Option Exit
 site_refusal site number (Err why) = Some (refused_exit number why)
 site_refusal site number (Ok event) = deed_refusal site number (deed_of (Ok event))
 
--- why a line is refused at its place
+-- why a line is rejected at its place
 abbrev pub refusal_at : Place → Option Exit
 refusal_at place = site_refusal place.0 place.1.0 (event_at place)
 
--- the places that stand before the first refused one
+-- the places before the first rejected line
 abbrev pub places_before_refusal : List Place → List Place
 places_before_refusal [] = []
 places_before_refusal (place ∷ places) = if is_some (refusal_at place) then [] else place ∷ places_before_refusal places

@@ -1,4 +1,4 @@
--- How far a run has come, and how each part of it ends.
+-- How each part of a run ends, and what it has done by then.
 use Rattle.std.specs.Prelude.{◌≡◌, ℕ, Bool, true, false, List, ◌++◌, IfErr, IfOk, IfSome, Option, None, Some, Result, Ok, Err, ⊤}
 use Rattle.board_core.specs.Cause.{Faults, disk_call, print_call}
 use Rattle.board_core.specs.Doing.{Seen}
@@ -37,31 +37,31 @@ use Rattle.ras_run.specs.Places.{Place, event_at}
 use Rattle.ras_run.specs.Sites.{Site}
 use Rattle.ras_run.specs.Status.{site_refusal}
 
--- the printed text grew by a piece
+-- The printed text grew by a piece.
 abbrev pub Prints : List ℕ → Told → Told → Type 0
 Prints piece old new = new.here.out ≡ old.here.out ++ piece
 
--- if the board has a model, it agrees with the ledger
+-- If the board has a model, its files contain the ledger's account at the journal's position.
 abbrev pub LedgerStands : Ledger → Seen → Type 0
 LedgerStands ledger seen = Stands ledger.journal.standing ledger.account.state seen.told seen.clock
 
--- it stands, and its journal hasn't failed: the next line can be taken
+-- The files contain the ledger's account, and its journal hasn't failed: the run can process the next line.
 pub record IsReady (ledger : Ledger) (seen : Seen) : Type 0 where
   pub usable : ledger.journal.failed ≡ false
   pub stands : LedgerStands ledger seen
 
--- an exit of a part that prints: printing failed, or memory ran out
+-- The exit of a part that only prints: printing failed, or memory ran out.
 abbrev pub IsPrintExit : Exit → Type 0
 IsPrintExit exit = EndsBy ⊥ ⊤ (OnlyFault print_call) (ending_of exit)
 
 -- ---- a line
 
--- an event is accepted at a site: it isn't refused, and what it makes can be one link
+-- An event is accepted at a site: it isn't rejected, and its new entries can be one link.
 pub record IsAcceptedIn (site : Site) (number : ℕ) (event : Result Event LineRefusal) : Type 0 where
   pub taken : site_refusal site number event ≡ None
   pub fit : IsFit (made_in site.settings.topology site.store event)
 
--- What a run has at hand once the machine is described so, and these pieces are counted after a site.
+-- A run has this machine description, and has counted these pieces after a site.
 pub record HasCounted (site : Site) (told : Settings) (made : List Piece) (run : Run) : Type 0 where
   pub settings : run.settings ≡ told
   pub account : run.ledger.account.state ≡ account_after_all site.account (entries_in made)
@@ -69,41 +69,41 @@ pub record HasCounted (site : Site) (told : Settings) (made : List Piece) (run :
       run.ledger.journal.standing
       ≡ standing_with_news site.account site.standing (fresh_entries_in site.account (entries_in made))
 
--- An event was taken at a site, or the run ends there: it is refused, or memory ran out, or a call of
--- the board failed.
+-- An event was processed at a site, or the run ends there: the event is rejected, memory ran out, or a call of the
+-- board failed.
 abbrev pub TakesIn : Site → ℕ → Settings → Result Event LineRefusal → Result (Unit {0}) Exit → Run → Type 0
 TakesIn site number told event (Ok done) run =
     IsAcceptedIn site number event × HasCounted site told (made_in site.settings.topology site.store event) run
 TakesIn site number told event (Err exit) run = EndsBy (site_refusal site number event ≡ Some exit) ⊤ AnyFault (ending_of exit)
 
--- the same of a line at its place
+-- The event of a line is accepted at the line's place.
 abbrev pub IsAccepted : Place → Type 0
 IsAccepted place = IsAcceptedIn place.0 place.1.0 (event_at place)
 
--- what a crash leaves while a line is taken over this
+-- what a crash leaves while a line is processed over these files
 abbrev pub LineMoment : Place → Left → Left → Type 0
 LineMoment place here left = CourseMoment (IsAccepted place) (course_at place) here.out left
 
 -- ---- a record that is put or saved
 
--- A part is done exactly if it isn't refused.
+-- A part of a run succeeds only if nothing rejects it.
 abbrev pub EndsUnless : Option Exit → Result (Unit {0}) Exit → Type 0
 EndsUnless refusal (Ok done) = refusal ≡ None
 EndsUnless refusal (Err exit) = EndsBy (refusal ≡ Some exit) ⊤ AnyFault (ending_of exit)
 
--- ---- the news of an event, kept in the journal and counted
+-- ---- the new entries of an event, appended to the journal and counted
 
--- the link of news can be kept
+-- The link of these new entries is one that the journal can contain.
 pub record CanBeKept (news : News) : Type 0 where
   pub bytes : news.link ≡ link_bytes news.entries.items
   pub can : CanLink Two news.entries.items
 
--- A part of a run ends so, if it finds this lack of room: at Full exactly if there is no room. Memory
--- runs out anyway, and a call of the board fails only if there is room.
+-- How a part of a run ends that may lack room: with Full if and only if there is no room. Memory may run out in either
+-- case, and a call of the board fails only if there is room.
 abbrev pub EndsByRoom : Bool → Exit → Type 0
 EndsByRoom lacks exit = EndsBy ((exit ≡ Full) × (lacks ≡ true)) ⊤ (λ kind. lacks ≡ false) (ending_of exit)
 
--- What becomes of a ledger: news were counted, if there is room for them.
+-- What becomes of a ledger: new entries are counted, if there is room for them.
 abbrev pub CountsNews : List Entry → Result (Unit {0}) Exit → Ledger → Ledger → Type 0
 CountsNews news (Ok done) old new =
     (lacks_room_for old.account.state old.journal.standing news ≡ false)
@@ -111,7 +111,7 @@ CountsNews news (Ok done) old new =
     × (new.journal.standing ≡ standing_with_news old.account.state old.journal.standing news)
 CountsNews news (Err exit) old new = EndsByRoom (lacks_room_for old.account.state old.journal.standing news) exit
 
--- The same of what is made of a line: what is news of it was counted.
+-- What becomes of a ledger: the new entries among the pieces of a line are counted, if there is room for them.
 abbrev pub CountsMade : {T : Type 0} → List Piece → Result T Exit → Ledger → Ledger → Type 0
 CountsMade made (Ok done) old new =
     (has_no_room_for old.account.state old.journal.standing (entries_in made) ≡ false)
@@ -120,7 +120,7 @@ CountsMade made (Ok done) old new =
     ≡ standing_with_news old.account.state old.journal.standing (fresh_entries_in old.account.state (entries_in made)))
 CountsMade made (Err exit) old new = EndsByRoom (has_no_room_for old.account.state old.journal.standing (entries_in made)) exit
 
--- The same of what a poll makes, if the poll isn't refused.
+-- What becomes of a ledger: the new entries among the pieces of a poll are counted, unless the poll is rejected.
 abbrev pub CountsPolled : Option Exit → List Piece → Result (Unit {0}) Exit → Ledger → Ledger → Type 0
 CountsPolled refusal made (Ok done) old new =
     (refusal ≡ None) × IsFit made
@@ -131,32 +131,32 @@ CountsPolled refusal made (Err exit) old new = EndsBy (refusal ≡ Some exit) �
 
 -- ---- an opening
 
--- how a run ends whose journal can't be opened
+-- how a run ends if its journal can't be opened
 abbrev pub unopened_exit : OpenRefused → Exit
 unopened_exit opening.Disk = DiskFault
 unopened_exit opening.TooLong = TooLong
 unopened_exit (opening.Damaged file place) = Damaged file place
 unopened_exit opening.NoMemory = NoMemory
 
--- What is opened is what the files hold, or why they are refused.
+-- An opening returns the account that the files contain, or the exit for files that reject a run.
 abbrev pub OpensLedger : Result Ledger Exit → Result State Refusal → Type 0
 OpensLedger (Ok ledger) held = held ≡ Ok ledger.account.state
 OpensLedger (Err exit) held = EndsBy (refusal_exit held ≡ Some exit) ⊤ (OnlyFault disk_call) (ending_of exit)
 
--- What is opened, and where it stands: as the files say. It can be written, and holds an account.
+-- An opening returns the account and the journal's position that the files contain. The journal can be written.
 pub record Opened (result : Result Ledger Exit) (told : Option Told) (now : Seen) : Type 0 where
   pub held : IfSome told (λ t. OpensLedger result (recovered t.here.file0 t.here.file1))
   pub standing : IfOk result (λ ledger. IfSome told (λ t. ledger.journal.standing ≡ standing_opened t.here.file0 t.here.file1))
   pub ready : IfOk result (λ ledger. IsReady ledger now)
   pub account : IfOk result (λ ledger. IsAccount ledger.account.state)
 
--- how it ends, and why
+-- How an opening ends, and which fault count rose.
 pub record EndsOpening (result : Result Ledger Exit) (faults faults' : Faults) : Type 0 where
   pub stop : IfErr result IsStop
   pub cause : Causes BoardCause result faults faults'
 
--- In the midst of a run the account and the standing are as they were. A journal that stands is not
--- refused.
+-- Opening the journal again during a run doesn't change the account or the position. A journal that the run has opened
+-- isn't rejected.
 abbrev pub Reopens : Result (Unit {0}) Exit → Ledger → Ledger → Type 0
 Reopens (Ok done) old new = (new.account.state ≡ old.account.state) × (new.journal.standing ≡ old.journal.standing)
 Reopens (Err exit) old new = EndsBy ⊥ ⊤ AnyFault (ending_of exit)

@@ -1,4 +1,4 @@
-//! An event that counts what was made of its line.
+//! Counts the pieces of a line's event.
 
 ghost use Rattle.std.specs.Prelude.{◌≡◌, ◌++◌, IfOk, IfSome, OnOk};
 ghost use Rattle.board_core.specs.Doing.{Does};
@@ -21,15 +21,16 @@ use ras_events::{Made, News, PrepareRefused, Prepared, count, prepare};
 use ras_exit::{Exit, print};
 use std::alloc::Global;
 
-/// Returns the done line of the event, once all but that line is done: all memory is taken first,
-/// then what is news of what was made of the line of this number is kept in the journal, then it is
-/// counted, and then the event's text is printed.
+/// Runs a line's event up to its done line, and returns that line: allocates all memory, then
+/// appends the new entries among the line's pieces to the journal, counts them, and prints the
+/// event's text.
 ///
 /// # Errors
 ///
-/// `Full` comes exactly if the account has no room for the news, or the journal none for their
-/// link. `DiskFault` and `PrintFault` come only if such a call failed. `NoMemory` comes only if
-/// memory runs out, and never after the news are kept.
+/// `Full`: if and only if the account has no room for the new entries, or the journal none for
+/// their link.
+/// `DiskFault`, `PrintFault`: only if such a call failed.
+/// `NoMemory`: only if memory runs out, and never after the new entries are appended.
 pub(crate) fn tell_made<B: Board>(
     alloc: Global,
     number: u64,
@@ -62,8 +63,8 @@ pub(crate) fn tell_made<B: Board>(
     Ok(done)
 }
 
-// Keeps in the journal what is news of an event, counts it, and puts the lines of its orders after
-// the event's text.
+// Appends an event's new entries to the journal, counts them, and appends the lines of their orders
+// to the event's text.
 fn keep<B: Board>(
     alloc: Global,
     news: Option<News>,

@@ -6,7 +6,7 @@ ghost use Rattle.ras_run.specs.Status.{driver_exit};
 use erst_driver::DriverRefused;
 use ras_exit::Exit;
 
-/// How a run ends at an operation that is refused so.
+/// Returns the exit for an operation that the driver refuses.
 pub(crate) fn driver_exit(refused: DriverRefused) -> Exit
     ensures { result ≡ driver_exit refused }
 {

@@ -1,4 +1,4 @@
-//! What keeping a link leaves.
+//! What appending a link leaves.
 ghost use Rattle.std.specs.Prelude.{ℕ, List};
 ghost use Rattle.board_core.specs.Doing.{Moment, calls_of};
 ghost use Rattle.board_core.specs.Stop.{Left};
@@ -11,7 +11,7 @@ ghost use Rattle.ras_journal.specs.declared.standing.Standing.{Standing};
 ghost use Rattle.ras_run.specs.Keeping.{CanKeep, Keeping, after_keeping, keeping_acts, standing_kept};
 ghost use Rattle.ras_run.specs.KeepingCalls.{IsKeeping};
 
-/// What keeping a link leaves, by its acts, if a switch that is due can be made and has room.
+/// The laws of the acts that append a link, if a switch that is due can be made and has room.
 pub fn keeping_laws()
     // From whatever a crash meanwhile leaves, the account is recovered without the link or with it.
     // The printed text and the record store are unchanged.
@@ -39,7 +39,7 @@ pub fn keeping_laws()
         → CanKeep standing account entries link t → HasFewLinks t.here
         → HasFewLinks (after_keeping standing account link t).here }
 
-    // The acts are at most one switch, and then the append: only WriteAt and Sync calls.
+    // The disk calls are at most one switch, and then the append: only WriteAt and Sync calls.
     ensures calls { (standing : Standing) (account : State) (link : List ℕ)
         → IsKeeping link (calls_of (keeping_acts standing account link)) }
 {}

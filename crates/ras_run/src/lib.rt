@@ -1,5 +1,5 @@
-//! The run over the journal, line by line: what a line asks for is prepared whole, kept in the
-//! journal, counted, and then printed.
+//! The run over the journal, line by line: prepares all that a line asks for, appends it to the
+//! journal, counts it, and then prints.
 #![tactic(auto)]
 
 mod counting;

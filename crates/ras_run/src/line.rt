@@ -1,4 +1,4 @@
-//! A line of a script, taken whole.
+//! Processes a line of a script.
 
 ghost use Rattle.std.specs.Prelude.{◌≡◌, ◌≤◌, List, length, None, Ok, Some};
 ghost use Rattle.std.specs.Prelude.{IfErr, MatchResult, OnOk};
@@ -33,18 +33,18 @@ use ras_script::{Line, read_line};
 use ras_texts::{done_line, push_done, push_known, standing_lines};
 use std::alloc::Global;
 
-/// Takes the line of this number: what it tells of the machine from now on, what it reports, the
-/// record that it puts into the record store or saves there, that the store is to be polled, or
-/// that the journal is to be opened again. It prints the event's text and its done line; a line
-/// without words and a comment are no event, and print nothing.
+/// Processes the line of this number: it may describe the machine, report errors, put a record into
+/// the record store or save one there, poll the store, or open the journal again. Prints the
+/// event's text and its done line; empty lines and comments are no event, and print nothing.
 ///
 /// # Errors
 ///
-/// `BadLine` and `ErstRefused` come exactly if the line is refused at its place, and `Full` exactly
-/// if there is no room for what it reports; then nothing was kept. `ErstBusy` and `ErstStatus` come
-/// exactly if the record store's device is too slow, or the store has no room for the record of a
-/// panic. `DiskFault`, `RegisterFault` and `PrintFault` come only if such a call failed, and
-/// `NoMemory` only if memory runs out.
+/// `BadLine`, `ErstRefused`: if and only if the line is rejected at its place.
+/// `Full`: if and only if there is no room for what it reports; then nothing was appended.
+/// `ErstBusy`, `ErstStatus`: if and only if the record store's device is too slow, or the store has
+/// no room for the record of a panic.
+/// `DiskFault`, `RegisterFault`, `PrintFault`: only if such a call failed.
+/// `NoMemory`: only if memory runs out.
 pub fn take_line<B: Board>(
     alloc: Global,
     number: u64,
@@ -65,14 +65,14 @@ pub fn take_line<B: Board>(
     ensures faults { Causes BoardCause result (B.seen board.old).faults (B.seen board.new).faults }
 {
     match read_line(alloc, bytes) {
-        // Most lines of a long script may be comments, so these come no further.
+        // Returns here for comments, because most lines of a long script may be comments.
         Ok(Line::Nothing) => Ok(()),
         Ok(line) => take_read(alloc, number, line, run, board),
         Err(refused) => Err(Exit::of_unread(number, refused)),
     }
 }
 
-// Takes a line of this number that was read, at the site that the run has come to.
+// Processes the line of this number, which was read, at the run's site.
 fn take_read<B: Board>(
     alloc: Global,
     number: u64,
@@ -130,7 +130,7 @@ fn take_read<B: Board>(
     }
 }
 
-// The driver of the record store, for the line of this number.
+// Returns the driver of the record store for the line of this number.
 fn driver_of(settings: &Settings, line: u64) -> Result<&Driver, Exit>
     ensures { MatchResult result (λ driver. settings.now.driver ≡ Some driver.now)
         (λ exit. (exit ≡ Exit.ErstRefused line) × (settings.now.driver ≡ None)) }
@@ -141,7 +141,7 @@ fn driver_of(settings: &Settings, line: u64) -> Result<&Driver, Exit>
     }
 }
 
-// How a run ends at the line of this number, if it is refused by what it asks for.
+// Returns the exit for the line of this number, if its event is refused.
 fn refused_exit(line: u64, refusal: LineRefusal) -> Exit
     ensures { result ≡ refused_exit line refusal }
 {
@@ -151,9 +151,9 @@ fn refused_exit(line: u64, refusal: LineRefusal) -> Exit
     }
 }
 
-// Prints what a repeat prints: the line of a name that the account knows, and the done line of the
-// event, whose line has this number. Both are put into the buffer before either is printed, and
-// the buffer keeps its room from repeat to repeat.
+// Prints the line of a name that the account knows, and the done line of the event, whose line has
+// this number. The buffer has both before either is printed, and it keeps its room from repeat to
+// repeat.
 fn end_repeat<B: Board>(
     number: u64,
     name: &Name,
@@ -174,8 +174,8 @@ fn end_repeat<B: Board>(
     print_event(line, done, board)
 }
 
-// Prints what an event prints that keeps nothing: its text, which is empty if its line told of the
-// machine alone, and its done line, by the number of the line.
+// Prints an event that appends nothing: its text, which is empty if its line only describes the
+// machine, and its done line, by the number of the line.
 fn end_event<B: Board>(alloc: Global, number: u64, text: &[u8], board: &mut B) -> Result<(), Exit>
     ensures does { Does B.seen (event_prints text.now number)
         (part_end result) board.old board.new }
@@ -187,7 +187,7 @@ fn end_event<B: Board>(alloc: Global, number: u64, text: &[u8], board: &mut B) -
     }
 }
 
-// Opens the journal again, by the line of this number, and prints the orders that stand.
+// Opens the journal again, by the line of this number, and prints the outstanding orders.
 fn reopen<B: Board>(
     alloc: Global,
     number: u64,

@@ -1,4 +1,4 @@
-//! Opening the journal, at the start of a run and if a line asks for it again.
+//! Opens the journal, at the start of a run and if a line asks for it again.
 
 ghost use Rattle.std.specs.Prelude.{◌≡◌, IfErr, Some};
 ghost use Rattle.board_core.specs.Clock.{Adds};
@@ -20,12 +20,13 @@ use ras_recover::{OpenRefused, open_journal};
 use ras_texts::standing_lines;
 use std::alloc::Global;
 
-/// Opens the journal, and makes the account of what its files hold.
+/// Opens the journal, and returns the account that its files contain.
 ///
 /// # Errors
 ///
-/// `TooLong` and `Damaged` come exactly if the files' bytes say so, `DiskFault` only if a disk call
-/// failed, and `NoMemory` only if memory runs out.
+/// `TooLong`, `Damaged`: if and only if the files' bytes say so.
+/// `DiskFault`: only if a disk call failed.
+/// `NoMemory`: only if memory runs out.
 pub fn open<B: Board>(alloc: Global, board: &mut B) -> Result<Ledger, Exit>
     ensures opens { Opened result (B.seen board.old).told (B.seen board.new) }
     ensures does { DoesOpening (λ exit. exit ≡ Exit.DiskFault) result
@@ -33,12 +34,11 @@ pub fn open<B: Board>(alloc: Global, board: &mut B) -> Result<Ledger, Exit>
     ensures stops { (t : Told) → (B.seen board.old).told ≡ Some t
         → Adds (Opening (B.seen board.old).clock t.here) (B.seen board.old).clock
         (B.seen board.new).clock }
-    // Both files are synced first. From then on a crash leaves what the board told of the files, the
-    // store and the text, or gives the empty account if no file stands.
+    // Both files are synced first. From then on a crash leaves the board's files, store and text,
+    // or gives the empty account if no file is valid.
     ensures syncs { (t : Told) → (B.seen board.old).told ≡ Some t
         → SyncsBy B.seen (OpeningSynced t.here) t result board.old board.new }
-    // If the files are refused, a crash then leaves just what the board told of them, the store and
-    // the text.
+    // If the files are rejected, a crash then leaves exactly the board's files, store and text.
     ensures refused { IfErr result
         (λ exit. OnAnswer exit ((t : Told) → (B.seen board.old).told ≡ Some t
         → RestsHere t.here (B.seen board.new).told (B.seen board.new).clock)) }
@@ -50,7 +50,7 @@ pub fn open<B: Board>(alloc: Global, board: &mut B) -> Result<Ledger, Exit>
     }
 }
 
-// How a run ends whose journal can't be opened.
+// Returns the exit for a journal that can't be opened.
 fn unopened_exit(refused: OpenRefused) -> Exit
     ensures { result ≡ unopened_exit refused }
 {
@@ -62,11 +62,12 @@ fn unopened_exit(refused: OpenRefused) -> Exit
     }
 }
 
-/// Prints the lines of the orders that stand in an account, by one call if there are some.
+/// Prints the lines of an account's outstanding orders by one call, if there are any.
 ///
 /// # Errors
 ///
-/// `PrintFault` comes only if printing failed, and `NoMemory` only if memory runs out.
+/// `PrintFault`: only if printing failed.
+/// `NoMemory`: only if memory runs out.
 pub fn print_standing<B: Board>(alloc: Global, account: &Account, board: &mut B) -> Result<(), Exit>
     ensures does { Does B.seen
         (print_acts (standing_lines account.now.state)) (part_end result) board.old board.new }

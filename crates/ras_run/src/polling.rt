@@ -22,17 +22,18 @@ use ras_exit::{Exit, print};
 use ras_records::{Looked, clear_all, look};
 use std::alloc::Global;
 
-/// Polls the record store, by the line of this number and the table that drives the store: each
-/// record is read, what the records report at this time in seconds is kept, counted and printed as
-/// by `tell_made`, the records that could be read are cleared, and then the done
-/// line is printed. All memory is taken before the news are kept.
+/// Polls the record store, by the line of this number and the table that drives the store: reads
+/// each record; appends, counts and prints the records' reports at this time in seconds, as
+/// `tell_made` does; clears the readable records; and prints the done line. All memory is allocated
+/// before the new entries are appended.
 ///
 /// # Errors
 ///
-/// `ErstBusy` comes exactly if the device is too slow and the store has a record, and `Full`
-/// exactly if there is no room for what the records report; then nothing was kept, printed or
-/// cleared. `NoMemory` comes only if memory runs out, and never after the news are kept.
-/// `DiskFault`, `RegisterFault` and `PrintFault` come only if such a call failed.
+/// `ErstBusy`: if and only if the device is too slow and the store has a record.
+/// `Full`: if and only if there is no room for what the records report. In both cases nothing was
+/// appended, printed or cleared.
+/// `NoMemory`: only if memory runs out, and never after the new entries are appended.
+/// `DiskFault`, `RegisterFault`, `PrintFault`: only if such a call failed.
 pub(crate) fn poll_store<B: Board>(
     alloc: Global,
     number: u64,

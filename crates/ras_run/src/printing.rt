@@ -8,11 +8,11 @@ ghost use Rattle.ras_exit.specs.Acts.{print_acts};
 use board_core::Board;
 use ras_exit::{Exit, print};
 
-/// Prints an event's text by one call, if there is one, and then its done line.
+/// Prints an event's text by one call, unless it is empty, and then its done line.
 ///
 /// # Errors
 ///
-/// `PrintFault` comes only if printing failed; then a beginning of both was printed.
+/// `PrintFault`: only if printing failed; then a beginning of both was printed.
 pub(crate) fn print_event<B: Board>(text: &[u8], done: &[u8], board: &mut B) -> Result<(), Exit>
     ensures does { Does B.seen (print_acts text.now ++ print_acts done.now)
         (one_end print_call result) board.old board.new }

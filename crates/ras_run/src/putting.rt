@@ -1,4 +1,4 @@
-//! A record that a line puts into the record store, or saves there.
+//! A record that a line puts into the record store or saves there.
 
 ghost use Rattle.std.specs.Prelude.{◌≡◌, ◌∷◌, [], None, Some, IfErr, IfSome, OnOk};
 ghost use Rattle.board_core.specs.Doing.{device, put};
@@ -25,14 +25,15 @@ use ras_exit::{Exit, Reason, print};
 use ras_texts::done_line;
 use std::alloc::Global;
 
-/// Puts a record into the record store from outside, by the line of this number, and then prints
-/// the done line, whose memory is taken before the put.
+/// Puts a record into the record store, by the line of this number, and prints the done line, whose
+/// memory is allocated before the put.
 ///
 /// # Errors
 ///
-/// `BadLine` comes exactly if the store refuses the record, and `NoMemory` only if memory runs out;
-/// then nothing was done. `RegisterFault` comes only if the put failed; then the record was put or
-/// wasn't. `PrintFault` comes only if printing failed, after the put.
+/// `BadLine`: if and only if the store refuses the record; then nothing was done.
+/// `NoMemory`: only if memory runs out; then nothing was done.
+/// `RegisterFault`: only if the put failed; then the record was put or wasn't.
+/// `PrintFault`: only if printing failed, after the put.
 pub(crate) fn put_record<B: Board>(
     alloc: Global,
     number: u64,
@@ -65,15 +66,15 @@ pub(crate) fn put_record<B: Board>(
 }
 
 /// Saves the record of a panic in the record store, by the line of this number and the table that
-/// drives the store, and then prints the done line, whose memory is taken before the first call.
+/// drives the store, and prints the done line, whose memory is allocated before the first call.
 ///
 /// # Errors
 ///
-/// `ErstBusy` comes if the device is too slow, and the record is in the store even so; and
-/// `ErstStatus(1)` if the store is full and has no record under its identifier. `NoMemory` comes
-/// only if memory runs out, before the first call. `RegisterFault` comes only if a call of the
-/// device failed; then the record was put or wasn't. `PrintFault` comes only if printing failed,
-/// after the record was saved.
+/// `ErstBusy`: if the device is too slow; the record is in the store anyway.
+/// `ErstStatus(1)`: if the store is full and has no record under this identifier.
+/// `NoMemory`: only if memory runs out, before the first call.
+/// `RegisterFault`: only if a call of the device failed; then the record was put or wasn't.
+/// `PrintFault`: only if printing failed, after the record was saved.
 pub(crate) fn save_record<B: Board>(
     alloc: Global,
     number: u64,

@@ -1,15 +1,15 @@
-//! What a run has at hand.
+//! What a run has between two lines.
 
 use crate::Ledger;
 use ras_events::Settings;
 
-/// What a run has at hand: what the lines told of the machine, the account with its journal, and a
+/// What a run has between two lines: the machine description, the account with its journal, and a
 /// buffer.
 #[derive(Drop)]
 pub struct Run {
     pub settings: Settings,
     pub ledger: Ledger,
-    /// What is printed of a line that keeps nothing. It is kept from line to line, so that such a
-    /// line takes no memory.
+    /// The text of a line that reports nothing new. The buffer is reused, so that such a line
+    /// allocates nothing.
     pub text: Vec<u8>,
 }

@@ -1,4 +1,4 @@
--- The places of a byte in a block as bits, and its first place in a text.
+-- The indexes of a byte in a block as bits, and its first index in a text.
 use Rattle.std.proofs.Common.{◌≡◌, ◌≢◌, ℕ, zero, suc, ◌+◌, ◌-◌, ◌<◌, ◌≤◌, ◌==◌, eqb, nat_lt, Bool, true, false, cond, List, [], ◌∷◌, length, map, get_or, Some, None, refl, ap, sym, ◌∙◌, arith, inl, inr}
 use Rattle.std.proofs.lemmas.Bool.{cases_lt, eq-eqb, eqb-true, false≢true}
 use Rattle.std.proofs.lemmas.Bool.Decides.{nat_tests}
@@ -12,7 +12,7 @@ use Rattle.ras_script.specs.Steps.Places.{ArePlaces, StandsNowhere}
 
 -- ---- the places in a block
 
--- the bits that are made of a block
+-- the bits of a block
 abbrev pub bits_of : ℕ → List ℕ → ℕ → ℕ
 bits_of byte text at = mask_l (map (λ b. eqb b byte) (chunk at 16 text))
 
@@ -46,7 +46,7 @@ block_places byte text at bits room is = rw is (record {
   only = λ k set. (set_bit byte text at k room set).1;
 })
 
--- those of a whole block stand at any place
+-- The bits of a whole block don't depend on `from`.
 pub anywhere : (byte : ℕ) (text : List ℕ) (at bits : ℕ) → ArePlaces byte text at at bits → ArePlaces byte text at 0 bits
 anywhere byte text at bits places = record {
   all = λ k low from here. places.all k low (omega arith) here;
@@ -55,7 +55,7 @@ anywhere byte text at bits places = record {
   only = places.only;
 }
 
--- the first place from `start` on is that of the lowest bit
+-- The first index from `start` on is the index of the lowest bit.
 pub none_before : (byte : ℕ) (text : List ℕ) (at start bits bit : ℕ) → StandsNowhere byte text start at → ArePlaces byte text at start bits → ((k : ℕ) → k < bit → bit_at bits k ≡ 0) → bit ≤ 16 → StandsNowhere byte text start (at + bit)
 none_before byte text at start bits bit nowhere places below inside k low high here = elim (cases_lt k at) [
   | inl before ↦ nowhere k low before here
@@ -65,13 +65,13 @@ none_before byte text at start bits bit nowhere places below inside k low high h
       absurd (omega (arith, set, below (k - at) (omega arith)))
 ]
 
--- none is left once no bit is
+-- The byte isn't in the block if no bit is set.
 pub none_left : (byte : ℕ) (text : List ℕ) (at start bits : ℕ) → bits ≡ 0 → StandsNowhere byte text start at → ArePlaces byte text at start bits → StandsNowhere byte text start (at + 16)
 none_left byte text at start bits none nowhere places =
     let small : bits < 1 = omega arith in
     none_before byte text at start bits 16 nowhere places (λ k low. bit_at_above bits 0 k small (omega arith)) (omega arith)
 
--- the places after that of the lowest bit
+-- The indexes after the index of the lowest bit.
 pub places_after : (byte : ℕ) (text : List ℕ) (at start bits bit rest : ℕ) → ArePlaces byte text at start bits → ((k : ℕ) → k < bit → bit_at bits k ≡ 0) → bit < 64 → start ≤ at + bit
     → bit_at rest bit ≡ 0 → ((k : ℕ) → k < 64 → k ≢ bit → bit_at rest k ≡ bit_at bits k) → ((k : ℕ) → bit_at rest k ≡ 1 → bit_at bits k ≡ 1) → ArePlaces byte text at (at + bit + 1) rest
 places_after byte text at start bits bit rest places below small from cleared kept no_more = record {
@@ -112,7 +112,7 @@ found_nowhere byte text none =
     let test : nat_lt (length text) (length text) ≡ false = grind (arith, nat_tests) in
     rw (first, test) refl
 
--- one more byte that isn't it
+-- One more byte that is another byte.
 pub none_more : (byte : ℕ) (text : List ℕ) (place : ℕ) → StandsNowhere byte text 0 place → ¬ (get_or text place 0 ≡ byte) → StandsNowhere byte text 0 (place + 1)
 none_more byte text place none other k low high here = elim (cases_lt k place) [
   | inl before ↦ none k low before here

@@ -1,4 +1,4 @@
--- Bytes words: which are read, and that written bytes are.
+-- Which words for bytes are read, and that written bytes are read.
 use Rattle.std.proofs.Common.{◌≡◌, ℕ, suc, zero, ◌*◌, ◌%◌, ◌<◌, ◌==◌, Bool, true, false, cond, List, [], ◌∷◌, length, refl, arith, lit<, None, Some, Result, Ok, Err}
 use Rattle.std.proofs.lemmas.Bool.Decides.{nat_tests}
 use Rattle.std.specs.List.{AllByRecursion, AllPass}
@@ -19,7 +19,7 @@ all_small : (bytes : List ℕ) → IsBytes bytes → AllByRecursion (λ b. b < 2
 all_small [] h = tt
 all_small (b ∷ bytes) h = (h zero, all_small bytes (λ i. h (suc i)))
 
--- what a word that isn't empty is read as
+-- How a word that isn't empty is read.
 some_word : (word : List ℕ) → 0 < length word → (length word == 0) ≡ false
 some_word word some = grind (arith, nat_tests, some)
 
@@ -39,7 +39,7 @@ read_is word false (Ok bytes) e d =
 pub bytes_read : (word : List ℕ) → IfSome (bytes_of word) AreBytes
 bytes_read word = read_is word (length word == 0) (decode_of word) refl refl
 
--- which words are read
+-- Which words are read.
 digits_by : (word : List ℕ) (empty : Bool) (decoded : Result (List ℕ) FromHexError) → (length word == 0) ≡ empty → decode_of word ≡ decoded
     → IsSome (cond empty None (result_ok decoded)) → (0 < length word) × (length word % 2 ≡ 0) × AllPass is_hex_digit word
 digits_by word true decoded e d some = cc some

@@ -1,4 +1,4 @@
--- The first line feed of a text, of one without one, and of a text behind another.
+-- The first line feed of a text, of a text without a line feed, and of a text after another.
 use Rattle.std.proofs.Common.{◌≡◌, ℕ, ◌+◌, ◌<◌, ◌≤◌, ◌==◌, eqb, Bool, true, false, not, List, ◌∷◌, ◌++◌, length, take, drop, get_or, refl, sym, ap, ◌∙◌, arith, Option, Some, None, MatchOption}
 use Rattle.std.proofs.lemmas.Bool.{eqb-true, eq-eqb, false≢true}
 use Rattle.std.proofs.lemmas.Bool.Decides.{nat_tests}
@@ -15,7 +15,7 @@ pub not_true : (t : Bool) → ¬ (t ≡ true) → t ≡ false
 not_true true none = absurd (none refl)
 not_true false none = refl
 
--- no byte before it is one
+-- No byte before the first line feed is a line feed.
 feed_before : (text : List ℕ) (k : ℕ) → k < line_feed_in text → ¬ (get_or text k 0 ≡ 10)
 feed_before text k low is = absurd (false≢true (sym (fails_before_first (λ b. b == 10) text k 0 low) ∙ eq-eqb _ 10 is))
 
@@ -33,14 +33,14 @@ feed_at text inside =
       parts = split_at_first (λ b. b == 10) text 0 inside ∙ ap (λ b. take place text ++ b ∷ drop (place + 1) text) feed;
     }
 
--- what a search for one finds
+-- What a search for a line feed finds.
 pub feed_found : (text : List ℕ) (found : Option ℕ) → IsFirstByte (is_byte 10) text found → MatchOption found (line_feed_in text ≡ length text) (λ place. line_feed_in text ≡ place)
 feed_found text None none =
     position_or_len_is (λ b. b == 10) text (length text) 0 (omega arith) (λ k low. not_true _ (none k (omega arith) low)) (λ low. absurd (omega arith))
 feed_found text (Some place) is =
     position_or_len_is (λ b. b == 10) text place 0 (omega (arith, is.0.high)) (λ k low. not_true _ (is.0.before k (omega arith) low)) (λ low. is.1)
 
--- one in the first of two texts, or in the second
+-- A line feed in the first of two texts, or in the second.
 pub feed_kept : (front back : List ℕ) → line_feed_in front < length front → line_feed_in (front ++ back) ≡ line_feed_in front
 feed_kept front back inside =
     let other : eqb (line_feed_in front) (length front) ≡ false = grind (arith, nat_tests, inside) in
@@ -50,7 +50,7 @@ pub feed_behind : (front back : List ℕ) → line_feed_in front ≡ length fron
 feed_behind front back none =
     prefix_len-append (λ b. not (b == 10)) front back ∙ rw (eq-eqb _ _ none) refl
 
--- it stands within the text
+-- The index of the first line feed is at most the text's length.
 pub feed_within : (text : List ℕ) → line_feed_in text ≤ length text
 feed_within text = prefix_len-le-length (λ b. not (b == 10)) text
 

@@ -1,4 +1,4 @@
--- What the words of a line say is in its range.
+-- What the words of a line give is in its range.
 use Rattle.std.proofs.Common.{◌≡◌, ℕ, ◌-◌, ◌^◌, ◌≤◌, ◌==◌, ◌&&◌, Bool, true, false, cond, nat_le, List, [], ◌∷◌, refl, arith, Option, Result, Ok, Err, None, Some, IfOk}
 use Rattle.std.proofs.lemmas.Bool.Decides.{nat_tests}
 use Rattle.std.specs.Option.{ok_or}
@@ -14,7 +14,7 @@ use Rattle.ras_script.specs.LineLaws.{IsBankInRange}
 use Rattle.ras_script.specs.Number.{is_numeral}
 use Rattle.ras_script.proofs.ByteLemmas.{bytes_read}
 
--- one reading, and then another
+-- One reading, and then another.
 pub then_within : {A B : Type 0} (P : A → Type 0) (Q : B → Type 0) (read : Result A LineRefused) (next : A → Result B LineRefused) → IfOk read P → ((x : A) → P x → IfOk (next x) Q) → IfOk (read >>= next) Q
 then_within P Q (Ok x) next h step = step x h
 then_within P Q (Err e) next h step = tt

@@ -1,5 +1,5 @@
--- The words of a line that are held ask for what all its words do: a line of more words is refused,
--- or is a comment, whatever the others are.
+-- The stored words of a line ask for what all its words ask for: a line with more words is rejected, or is a comment,
+-- whatever the other words are.
 use Rattle.std.proofs.Common.{◌≡◌, ℕ, ◌==◌, Bool, true, false, cond, List, [], ◌∷◌, length, take, refl, ap, sym, subst, ◌∙◌, arith, Result, Ok, Err}
 use Rattle.std.proofs.lemmas.Bool.Decides.{nat_tests}
 use Rattle.std.specs.Prelude.{slice_index}
@@ -11,7 +11,7 @@ use Rattle.ras_script.specs.Kinds.{Reading}
 use Rattle.ras_script.specs.Line.{GivesLine, ReadsLine, kinds, line_named, line_of_words}
 use Rattle.ras_script.specs.Splitting.{AreHeldWords, words_of}
 
--- readings of which each refuses the number of words
+-- Each of these readings rejects this number of words.
 abbrev Refuse : List (List ℕ × Reading) → List (List ℕ) → Type 0
 Refuse [] words = Unit {0}
 Refuse (reading ∷ readings) words = (reading.1 words ≡ Err LineRefused.Words) × Refuse readings words
@@ -24,7 +24,7 @@ named_agree (reading ∷ readings) kind left right all both = by (bytes_eq kind 
     by true ih = all.0 ∙ sym both.0
     by false ih = ih
 
--- no kind has more than eleven words after its name
+-- No kind has more than eleven words after its name.
 all_refuse : (a b c d e f g h i j k l : List ℕ) (words : List (List ℕ)) → Refuse kinds (a ∷ b ∷ c ∷ d ∷ e ∷ f ∷ g ∷ h ∷ i ∷ j ∷ k ∷ l ∷ words)
 all_refuse a b c d e f g h i j k l words =
     let other : (length (b ∷ c ∷ d ∷ e ∷ f ∷ g ∷ h ∷ i ∷ j ∷ k ∷ l ∷ words) == 10) ≡ false = grind (arith, nat_tests) in
@@ -40,6 +40,6 @@ held_ask : (words : List (List ℕ)) → line_of_words (take HELD_WORDS words) �
 held_ask [] = refl
 held_ask (kind ∷ words) = ap (λ event. cond (slice_index kind 0 == 35) (Ok Line.Nothing) event) (named_held kind words)
 
--- what is read of the words held is read of the line
+-- What is read from the stored words is read from the line.
 pub reads_held : (words : List (List ℕ)) (bytes : List ℕ) (read : Result Line LineRefused) → AreHeldWords words bytes → GivesLine read (line_of_words words) → ReadsLine read bytes
 reads_held words bytes read held gives = subst (GivesLine read) (ap line_of_words held ∙ held_ask (words_of bytes)) gives

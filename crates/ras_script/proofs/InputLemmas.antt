@@ -1,4 +1,4 @@
--- The inputs of a text, and what a reader of inputs gives and holds.
+-- The inputs of a text, and what a reader of inputs returns and buffers.
 use Rattle.std.proofs.Common.{◌≡◌, ℕ, ◌+◌, ◌<◌, ◌≤◌, ◌==◌, nat_lt, Bool, true, false, List, [], ◌∷◌, ◌++◌, length, map, take, Option, None, Some, IfSome, Result, Ok, Err, IfOk, refl, ap, sym, ◌∙◌, arith, length-append, append_assoc, append-nil, if◌then◌else◌}
 use Rattle.std.specs.List.{AllByRecursion}
 use Rattle.std.proofs.lemmas.Bool.{eqb-true}
@@ -18,7 +18,7 @@ use Rattle.ras_script.proofs.ReaderLemmas.{taken_more, taken_none}
 
 -- ---- the inputs of a text
 
--- the first inputs of a text are those of its beginning
+-- The first inputs of a text are the inputs of its beginning.
 pub begins : (bytes text more : List ℕ) → (rest : List Input)
     × ((inputs_after bytes (text ++ more)).whole ≡ (inputs_after bytes text).whole ++ rest)
 begins bytes [] more = ((inputs_after bytes more).whole, refl)
@@ -36,7 +36,7 @@ begins bytes (b ∷ text) more = by (b == 10) (begins [] text more) (begins (byt
 not_feed : (b : ℕ) → ¬ (b ≡ 10) → (b == 10) ≡ false
 not_feed b other = not_true (b == 10) (λ is. other (eqb-true b 10 is))
 
--- bytes without a line feed are bytes of the line
+-- Bytes without a line feed are bytes of the line.
 after_lacks : (xs bytes more : List ℕ) → Lacks 10 xs → inputs_after bytes (xs ++ more) ≡ inputs_after (bytes ++ xs) more
 after_lacks [] bytes more lacks = ap (λ (b : List ℕ). inputs_after b more) (sym (append-nil bytes))
 after_lacks (x ∷ xs) bytes more lacks =
@@ -59,7 +59,7 @@ input_long bytes more =
 some_bytes : (bytes : List ℕ) → LONGEST_LINE < length bytes → nat_lt 0 (length bytes) ≡ true
 some_bytes bytes more = grind (arith, nat_tests)
 
--- more bytes than a line may have are no line
+-- More bytes than a line may have aren't a line.
 after_long : (text bytes : List ℕ) → LONGEST_LINE < length bytes → inputs_after bytes text ≡ inputs_in_long text
 after_long [] bytes more = ap (λ c. record { whole = []; cut = c }) (some_bytes bytes more)
 after_long (b ∷ text) bytes more = by (b == 10) (after_long text (bytes ++ b ∷ []) (omega (arith, length-append bytes (b ∷ []))))
@@ -92,7 +92,7 @@ behind_end buffer lacks = by buffer.dropping
     by true = in_long_lacks buffer.held [] lacks
     by false = after_lacks buffer.held [] [] lacks
 
--- lines with their line feeds, and bytes after them
+-- Lines with their line feeds, and bytes after them.
 pub lines_and_rest : (lines : List (List ℕ)) (rest : List ℕ) → AllByRecursion (Lacks 10) lines → Lacks 10 rest
     → inputs_of (script_of lines ++ rest) ≡ record { whole = map input_of lines; cut = nat_lt 0 (length rest) }
 lines_and_rest [] rest all lacks = ap inputs_of (sym (append-nil rest)) ∙ after_lacks rest [] [] lacks
@@ -133,7 +133,7 @@ past_given given old mid new before now moves is = record {
   ahead = moves.ahead;
 }
 
--- the line's end was found
+-- The line's end was found.
 pub moves_end : (step : InputStep) (place : ℕ) (old mid new : InputBuffer) (before now : Option (List ℕ)) → MovesPast [] old mid before now → mid.dropping ≡ old.dropping → FeedAt place mid.held
     → length mid.held ≤ LONGEST_LINE + 1 → GivesLineEnd step place mid new → MovesInput (Ok step) old new before now
 moves_end Line place old mid new before now moves same at few (took, dropping) =
@@ -155,7 +155,7 @@ moves_end Long place old mid new before now moves same at few (took, dropping) =
 moves_end Dropping place old mid new before now moves same at few gave = absurd gave
 moves_end (End cut) place old mid new before now moves same at few gave = absurd gave
 
--- the buffer was full, and its bytes were dropped
+-- The buffer was full, and its bytes were dropped.
 pub moves_full : (old mid new : InputBuffer) (before now : Option (List ℕ)) → MovesPast [] old mid before now → Lacks 10 mid.held → length mid.held ≡ LONGEST_LINE + 1 → DropsHeld mid new
     → MovesInput (Ok Dropping) old new before now
 moves_full old mid new before now moves lacks full drops = (
@@ -173,7 +173,7 @@ past_text given old new b n moves =
     ap (λ (t : List ℕ). old.held ++ t) moves.taken ∙ sym (append_assoc old.held moves.bytes n) ∙ ap (λ (t : List ℕ). t ++ n) moves.kept
     ∙ append_assoc given new.held n
 
--- nothing was given
+-- Nothing was returned.
 same_to_come : (old new : InputBuffer) (b n : List ℕ) → MovesPast [] old new (Some b) (Some n) → new.dropping ≡ old.dropping → inputs_to_come old b ≡ inputs_to_come new n
 same_to_come old new b n moves same = ap (inputs_behind old.dropping) (past_text [] old new b n moves) ∙ ap (λ d. inputs_behind d (new.held ++ n)) (sym same)
 

@@ -11,7 +11,7 @@ use Rattle.ras_script.proofs.SplittingLemmas.{part_first, last_line}
 pub some_part : {X : Type 0} (p : X → Bool) (xs : List X) → 0 < length (slice_split p xs)
 some_part p xs = omega (arith, length-slice_split p xs)
 
--- a byte in front of the first line
+-- A byte before the first line.
 front_some : (b : ℕ) (parts : List (List ℕ)) → 0 < length (without_empty_last (onto_first b parts))
 front_some b [] = omega (arith, ap length (last_line (b ∷ []) (omega arith)))
 front_some b (part ∷ []) = omega (arith, ap length (last_line (b ∷ part) (omega arith)))
@@ -23,7 +23,7 @@ front_ended b ([] ∷ []) h = absurd (omega arith)
 front_ended b ((c ∷ cs) ∷ []) h = ap script_of (last_line (b ∷ c ∷ cs) (omega arith)) ∙ ap (λ lines. b ∷ script_of lines) (sym (last_line (c ∷ cs) (omega arith)))
 front_ended b (part ∷ next ∷ parts) h = refl
 
--- a line feed in front, and another byte
+-- A line feed before a script, and another byte before it.
 lines_cons : (b : ℕ) (script : List ℕ) (t : Bool) → (b == 10) ≡ t → lines_of (b ∷ script) ≡ cond t ([] ∷ lines_of script) (without_empty_last (onto_first b (slice_split (λ c. c == 10) script)))
 lines_cons b script true h = rw h (part_first [] (slice_split (λ c. c == 10) script) (some_part (λ c. c == 10) script))
 lines_cons b script false h = rw h refl
@@ -50,7 +50,7 @@ lines_joined [] = refl
 lines_joined (b ∷ []) = one_byte b (b == 10) refl
 lines_joined (b ∷ c ∷ script) = more_bytes b c script (b == 10) refl (lines_joined (c ∷ script))
 
--- each line costs a byte
+-- Each line has at least one byte of the script.
 front_few : (b : ℕ) (parts : List (List ℕ)) → length (without_empty_last (onto_first b parts)) ≤ length (without_empty_last parts) + 1
 front_few b [] = omega (arith, ap length (last_line (b ∷ []) (omega arith)))
 front_few b (part ∷ []) = omega (arith, ap length (last_line (b ∷ part) (omega arith)))
@@ -64,7 +64,7 @@ pub few_lines : (script : List ℕ) → length (lines_of script) ≤ length scri
 few_lines [] = omega arith
 few_lines (b ∷ script) = omega (arith, few_step b script (b == 10) refl, few_lines script)
 
--- the parts between a byte lack it
+-- The parts between occurrences of a byte don't have the byte.
 onto_lacking : (byte b : ℕ) (parts : List (List ℕ)) → ¬ (b ≡ byte) → AllByRecursion (Lacks byte) parts → AllByRecursion (Lacks byte) (onto_first b parts)
 onto_lacking byte b [] other all = ((other, tt), tt)
 onto_lacking byte b (part ∷ parts) other all = ((other, all.0), all.1)

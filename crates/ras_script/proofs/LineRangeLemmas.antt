@@ -1,4 +1,5 @@
--- The numbers, labels and bytes of a line that is read are in their ranges, and it has no more bytes than the line.
+-- The numbers, labels and bytes of a line that is read are in their ranges, and there are no more bytes than the line
+-- has.
 use Rattle.std.proofs.Common.{◌≡◌, ℕ, suc, ◌+◌, ◌*◌, ◌-◌, ◌^◌, ◌<◌, ◌≤◌, ◌==◌, Bool, true, false, cond, nat_le, nat_lt, filter, List, [], ◌∷◌, length, refl, sym, subst, arith, None, Result, Ok, Err, IfOk}
 use Rattle.std.proofs.lemmas.Bool.Decides.{nat_tests}
 use Rattle.std.specs.List.{AllByRecursion, onto_first, slice_split}
@@ -24,7 +25,7 @@ use Rattle.ras_script.proofs.FieldLemmas.{bytes_in, hexadecimal_in, label_in, li
 
 -- ---- words and bytes
 
--- each word has at most so many bytes
+-- Each word has at most this many bytes.
 abbrev AreShort : ℕ → List (List ℕ) → Type 0
 AreShort most words = AllByRecursion (λ (word : List ℕ). length word ≤ most) words
 
@@ -55,7 +56,7 @@ kept_short most p (word ∷ words) short = by (p word) (kept_short most p words 
 words_short : (line : List ℕ) → AreShort (length line) (words_of line)
 words_short line = kept_short (length line) (λ word. nat_lt 0 (length word)) (slice_split (λ b. b == 32) line) (parts_short (λ b. b == 32) line)
 
--- what a word gives is bytes, no more than half its digits
+-- A word gives bytes, at most half as many as it has digits.
 few_within : (word : List ℕ) (empty : Bool) (decoded : Result (List ℕ) FromHexError) → decode_of word ≡ decoded
     → IfOk (ok_or (cond empty None (result_ok decoded)) LineRefused.Hex) (λ bytes. length bytes ≤ length word)
 few_within word true decoded is = tt
@@ -75,7 +76,7 @@ few_in word = by (hex_bytes_of word) (bytes_in word) (few_within word (length wo
 -- ---- each kind of line
 
 module _ (most : ℕ) where
-  -- a line's numbers are in their ranges, and a report has no more bytes than so many
+  -- A line's numbers are in their ranges, and a report has at most this many bytes.
   abbrev Good : Line → Type 0
   Good line = IsInRange line × HasFewBytes most line
 
@@ -183,7 +184,7 @@ module _ (most : ℕ) where
   restart_within [] = (tt, tt)
   restart_within words = tt
 
-  -- readings of which each gives lines in range
+  -- Each of these readings gives lines in range.
   abbrev AreWithin : List (List ℕ × Reading) → List (List ℕ) → Type 0
   AreWithin [] words = Unit {0}
   AreWithin (reading ∷ readings) words = IfOk (reading.1 words) Good × AreWithin readings words
@@ -211,7 +212,7 @@ module _ (most : ℕ) where
 
 -- ---- every line
 
--- however long its words are
+-- the bytes of all words together
 abbrev total : List (List ℕ) → ℕ
 total [] = 0
 total (word ∷ words) = length word + total words
@@ -239,7 +240,7 @@ pub refused_has_words : (words : List (List ℕ)) → IsErr (line_of_words words
 refused_has_words [] h = cc
 refused_has_words (kind ∷ words) h = omega arith
 
--- what was read is in range
+-- What was read is in range.
 pub read_within : (words : List (List ℕ)) (read : Result Line LineRefused) → GivesLine read (line_of_words words) → IfOk read IsInRange
 read_within words (Ok line) is = (let within : IfOk (line_of_words words) IsInRange = range_of_words words in rw is at within)
 read_within words (Err why) is = tt

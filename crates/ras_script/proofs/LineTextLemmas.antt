@@ -1,4 +1,4 @@
--- A line as text is read as that line.
+-- A line written as text is read back.
 use Rattle.std.proofs.Common.{◌≡◌, ℕ, ◌-◌, ◌^◌, ◌<◌, ◌≤◌, ◌==◌, ◌&&◌, not, nat_le, Bool, true, false, List, [], ◌∷◌, length, refl, ap, subst, ◌∙◌, arith, Result, Ok, Err, codes, lit<, if◌then◌else◌}
 use Rattle.std.proofs.lemmas.Bool.Decides.{nat_tests}
 use Rattle.std.proofs.lemmas.Fmt.{digits_is_IsNumeral, decimal_is_IsNumeral}
@@ -37,7 +37,7 @@ use Rattle.ras_script.proofs.ByteLemmas.{bytes_digits, lower_read}
 use Rattle.ras_script.proofs.LineAndWordLemmas.{words_joined}
 use Rattle.ras_script.proofs.WrittenNumberLemmas.{decimal_read, hexadecimal_read}
 
--- a numeral holds no space
+-- A numeral has no space.
 digits_lack : (radix : ℕ) (word : List ℕ) → radix ≤ 16 → AllDigits radix word → Lacks 32 word
 digits_lack radix [] small all = tt
 digits_lack radix (c ∷ cs) small all =
@@ -54,7 +54,7 @@ hexadecimal_word n small =
     let numeral = digits_is_IsNumeral 16 false (lit< tt) (lit< tt) n fits in
     (numeral.0.0, digits_lack 16 (hexadecimal n) (lit< tt) numeral.0.1)
 
--- a label is a word
+-- A label is a word.
 both : (a b : Bool) → (a && b) ≡ true → (a ≡ true) × (b ≡ true)
 both true true is = (refl, refl)
 both true false is = absurd cc
@@ -80,7 +80,7 @@ label_word label is =
 kind_word : (kind : List ℕ) → IsTrue (is_label kind) → IsWord kind
 kind_word = label_word
 
--- bytes in hexadecimal are a word
+-- Bytes in hexadecimal are a word.
 space_digit : (b : ℕ) → b ≡ 32 → is_hex_digit b ≡ false
 space_digit b same = rw same refl
 
@@ -95,7 +95,7 @@ bytes_word bytes are =
     let is = (bytes_digits (encode_lower bytes)).0 (rw (lower_read bytes are) refl) in
     (is.0, hex_lacks (encode_lower bytes) (list_all-from_AllPass is_hex_digit (encode_lower bytes) is.2))
 
--- one reading, and then another
+-- One reading, and then another.
 then_is : {A B : Type 0} {read : Result A LineRefused} {y : Result B LineRefused} (x : A) (next : A → Result B LineRefused) → read ≡ Ok x → next x ≡ y → (read >>= next) ≡ y
 then_is x next is rest = ap (λ r. r >>= next) is ∙ rest
 
@@ -142,7 +142,7 @@ bank_is bank within =
     then_is bank.addr _ (hexadecimal_is bank.addr (omega arith) refl) (
     then_is bank.misc _ (hexadecimal_is bank.misc (omega arith) refl) refl)))))))))
 
--- each line's words are words
+-- Each line's words are words.
 bank_each : (bank : BankReport) → IsBankInRange bank → AllByRecursion IsWord (bank_words bank)
 bank_each bank within = (decimal_word bank.boot (omega arith), (decimal_word bank.seconds (omega arith), (decimal_word bank.cpu (omega arith), (decimal_word bank.bank (omega arith), (decimal_word bank.tsc (omega arith), (hexadecimal_word bank.cap (omega arith), (hexadecimal_word bank.mcg (omega arith), (hexadecimal_word bank.status (omega arith), (hexadecimal_word bank.addr (omega arith), (hexadecimal_word bank.misc (omega arith), tt))))))))))
 
@@ -189,7 +189,7 @@ line_each (asks.Panic id bank) within = (kind_word (codes "panic") refl, (hexade
 line_each (asks.Poll seconds) within = (kind_word (codes "poll") refl, (decimal_word seconds (omega arith), tt))
 line_each asks.Restart within = (kind_word (codes "restart") refl, tt)
 
--- these words are read as the line
+-- These words are read as the line.
 range_is : (label : List ℕ) (first last : ℕ) → IsRowInRange (Range label first last) → range_asks (label ∷ hexadecimal first ∷ hexadecimal last ∷ []) ≡ Ok (asks.Row (Range label first last))
 range_is label first last within =
     let upright : nat_le first last ≡ true = grind (arith, nat_tests, within.1) in
@@ -252,6 +252,6 @@ line_is (asks.Panic id bank) within =
 line_is (asks.Poll seconds) within = then_is seconds _ (number_is (2 ^ 64 - 1) seconds (omega arith) (omega arith) refl) refl
 line_is asks.Restart within = refl
 
--- the words of a line joined by spaces are these words
+-- The words of a line joined by spaces are read back.
 pub text_read : (line : Line) → IsInRange line → line_of (line_text line) ≡ Ok line
 text_read line within = ap line_of_words (words_joined (line_words line) (line_each line within)) ∙ line_is line within

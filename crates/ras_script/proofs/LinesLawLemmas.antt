@@ -19,7 +19,7 @@ feed_by b text true is later =
 feed_by b text false is (inl (line, rest, parts, lacks)) = inl (b ∷ line, rest, ap (λ (t : List ℕ). b ∷ t) parts, ((λ same. grind (arith, nat_tests, is, same)), lacks))
 feed_by b text false is (inr lacks) = inr ((λ same. grind (arith, nat_tests, is, same)), lacks)
 
--- where the first line feed of a text stands, if there is one
+-- Either a text has a first line feed, or it has no line feed.
 first_feed : (text : List ℕ) → ((line : List ℕ) × (rest : List ℕ) × (text ≡ line ++ 10 ∷ rest) × Lacks 10 line) ⊎ Lacks 10 text
 first_feed [] = inr tt
 first_feed (b ∷ text) = feed_by b text (b == 10) refl (first_feed text)
@@ -27,7 +27,7 @@ first_feed (b ∷ text) = feed_by b text (b == 10) refl (first_feed text)
 take_lacks : (n : ℕ) (text : List ℕ) → Lacks 10 text → Lacks 10 (take n text)
 take_lacks n text lacks = front_lacks (take n text) (drop n text) (rw (take-append-drop n text) lacks)
 
--- a line in front
+-- A line before others.
 line_first : (ending : Ending) (most : ℕ) (line rest : List ℕ) (lines : List (List ℕ)) → Lacks 10 line → length line < most
     → EndsBy ending (most - (length line + 1)) rest lines → EndsBy ending most (line ++ 10 ∷ rest) (line ∷ lines)
 line_first script_ended most line rest lines lacks less (joined, short) = (
@@ -39,7 +39,7 @@ line_first line_too_long most line rest lines lacks less (begun, later, is, none
 line_first script_too_long most line rest lines lacks less (begun, later, is, none, size, within, more) =
     (begun, later, rw is (simp append_assoc), none, size, omega (arith, length-append (line ++ 10 ∷ []) (script_of lines), length-append line (10 ∷ []), within, less), more)
 
--- the text goes on past its most bytes within its first line
+-- The text continues past its most bytes within its first line.
 past_line : (most : ℕ) (line rest : List ℕ) → Lacks 10 line → most < LONGEST_LINE → most < length line → AreLinesOf most (line ++ rest) (lines_within most (line ++ rest))
 past_line most line rest lacks small long =
     let front : List ℕ = take (most + 1) line in
@@ -53,7 +53,7 @@ past_line most line rest lacks small long =
     let whole : line ++ rest ≡ begun ++ after = ap (λ (t : List ℕ). t ++ rest) (sym (take-append-drop most line)) ∙ append_assoc begun (drop most line) rest in
     rw ends (record { each = tt; ends = (begun, after, whole, take_lacks most line lacks, omega (arith, short), omega (arith, short), omega (arith, length-append (drop most line) rest, length-drop most line)) })
 
--- the text begins with bytes of one line that are too many
+-- The text begins with bytes of one line that are too many.
 too_many : (most : ℕ) (line rest : List ℕ) → Lacks 10 line → LONGEST_LINE < length line → AreLinesOf most (line ++ rest) (lines_within most (line ++ rest))
 too_many most line rest lacks long = many_by (cases_lt most LONGEST_LINE)
   where
@@ -67,7 +67,7 @@ too_many most line rest lacks long = many_by (cases_lt most LONGEST_LINE)
         let ends = too_long_line most front later (take_lacks (LONGEST_LINE + 1) line lacks) (omega (arith, size)) (omega (arith, size)) in
         rw (parts, ends) (record { each = tt; ends = (front, later, refl, take_lacks (LONGEST_LINE + 1) line lacks, size, omega (arith, size)) })
 
--- a text with no line feed
+-- A text without a line feed.
 unbroken_short : (most : ℕ) (text : List ℕ) → Lacks 10 text → length text ≤ LONGEST_LINE → length text ≤ most → AreLinesOf most text (lines_within most text)
 unbroken_short most [] lacks short within = rw (no_lines most) (record { each = tt; ends = (refl, omega arith) })
 unbroken_short most (b ∷ text) lacks short within =
@@ -83,12 +83,12 @@ unbroken most text lacks = by (cases_lt LONGEST_LINE (length text)) (cases_lt mo
     by (inr short) (inl past) = rw (append-nil text) at (past_line most text [] lacks (omega arith) past)
     by (inr short) (inr within) = unbroken_short most text lacks short within
 
--- the first line's line feed is the byte after the most
+-- The first line's line feed is the byte after the most.
 feed_too_many : (most : ℕ) (line rest : List ℕ) → Lacks 10 line → length line ≤ LONGEST_LINE → most ≡ length line → AreLinesOf most (line ++ 10 ∷ rest) (lines_within most (line ++ 10 ∷ rest))
 feed_too_many most line rest lacks short is =
     rw (is, feed_past line rest lacks short) (record { each = tt; ends = (line, 10 ∷ rest, refl, lacks, short, omega arith, omega arith) })
 
--- a line with its line feed, and then a text that is shorter
+-- A line with its line feed, and then a shorter text.
 feed_first : (most : ℕ) (line rest : List ℕ) → Lacks 10 line → AreLinesOf (most - (length line + 1)) rest (lines_within (most - (length line + 1)) rest)
     → ((LONGEST_LINE < length line) ⊎ (length line ≤ LONGEST_LINE)) → ((length line < most) ⊎ (most ≤ length line)) → ((most < length line) ⊎ (length line ≤ most)) → AreLinesOf most (line ++ 10 ∷ rest) (lines_within most (line ++ 10 ∷ rest))
 feed_first most line rest lacks later (inl long) less past = too_many most line (10 ∷ rest) lacks long

@@ -1,4 +1,4 @@
--- The lines of a script within its limits, a line at a time.
+-- The lines of a script within its limits, one at a time.
 use Rattle.std.proofs.Common.{one-add, take_all, ◌≡◌, ℕ, suc, ◌+◌, ◌-◌, ◌<◌, ◌≤◌, ◌==◌, Bool, true, false, cond, not, nat_lt, List, [], ◌∷◌, ◌++◌, length, take, refl, ap, sym, ◌∙◌, arith, length-append}
 use Rattle.std.proofs.Math.Seq.{take-append-add, take-append_seam, take-nil}
 use Rattle.std.proofs.lemmas.Bool.Decides.{nat_tests}
@@ -11,7 +11,7 @@ use Rattle.ras_script.specs.declared.reader.TheConstants.{LONGEST_LINE}
 use Rattle.ras_script.proofs.SplittingLemmas.{part_first, last_line}
 use Rattle.ras_script.proofs.LineAndWordLemmas.{some_part, split_between, split_lacking, some_line}
 
--- a line that a line feed ends, and one that the text ends
+-- A line that ends with a line feed, and a line that ends with the text.
 pub line_cut : (line rest : List ℕ) → Lacks 10 line → lines_of (line ++ 10 ∷ rest) ≡ line ∷ lines_of rest
 line_cut line rest lacks =
     ap without_empty_last (split_between 10 line rest ∙ ap (λ (parts : List (List ℕ)). parts ++ slice_split (λ b. b == 10) rest) (split_lacking 10 line lacks))
@@ -20,12 +20,12 @@ line_cut line rest lacks =
 pub line_alone : (line : List ℕ) → Lacks 10 line → 0 < length line → lines_of line ≡ line ∷ []
 line_alone line lacks some = ap without_empty_last (split_lacking 10 line lacks) ∙ last_line line some
 
--- a line that goes on
+-- A line that continues.
 onto_head : (line : List ℕ) (b : ℕ) (parts : List (List ℕ)) → 0 < length parts → (head : List ℕ) × (tail : List (List ℕ)) × (parts ≡ head ∷ tail)
 onto_head line b [] some = absurd (omega arith)
 onto_head line b (part ∷ parts) some = (part, parts, refl)
 
--- the lines of a text whose front holds no line feed: the first begins with that front
+-- The lines of a text whose front has no line feed: the first line begins with that front.
 fronts : (line rest : List ℕ) → Lacks 10 line → (head : List ℕ) × (tail : List (List ℕ)) × (slice_split (λ b. b == 10) (line ++ rest) ≡ (line ++ head) ∷ tail)
 fronts [] rest lacks = onto_head [] 0 (slice_split (λ b. b == 10) rest) (some_part (λ b. b == 10) rest)
 fronts (b ∷ line) rest lacks =
@@ -44,7 +44,7 @@ first_goes_on line rest lacks some =
     let (tail, kept) = kept_first (line ++ head) parts some_first in
     (head, tail, ap without_empty_last is ∙ kept)
 
--- a line in front of lines, where the text is past its most bytes only with further lines
+-- A line before others, if the text is past its most bytes only with further lines.
 lines_step : (line : List ℕ) (lines : List (List ℕ)) (any past : Bool) → (past ≡ true → 0 < length lines)
     → cond any (record { whole = take (1 + prefix_len (λ l. not (is_too_long l)) lines) (line ∷ lines); ending = line_too_long }) (cond past (record { whole = without_last (line ∷ lines); ending = script_too_long }) (record { whole = line ∷ lines; ending = script_ended }))
     ≡ with_line line (cond any (record { whole = take_while (λ l. not (is_too_long l)) lines; ending = line_too_long }) (cond past (record { whole = without_last lines; ending = script_too_long }) (record { whole = lines; ending = script_ended })))
@@ -57,7 +57,7 @@ some_lines : (text : List ℕ) → 0 < length text → 0 < length (lines_of text
 some_lines [] some = absurd (omega arith)
 some_lines (b ∷ text) some = some_line b text (b == 10) refl
 
--- the bytes that count of a text with a line feed
+-- The bytes of a text with a line feed that are read.
 front_taken : (most : ℕ) (line rest : List ℕ) → length line < most → take (most + 1) (line ++ 10 ∷ rest) ≡ line ++ 10 ∷ take (most - (length line + 1) + 1) rest
 front_taken most line rest less =
     let sum : most + 1 ≡ length line + suc (most - (length line + 1) + 1) = omega arith in
@@ -77,7 +77,7 @@ some_taken most rest over =
     let past : most < length rest = grind (arith, nat_tests, over) in
     omega (arith, length-take (most + 1) rest)
 
--- a script cut at a line feed
+-- A script is cut at a line feed.
 pub lines_cut : (most : ℕ) (line rest : List ℕ) → Lacks 10 line → length line ≤ LONGEST_LINE → length line < most
     → lines_within most (line ++ 10 ∷ rest) ≡ with_line line (lines_within (most - (length line + 1)) rest)
 unfolding lines_within
@@ -88,7 +88,7 @@ lines_cut most line rest lacks short less =
     let past : nat_lt most (length (line ++ 10 ∷ rest)) ≡ nat_lt (most - (length line + 1)) (length rest) = same_past most line rest less in
     rw (is, few, past) (lines_step line lines (list_any is_too_long lines) (nat_lt (most - (length line + 1)) (length rest)) (λ over. some_lines _ (some_taken _ rest over)))
 
--- a line feed that is the byte after the most
+-- A line feed that is the byte after the most.
 pub feed_past : (line rest : List ℕ) → Lacks 10 line → length line ≤ LONGEST_LINE → lines_within (length line) (line ++ 10 ∷ rest) ≡ no_line script_too_long
 unfolding lines_within
 feed_past line rest lacks short =
@@ -99,7 +99,7 @@ feed_past line rest lacks short =
     let past : nat_lt (length line) (length (line ++ 10 ∷ rest)) ≡ true = grind (arith, nat_tests, more) in
     rw (is, few, past) refl
 
--- a line whose bytes so far are too many
+-- A line whose bytes so far are too many.
 pub too_long_line : (most : ℕ) (line rest : List ℕ) → Lacks 10 line → LONGEST_LINE < length line → length line ≤ most + 1 → lines_within most (line ++ rest) ≡ no_line line_too_long
 unfolding lines_within
 too_long_line most line rest lacks long counts =
@@ -110,7 +110,7 @@ too_long_line most line rest lacks long counts =
     let many : is_too_long (line ++ head) ≡ true = grind (arith, nat_tests, more) in
     rw (front, is, many) refl
 
--- a line that isn't ended by the byte after the most
+-- A line that doesn't end at the byte after the most.
 pub script_past : (most : ℕ) (line rest : List ℕ) → Lacks 10 line → length line ≤ LONGEST_LINE → length line ≡ most + 1 → lines_within most (line ++ rest) ≡ no_line script_too_long
 unfolding lines_within
 script_past most line rest lacks short all =
@@ -121,7 +121,7 @@ script_past most line rest lacks short all =
     let past : nat_lt most (length (line ++ rest)) ≡ true = grind (arith, nat_tests, more) in
     rw (is, few, past) refl
 
--- a last line that no line feed ends
+-- A last line without a line feed.
 pub line_at_end : (most : ℕ) (line : List ℕ) → Lacks 10 line → 0 < length line → length line ≤ LONGEST_LINE → length line ≤ most → lines_within most line ≡ with_line line (no_line script_ended)
 unfolding lines_within
 line_at_end most line lacks some short within =
@@ -137,7 +137,7 @@ no_lines most =
     let few : nat_lt most 0 ≡ false = grind (arith, nat_tests) in
     rw (take-nil (most + 1), few) refl
 
--- parts after others keep their last one
+-- Joined lists of parts have the last part of the second list.
 last_append : (xs ys : List (List ℕ)) → 0 < length ys → without_empty_last (xs ++ ys) ≡ xs ++ without_empty_last ys
 last_append [] ys some = refl
 last_append (x ∷ xs) ys some =

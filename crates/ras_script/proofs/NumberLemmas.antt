@@ -23,7 +23,7 @@ bounded radix word some small short h =
     let right : 16 ^ length word ≤ 16 ^ 15 = pow-le-pow_right (lit< tt) short in
     omega arith
 
--- the value of up to 15 digits, times the base, has room for another digit below 2 ^ 64
+-- The value of up to 15 digits, times the base, has room for another digit below 2 ^ 64.
 pub room : (radix : ℕ) (word : List ℕ) (i value base : ℕ) → 1 ≤ radix → radix ≤ 16 → i < 16 → i < length word → list_all (λ c. is_digit c radix) (take i word) ≡ true → value ≡ digits_value radix (take i word) → base ≡ radix → value * base + 16 ≤ 2 ^ 64
 room radix word i value base some small few inside sofar is same =
     let short : length (take i word) ≤ 15 = omega (arith, length-take-le i word (omega arith)) in
@@ -31,8 +31,7 @@ room radix word i value base some small few inside sofar is same =
     let product : value * base ≤ value * 16 = mul-le-mul_left value (omega arith) in
     omega arith
 
--- A word whose first digits are a value of more than 64 bits is no number in a range, whatever
--- stands after them.
+-- A word whose first digits are a value of more than 64 bits isn't a number in a range, whatever follows them.
 refused : (value : ℕ) (numeral within : Bool) → within ≡ false → cond (numeral && within) (Some value) None ≡ None
 refused value true false is = refl
 refused value false false is = refl
@@ -47,7 +46,7 @@ past radix longest most word i value base some fits inside is same large =
     let test : nat_le (digits_value radix word) most ≡ false = grind (arith, nat_tests, above) in
     refused (digits_value radix word) (is_numeral radix longest word) (nat_le (digits_value radix word) most) test
 
--- one more digit
+-- One more digit.
 pub digits_step : (radix : ℕ) (word : List ℕ) (i value base digit after : ℕ) → i < length word → list_all (λ c. is_digit c radix) (take i word) ≡ true → value ≡ digits_value radix (take i word) → base ≡ radix → (digit_value (get_or word i 0) < radix) × (digit ≡ digit_value (get_or word i 0)) → after ≡ value * base + digit → (list_all (λ c. is_digit c radix) (take (i + 1) word) ≡ true) × (after ≡ digits_value radix (take (i + 1) word))
 digits_step radix word i value base digit after inside sofar is same told gives =
     let more : list_all (λ c. is_digit c radix) (take (i + 1) word) ≡ (list_all (λ c. is_digit c radix) (take i word) && is_digit (get_or word i 0) radix) = list_all_more (λ c. is_digit c radix) word i 0 inside in

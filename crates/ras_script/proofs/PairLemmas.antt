@@ -1,4 +1,4 @@
--- Bytes from pairs of digits, of which one question asks whether all are digits.
+-- Bytes from pairs of digits, with one test of whether all are digits.
 use Rattle.std.proofs.Common.{◌≡◌, ℕ, ◌+◌, ◌*◌, ◌%◌, ◌<◌, ◌≤◌, true, false, cond, nat_lt, List, length, take, drop, get_or, set, bit_or, refl, sym, ap, ◌∙◌, arith, inl, inr, None, Some, Ok, Err}
 use Rattle.std.proofs.lemmas.Bool.{cases_lt}
 use Rattle.std.proofs.lemmas.Bool.Decides.{nat_tests}
@@ -30,7 +30,7 @@ pair_other a b i other = elim (cases_lt (digit_value a) 16) [
 
 -- ---- the pairs before a place
 
--- they are decoded if all their bytes are digits, and else the word isn't
+-- The bytes are decoded if all bytes of the word are digits; otherwise the word isn't a word for bytes.
 pub record AreDecoded (word bytes : List ℕ) (place together : ℕ) : Type 0 where
   pub digits : together < 16 → decode_pairs 0 word ≡ prepend (take place bytes) (decode_pairs (2 * place) (drop (2 * place) word))
   pub other : 16 ≤ together → result_ok (decode_pairs 0 word) ≡ None

@@ -1,4 +1,4 @@
--- What a reader of lines gives and holds, from one step to the next.
+-- What a reader of lines returns and buffers, from one step to the next.
 use Rattle.std.proofs.Common.{◌≡◌, ℕ, subst, MatchOption, is_some, ◌+◌, ◌-◌, ◌<◌, ◌≤◌, List, [], ◌∷◌, ◌++◌, length, take, drop, Option, None, Some, IfSome, Result, Ok, Err, Bool, true, false, inl, Contains, get_or, zero, suc, IsTrue, ◌↔◌, refl, ap, sym, ◌∙◌, arith, length-append, append_assoc}
 use Rattle.std.proofs.lemmas.List.{append-nil, take-append-drop, drop-drop, length-drop, length-take-le}
 use Rattle.std.proofs.lemmas.List.Elements.{at_from_Contains, Contains-append_right, Contains-from_at}
@@ -13,7 +13,7 @@ use Rattle.ras_script.specs.declared.reader.NextRefused.TheVariants.{Source, Lin
 use Rattle.ras_script.specs.declared.reader.TheConstants.{LONGEST_LINE, LONGEST_SCRIPT}
 use Rattle.ras_script.proofs.LinesLemmas.{lines_cut, feed_past, too_long_line, script_past, line_at_end, no_lines}
 
--- no bytes, and some after others
+-- No bytes, and bytes after others.
 pub taken_none : (x : Option (List ℕ)) → AreTaken [] x x
 taken_none None = refl
 taken_none (Some left) = refl
@@ -39,7 +39,7 @@ pub lacks_both : (xs ys : List ℕ) → Lacks 10 xs → Lacks 10 ys → Lacks 10
 lacks_both [] ys one two = two
 lacks_both (x ∷ xs) ys one two = (one.0, lacks_both xs ys one.1 two)
 
--- the first line feed of a text whose front holds none
+-- The first line feed of a text whose front has no line feed.
 pub feed_none : (from : ℕ) (text rest : List ℕ) → rest ≡ drop from text → Lacks 10 (take from text) → Lacks 10 rest → Lacks 10 text
 feed_none from text rest is one two =
     let both : Lacks 10 (take from text ++ drop from text) = lacks_both (take from text) (drop from text) one (rw (← is) two) in
@@ -56,7 +56,7 @@ feed_found from place text rest is inside one at = record {
       ∙ rw (take-add from place text, ← is, sum, ← drop-drop (place + 1) from text, ← is) refl;
 }
 
--- the lines to come stay what they are while bytes are read
+-- The lines to come don't change while bytes are read.
 pub come_same : (old mid : Reader) (before now : Option (List ℕ)) → Moves [] old mid before now
     → IfSome before (λ b. IfSome now (λ n. lines_to_come old b ≡ lines_to_come mid n))
 come_same old mid None now moves = tt
@@ -68,14 +68,14 @@ come_same old mid (Some b) (Some n) moves =
     ap (λ (t : List ℕ). old.held ++ t) taken ∙ sym (append_assoc old.held moves.bytes n) ∙ ap (λ (t : List ℕ). t ++ n) moves.kept in
     rw (same, text) refl
 
--- what is said of the lines to come of the reader as it is now, is said of those at first
+-- A statement about the lines to come of the present reader is a statement about the lines at first.
 pub of_first : (old mid : Reader) (before now : Option (List ℕ)) (lines : List ℕ → Lines) → Moves [] old mid before now
     → ((n : List ℕ) → lines_to_come mid n ≡ lines n) → IfSome before (λ b. IfSome now (λ n. lines_to_come old b ≡ lines n))
 of_first old mid None now lines moves is = tt
 of_first old mid (Some b) None lines moves is = tt
 of_first old mid (Some b) (Some n) lines moves is = come_same old mid (Some b) (Some n) moves ∙ is n
 
--- a line was given
+-- A line was returned.
 pub come_line : (size : ℕ) (mid new : Reader) → FeedAt size mid.held → length mid.held ≤ mid.taken → length mid.held ≤ LONGEST_LINE + 1 → given_count mid + size < LONGEST_SCRIPT
     → new.line ≡ take size mid.held → new.held ≡ drop (size + 1) mid.held → new.taken ≡ mid.taken
     → (n : List ℕ) → lines_to_come mid n ≡ with_line new.line (lines_to_come new n)
@@ -89,7 +89,7 @@ come_line size mid new at known short within line held taken n =
     ∙ lines_cut (LONGEST_SCRIPT - given_count mid) (take size mid.held) (drop (size + 1) mid.held ++ n) at.before (omega (arith, front, at.inside, short)) (omega (arith, front, within))
     ∙ rw (left, line, held) refl
 
--- a line feed is the byte after the script's most bytes
+-- A line feed is the byte after the script's most bytes.
 pub come_feed_past : (size : ℕ) (mid : Reader) → FeedAt size mid.held → length mid.held ≤ mid.taken → mid.taken ≤ LONGEST_SCRIPT + 1 → length mid.held ≤ LONGEST_LINE + 1
     → LONGEST_SCRIPT ≤ given_count mid + size → (n : List ℕ) → lines_to_come mid n ≡ no_line script_too_long
 come_feed_past size mid at known few short past n =
@@ -99,7 +99,7 @@ come_feed_past size mid at known few short past n =
     let most : LONGEST_SCRIPT - given_count mid ≡ length (take size mid.held) = omega (arith, front, at.inside, known, few, past) in
     rw (most, text) (feed_past (take size mid.held) (drop (size + 1) mid.held ++ n) at.before (omega (arith, front, at.inside, short)))
 
--- no line feed is held, and the bytes held are too many
+-- The buffer has no line feed, and its bytes are too many.
 pub come_line_too_long : (mid : Reader) → Lacks 10 mid.held → LONGEST_LINE < length mid.held → length mid.held ≤ mid.taken → mid.taken ≤ LONGEST_SCRIPT + 1
     → (n : List ℕ) → lines_to_come mid n ≡ no_line line_too_long
 come_line_too_long mid lacks long known few n = too_long_line (LONGEST_SCRIPT - given_count mid) mid.held n lacks long (omega (arith, known, few))
@@ -131,7 +131,7 @@ no_bytes : (xs : List ℕ) → (0 < length xs → ⊥) → xs ≡ []
 no_bytes [] none = refl
 no_bytes (x ∷ xs) none = absurd (none (omega arith))
 
--- what the search for a line's end says of the lines to come
+-- What the search for a line's end means for the lines to come.
 pub gives_refused : (refused : NextRefused) (old mid : Reader) (before now : Option (List ℕ)) → Moves [] old mid before now → IsHeld mid → Finds (Err refused) mid now
     → IfSome before (λ b. IfSome now (λ n. GivesNext (Err refused) (lines_to_come old b) mid n))
 gives_refused LineTooLong old mid before now moves is found =
@@ -150,7 +150,7 @@ gives_line (Err TooLong) size old mid new before now moves is at gave =
 gives_line (Err LineTooLong) size old mid new before now moves is at gave = absurd gave
 gives_line (Err Source) size old mid new before now moves is at gave = absurd gave
 
--- what was given with its line feed
+-- What was returned, with its line feed.
 pub moves_line : (result : Result Bool NextRefused) (size : ℕ) (old mid new : Reader) (before now : Option (List ℕ)) → Moves [] old mid before now → FeedAt size mid.held
     → GivesLine result size mid new → MovesLine result old new before now
 moves_line (Ok true) size old mid new before now moves at gave = inl (record {
@@ -164,7 +164,7 @@ moves_line (Err TooLong) size old mid new before now moves at gave = rw gave.0 m
 moves_line (Err LineTooLong) size old mid new before now moves at gave = absurd gave
 moves_line (Err Source) size old mid new before now moves at gave = absurd gave
 
--- a front of bytes that hold no line feed holds none
+-- The front of bytes without a line feed has no line feed.
 pub front_lacks : (xs ys : List ℕ) → Lacks 10 (xs ++ ys) → Lacks 10 xs
 front_lacks [] ys lacks = tt
 front_lacks (x ∷ xs) ys lacks = (lacks.0, front_lacks xs ys lacks.1)
@@ -206,15 +206,15 @@ gives_rest false old mid new (Some b) (Some n) moves is found some line held =
     let nothing : mid.held ≡ [] = no_bytes mid.held (λ more. false_not_true (some.1 more)) in
     come_same old mid (Some b) (Some n) moves ∙ rw (none, nothing) (no_lines _)
 
--- with a line the bytes given grow
+-- With each line the number of returned bytes grows.
 count_same : (old mid : Reader) (before now : Option (List ℕ)) → Moves [] old mid before now → given_count mid ≡ given_count old
 count_same old mid before now moves = omega (arith, moves.count, ap length moves.kept, length-append old.held moves.bytes)
 
--- no more is held than a line and a byte
+-- The buffer has at most a line and a byte.
 taken_ahead : (old mid : Reader) (before now : Option (List ℕ)) → Moves [] old mid before now → IsHeld mid → length old.held + (mid.taken - old.taken) ≤ LONGEST_LINE + 1
 taken_ahead old mid before now moves is = omega (arith, moves.count, ap length moves.kept, length-append old.held moves.bytes, is.buffer)
 
--- no line was given, since the search for its end failed
+-- No line was returned, because the search for its end failed.
 pub advances_refused : (why : NextRefused) (old mid : Reader) (before now : Option (List ℕ)) → Moves [] old mid before now → IsHeld mid → Finds (Err why) mid now
     → Advances (◌≡◌ {A = Result Bool NextRefused} (Err why) (Ok true)) (◌≡◌ {A = Result Bool NextRefused} (Err why) (Err Source)) old mid
 advances_refused why old mid before now moves is found = record {

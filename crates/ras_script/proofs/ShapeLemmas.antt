@@ -3,7 +3,7 @@ use Rattle.std.proofs.Common.{◌≡◌, ℕ, ◌<◌, ◌≤◌, List, [], ◌�
 use Rattle.ras_script.specs.declared.line.LineRefused.{LineRefused}
 use Rattle.ras_script.specs.Fields.{read_report}
 
--- the word at a place, as a slice pattern takes it
+-- the word at an index, as a slice pattern gives it
 abbrev pub at : List (Bor (List ℕ)) → ℕ → List ℕ
 at words place = (get_or words place record { ref_ptr = (0, 0); now = [] }).now
 
@@ -23,7 +23,7 @@ pub ten : (words : List (Bor (List ℕ))) → 10 ≤ length words → length wor
 ten (a ∷ b ∷ c ∷ d ∷ e ∷ f ∷ g ∷ h ∷ i ∷ j ∷ []) some few = refl
 ten words some few = absurd (omega arith)
 
--- words that are no bank
+-- Too few words for a bank.
 pub too_few : (words : List (Bor (List ℕ))) → length words < 10 → read_report (map (λ word. word.now) words) ≡ Err LineRefused.Words
 too_few (a ∷ b ∷ c ∷ d ∷ e ∷ f ∷ g ∷ h ∷ i ∷ j ∷ []) few = absurd (omega arith)
 too_few words few = refl

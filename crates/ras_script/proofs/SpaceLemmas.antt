@@ -1,4 +1,4 @@
--- Lines and their words by the places of spaces.
+-- Lines and their words by the indexes of spaces.
 use Rattle.std.proofs.Common.{◌≡◌, ℕ, suc, ◌+◌, ◌-◌, ◌<◌, ◌≤◌, ◌==◌, nat_lt, Ok, true, List, [], ◌∷◌, length, take, drop, get_or, refl, ap, sym, ◌∙◌, arith, length-drop}
 use Rattle.std.proofs.Math.Seq.{take-length}
 use Rattle.std.proofs.lemmas.Bool.Decides.{nat_tests}
@@ -9,7 +9,7 @@ use Rattle.ras_script.specs.Line.{line_of, line_of_words}
 use Rattle.ras_script.specs.declared.line.Line.TheVariants.{Nothing}
 use Rattle.ras_script.specs.SplittingLaws.{Lacks}
 
--- a text without a byte at any place
+-- A text doesn't have a byte if the byte is at no index.
 pub lacks_places : (byte : ℕ) (text : List ℕ) → ((k : ℕ) → k < length text → ¬ (get_or text k 0 ≡ byte)) → Lacks byte text
 lacks_places byte [] none = tt
 lacks_places byte (b ∷ text) none = (none 0 (omega arith), lacks_places byte text (λ k low. none (suc k) (omega arith)))
@@ -24,7 +24,7 @@ lacks_between line start end ordered within none =
 pub rest_is : (line : List ℕ) (start : ℕ) → take (length line - start) (drop start line) ≡ drop start line
 rest_is line start = ap (λ k. take k (drop start line)) (sym (length-drop start line)) ∙ take-length (drop start line)
 
--- a line without a byte, and a comment, whose first byte is `#`
+-- An empty line, and a comment, whose first byte is `#`.
 pub empty_asks : (bytes : List ℕ) → length bytes ≡ 0 → line_of bytes ≡ Ok Nothing
 empty_asks [] none = refl
 empty_asks (b ∷ bytes) none = absurd (omega arith)

@@ -1,5 +1,4 @@
--- The bytes of the buffer of a reader of lines, after a read past their end or a step of their
--- start.
+-- The bytes in the buffer of a reader of lines, after a read past their end or a step of their start.
 use Rattle.std.proofs.Common.{◌≡◌, ℕ, ◌+◌, ◌-◌, ◌≤◌, List, [], ◌++◌, length, take, drop, slice_range, Option, Some, None, IfSome, refl, sym, ap, ◌∙◌, arith, length-append, length-drop, length-take}
 use Rattle.std.proofs.lemmas.List.{append-nil, take_at, drop_at, take-append-le, drop-take, drop-drop, length-take-le, take-append-drop}
 use Rattle.board_core.specs.Takes.{Takes}
@@ -9,7 +8,7 @@ use Rattle.ras_script.specs.Steps.ReaderSteps.{Gains}
 use borrow.Rule.Slice.PartMut.{put_mid, post_of}
 use lib.Seq.{take-add}
 
--- the bytes behind the end are held once the end is past them
+-- The bytes after the end are in the buffer once the end is past them.
 pub grown : (xs ys : List ℕ) (start end n : ℕ) → start ≤ end → take end ys ≡ take end xs
     → slice_range ys start (end + n) ≡ slice_range xs start end ++ take n (drop end ys)
 grown xs ys start end n ordered same =
@@ -26,12 +25,12 @@ kept xs ys start end ordered same =
     let none : end ≡ end + 0 = omega arith in
     ap (slice_range ys start) none ∙ grown xs ys start end 0 ordered same ∙ append-nil _
 
--- what a read takes of a source
+-- The bytes that a read takes from a source.
 are_taken : (n : ℕ) (buffer : List ℕ) (before now : Option (List ℕ)) → Takes n buffer before now → AreTaken (take n buffer) before now
 are_taken n buffer None now takes = takes
 are_taken n buffer (Some left) now takes = rw (takes.0) (rw (takes.1) (sym (take-append-drop n left)))
 
--- a read of no byte is at the source's end
+-- A read of no byte is at the source's end.
 ends_at : (n : ℕ) (buffer : List ℕ) (before now : Option (List ℕ)) → Takes n buffer before now → n ≡ 0 → IfSome before (λ left. left ≡ [])
 ends_at n buffer None now takes none = tt
 ends_at n buffer (Some left) now takes none = takes.3 none
@@ -46,7 +45,7 @@ gained xs ys start end n before now ordered same fits takes = record {
   ends = ends_at n (drop end ys) before now takes;
 }
 
--- what a read into a part of a slice leaves of the slice
+-- What a read into a part of a slice leaves of the slice.
 pub written_front : (xs piece : List ℕ) (end k : ℕ) → end ≤ length xs → take end (put_mid end k xs piece) ≡ take end xs
 written_front xs piece end k within =
     take_at (take end xs) (piece ++ post_of end k xs) end (length-take-le end xs within)
@@ -57,14 +56,14 @@ written_part xs piece end k n (Some left) now within fits takes =
     let rest : drop end (put_mid end k xs piece) ≡ piece ++ post_of end k xs = drop_at (take end xs) (piece ++ post_of end k xs) end (length-take-le end xs within) in
     (takes.0, rw (rest, take-append-le n piece (post_of end k xs) fits) (takes.1), takes.2, takes.3)
 
--- the bytes held after the first ones
+-- The bytes in the buffer without the first ones.
 pub dropped : (xs : List ℕ) (start end count : ℕ) → start + count ≤ end → slice_range xs (start + count) end ≡ drop count (slice_range xs start end)
 dropped xs start end count inside =
     let parts : end - start ≡ count + (end - (start + count)) = omega arith in
     sym (ap (λ j. drop count (take j (drop start xs))) parts ∙ drop-take count _ (drop start xs)
     ∙ ap (take (end - (start + count))) (drop-drop count start xs))
 
--- the first line feed of what was held, once more is
+-- The first line feed of the earlier bytes, after more were read.
 pub found_held : (xs ys : List ℕ) (start end n found : ℕ) → start ≤ end → take end ys ≡ take end xs → end + n ≤ length ys → found ≡ start + line_feed_in (slice_range xs start end)
     → (end - start ≤ length (slice_range ys start (end + n))) × (found - start ≡ line_feed_in (take (end - start) (slice_range ys start (end + n))))
 found_held xs ys start end n found ordered same fits is =

@@ -1,4 +1,4 @@
--- What is written of a number is read as that number.
+-- A written number is read as that number.
 use Rattle.std.proofs.Common.{◌≡◌, ℕ, ◌+◌, ◌-◌, ◌/◌, ◌%◌, ◌^◌, ◌<◌, ◌≤◌, ◌==◌, ◌&&◌, Bool, true, false, cond, nat_lt, nat_le, List, [], ◌∷◌, zero, suc, length, refl, ap, arith, Some, None, lit<}
 use Rattle.std.proofs.Math.Nat.{pow-suc}
 use Rattle.std.proofs.lemmas.Bool.Decides.{nat_tests}
@@ -31,7 +31,7 @@ number_is radix longest most n word numeral short small =
 pub decimal_read : (most n : ℕ) → n ≤ most → most < 2 ^ 64 → decimal_of most (decimal n) ≡ Some n
 decimal_read most n small fits = number_is 10 20 most n (decimal n) (decimal_is_IsNumeral n (omega arith)) (length-decimal-le 20 n (omega arith) (omega arith) (omega arith)) small
 
--- a number below 16 ^ j has at most j digits in base 16
+-- A number below 16 ^ j has at most j digits in base 16.
 few_step : (i n d : ℕ) (acc rest : List ℕ) (last : Bool) → (n / 16 == 0) ≡ last → n < 16 ^ suc i → (n / 16 < 16 ^ i → 0 < i → length rest ≤ length acc + 1 + i) → length (cond last (d ∷ acc) rest) ≤ length acc + suc i
 few_step i n d acc rest true h small more = omega arith
 few_step zero n d acc rest false h small more =

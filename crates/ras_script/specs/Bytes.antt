@@ -8,6 +8,6 @@ use Rattle.hex.specs.Hex.{decode_of}
 abbrev pub bytes_of : List ℕ → Option (List ℕ)
 bytes_of word = if length word == 0 then None else result_ok (decode_of word)
 
--- what a word for bytes can write: at least one byte
+-- Bytes that a word for bytes can write: at least one byte.
 abbrev pub AreBytes : List ℕ → Type 0
 AreBytes bytes = (0 < length bytes) × AllByRecursion (λ b. b < 256) bytes

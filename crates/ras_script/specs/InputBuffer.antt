@@ -1,4 +1,4 @@
--- What a reader of inputs has in its buffer, and which inputs it returns.
+-- The buffer of a reader of inputs, and which inputs the reader returns.
 use Rattle.std.specs.Prelude.{◌≡◌, ℕ, ◌+◌, ◌≤◌, Bool, true, false, ◌||◌, List, [], ◌∷◌, ◌++◌, length, nat_lt, Option, Result, Ok, Err, IfSome}
 use Rattle.board_core.specs.declared.source.Failed.{Failed}
 use Rattle.ras_script.specs.declared.input.InputStep.{InputStep}
@@ -8,22 +8,22 @@ use Rattle.ras_script.specs.Inputs.{Inputs, inputs_behind, line, long, with_inpu
 use Rattle.ras_script.specs.Reader.{AreTaken, IsLine}
 use Rattle.ras_script.specs.SplittingLaws.{Lacks}
 
--- the line that a reader returned last, the bytes that it read after it and holds, and whether it has dropped bytes of
--- a line that is too long, whose end is to come
+-- The line that a reader returned last, the bytes that it read after it, and whether it has dropped bytes of a line
+-- that is too long and hasn't reached its end.
 pub record InputBuffer : Type 0 where
   pub line : List ℕ
   pub held : List ℕ
   pub dropping : Bool
 
--- the inputs that are to come, if the source has these bytes left
+-- the inputs yet to be returned, if the source has these bytes left
 abbrev pub inputs_to_come : InputBuffer → List ℕ → Inputs
 inputs_to_come buffer left = inputs_behind buffer.dropping (buffer.held ++ left)
 
--- whether bytes of a line without its line feed were dropped or are held
+-- Whether the buffer has bytes of a line without its line feed, or such bytes were dropped.
 abbrev pub is_cut : InputBuffer → Bool
 is_cut buffer = buffer.dropping || nat_lt 0 (length buffer.held)
 
--- What a call returns of the inputs to come. Bytes that are dropped and a source that fails take none of them away.
+-- Which of the remaining inputs a call returns. Dropped bytes and a failed read remove no input.
 abbrev pub GivesInput : Result InputStep Failed → Inputs → InputBuffer → List ℕ → Type 0
 GivesInput (Ok Line) inputs buffer left = inputs ≡ with_input (line buffer.line) (inputs_to_come buffer left)
 GivesInput (Ok Long) inputs buffer left = inputs ≡ with_input long (inputs_to_come buffer left)
@@ -31,16 +31,16 @@ GivesInput (Ok Dropping) inputs buffer left = inputs ≡ inputs_to_come buffer l
 GivesInput (Ok (End cut)) inputs buffer left = inputs ≡ record { whole = []; cut = cut }
 GivesInput (Err failed) inputs buffer left = inputs ≡ inputs_to_come buffer left
 
--- A reader came past these bytes, of those in its buffer and those that it then read. The rest is in its buffer.
+-- A reader went past these bytes, from its buffer and from what it then read. The rest is in its buffer.
 pub record MovesPast (given : List ℕ) (old new : InputBuffer) (before now : Option (List ℕ)) : Type 0 where
   pub bytes : List ℕ
   pub taken : AreTaken bytes before now
   pub kept : old.held ++ bytes ≡ given ++ new.held
-  -- what was in the buffer and what was read is no more than a line and a byte
+  -- the bytes in the buffer and the bytes read are no more than a line and a byte
   pub ahead : length old.held + length bytes ≤ LONGEST_LINE + 1
 
--- What a call came past: a line with its line feed; the end of a line of which bytes were dropped; bytes of a line that
--- are too many for a line; or nothing, because the source ended or failed before a line feed.
+-- The bytes that a call went past: a line with its line feed; the end of a line whose bytes were dropped; bytes of a
+-- line that are too many for a line; or no bytes, because the source ended or failed before a line feed.
 abbrev pub MovesInput : Result InputStep Failed → InputBuffer → InputBuffer → Option (List ℕ) → Option (List ℕ) → Type 0
 MovesInput (Ok Line) old new before now =
     MovesPast (new.line ++ 10 ∷ []) old new before now × IsLine new.line × (old.dropping ≡ false)

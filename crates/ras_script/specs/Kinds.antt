@@ -136,7 +136,7 @@ panic_asks (id ∷ words) = if length words == BANK_WORDS then (do
   bank ← read_report words
   Ok (asks.Panic id bank)) else Err Words
 
--- the account made again from its files: `restart` has no other word
+-- A line `restart`, which has no other word, asks for the account to be recovered from its files again.
 abbrev pub restart_asks : Reading
 restart_asks [] = Ok asks.Restart
 restart_asks words = Err Words

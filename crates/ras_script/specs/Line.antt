@@ -1,4 +1,4 @@
--- What a line of a script asks for, or why it is refused.
+-- What a line of a script asks for, or why it is rejected.
 use Rattle.std.specs.Prelude.{◌≡◌, ℕ, ◌==◌, Bool, true, false, List, [], ◌∷◌, codes, Result, Ok, Err, ⊤, if◌then◌else◌, slice_index}
 use Rattle.std.specs.Str.{bytes_eq}
 use Rattle.ras_script.specs.declared.line.Line.{Line}
@@ -14,7 +14,7 @@ line_named [] kind words = Err Kind
 line_named (reading ∷ readings) kind words =
     if bytes_eq kind reading.0 then reading.1 words else line_named readings kind words
 
--- the kinds of events, each with what its other words ask for
+-- the kinds of lines, each with what its other words ask for
 abbrev pub kinds : List (List ℕ × Reading)
 kinds =
     (codes "bank", bank_asks) ∷ (codes "cpu", cpu_asks) ∷ (codes "module", module_asks)
@@ -35,16 +35,16 @@ line_of_words (kind ∷ words) =
 abbrev pub line_of : List ℕ → Result Line LineRefused
 line_of bytes = line_of_words (words_of bytes)
 
--- An empty line and a comment ask for nothing. A line that is refused asks for something.
+-- Whether a line asks for something: every line except empty lines and comments, also a rejected line.
 abbrev pub is_asking : Result Line LineRefused → Bool
 is_asking (Ok Nothing) = false
 is_asking read = true
 
--- What was read is what a line asks for, or memory ran out.
+-- The value that was read is what a line asks for, unless memory ran out.
 abbrev pub GivesLine : {A : Type 0} → Result A LineRefused → Result A LineRefused → Type 0
 GivesLine (Err NoMemory) line = ⊤
 GivesLine read line = line ≡ read
 
--- a reader of these bytes returned what the line asks for, or ran out of memory
+-- A reader of these bytes returned what the line asks for, or ran out of memory.
 abbrev pub ReadsLine : Result Line LineRefused → List ℕ → Type 0
 ReadsLine read bytes = GivesLine read (line_of bytes)

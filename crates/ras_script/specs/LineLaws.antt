@@ -1,4 +1,4 @@
--- Terms that the laws of lines use: a line's words in their ranges, and a line as text.
+-- Terms of the laws of lines: a line's words in their ranges, and a line as text.
 use Rattle.std.specs.Prelude.{ℕ, ◌^◌, ◌<◌, ◌≤◌, IsTrue, List, [], ◌∷◌, length, codes, ⊤, false}
 use Rattle.std.specs.Fmt.{decimal, digits}
 use Rattle.std.specs.List.{AllByRecursion, join_with_byte}
@@ -20,7 +20,7 @@ use Rattle.ras_script.specs.declared.line.Table.{Table}
 use Rattle.ras_script.specs.declared.line.Table.TheVariants.{Hest, Erst}
 use Rattle.ras_script.specs.Bytes.{AreBytes}
 
--- the numbers of a bank's snapshot fit their fields
+-- The numbers of a bank's snapshot fit their fields.
 abbrev pub IsBankInRange : BankReport → Type 0
 IsBankInRange bank =
     AllByRecursion (λ n. n < 2 ^ 64) (
@@ -47,12 +47,12 @@ IsReportInRange (Block boot seconds source number bytes) =
 IsReportInRange (Boot boot seconds table region) =
     (boot < 2 ^ 64) × (seconds < 2 ^ 64) × AreBytes table × AreBytes region
 
--- No line asks for a fact as an entry: only reports give facts.
+-- An entry is in its ranges. No line asks for a fact as an entry, because only reports give facts.
 abbrev pub IsEntryInRange : Entry → Type 0
 IsEntryInRange (Fact fact) = ⊥
 IsEntryInRange entry = IsValidEntry entry
 
--- the numbers of a line are in their ranges, its label is a label, and its bytes are bytes
+-- The numbers of a line are in their ranges, its label is a label, and its bytes are below 256.
 abbrev pub IsInRange : Line → Type 0
 IsInRange asks.Nothing = ⊤
 IsInRange (asks.Row row) = IsRowInRange row
@@ -64,13 +64,13 @@ IsInRange (asks.Panic id bank) = (id < 2 ^ 64) × IsBankInRange bank
 IsInRange (asks.Poll seconds) = seconds < 2 ^ 64
 IsInRange asks.Restart = ⊤
 
--- a report has at most so many bytes, in its block or in its region
+-- A report has at most this many bytes, in its block or in its region.
 abbrev pub HasFewBytes : ℕ → Line → Type 0
 HasFewBytes most (asks.Report (Block boot seconds source number bytes)) = length bytes ≤ most
 HasFewBytes most (asks.Report (Boot boot seconds table region)) = length region ≤ most
 HasFewBytes most line = ⊤
 
--- hexadecimal digits, small and with no zero before them
+-- hexadecimal digits, in small letters and without leading zeros
 abbrev pub hexadecimal : ℕ → List ℕ
 hexadecimal n = digits 16 false n
 

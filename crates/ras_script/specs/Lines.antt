@@ -5,7 +5,7 @@ use Rattle.ras_script.specs.declared.reader.TheConstants.{LONGEST_SCRIPT, LONGES
 use Rattle.ras_script.specs.Splitting.{lines_of}
 
 -- How the lines of a script end: with the script, before a line that is too long, or before the line in which the
--- script gets too long.
+-- script becomes too long.
 pub data Ending : Type 0 where
   script_ended : Ending
   line_too_long : Ending
@@ -16,7 +16,7 @@ pub record Lines : Type 0 where
   pub whole : List (List ℕ)
   pub ending : Ending
 
--- whether a line has more bytes than a line may have; its line feed isn't counted
+-- Whether a line has more bytes than a line may have. Its line feed isn't counted.
 abbrev pub is_too_long : List ℕ → Bool
 is_too_long line = nat_lt LONGEST_LINE (length line)
 
@@ -26,9 +26,9 @@ without_last [] = []
 without_last (x ∷ []) = []
 without_last (x ∷ y ∷ xs) = x ∷ without_last (y ∷ xs)
 
--- The lines of a text that may have `most` bytes. Of a longer text one more byte is looked at, and none after it. If a
--- line among these bytes is too long, the list ends before that line. Otherwise a text that is too long ends the list,
--- before the line with the one byte too many.
+-- The lines of a text that may have `most` bytes. Of a longer text only one more byte is read. If a line among these
+-- bytes is too long, the list ends before that line. Otherwise a text that is too long ends the list, before the line
+-- with the one byte too many.
 unfoldable pub lines_within : ℕ → List ℕ → Lines
 lines_within most text =
     let lines = lines_of (take (most + 1) text) in
@@ -46,6 +46,6 @@ script_lines script = lines_within LONGEST_SCRIPT script
 abbrev pub with_line : List ℕ → Lines → Lines
 with_line line lines = record lines { whole = line ∷ lines.whole }
 
--- no line, and how the list ends
+-- an empty list of lines with this ending
 abbrev pub no_line : Ending → Lines
 no_line ending = record { whole = []; ending = ending }

@@ -5,7 +5,7 @@ use Rattle.std.specs.List.{list_all}
 use Rattle.std.specs.Str.Parse.{digits_value}
 use Rattle.ras_script.specs.declared.number.TheConstants.{DECIMAL_DIGITS, HEXADECIMAL_DIGITS}
 
--- 1 to `longest` digits, and nothing else
+-- Whether a word consists of 1 to `longest` digits.
 abbrev pub is_numeral : ℕ → ℕ → List ℕ → Bool
 is_numeral radix longest word =
     nat_lt 0 (length word)

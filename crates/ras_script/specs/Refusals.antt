@@ -3,7 +3,7 @@ use Rattle.std.specs.Prelude.{ℕ, Option, Some, None}
 use Rattle.ras_script.specs.declared.line.LineRefused.{LineRefused}
 use Rattle.ras_script.specs.declared.line.LineRefused.TheVariants as refused
 
--- the number of a refusal; running out of memory has none
+-- The number of a refusal. Running out of memory has no number.
 abbrev pub line_number : LineRefused → Option ℕ
 line_number refused.Kind = Some 1
 line_number refused.Words = Some 2

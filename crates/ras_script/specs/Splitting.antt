@@ -9,7 +9,7 @@ without_empty_last [] = []
 without_empty_last (part ∷ []) = if length part == 0 then [] else part ∷ []
 without_empty_last (part ∷ next ∷ parts) = part ∷ without_empty_last (next ∷ parts)
 
--- A script is split at line feeds; bytes after the last line feed are a line if there are any.
+-- A script is split at line feeds. Bytes after the last line feed, if there are any, are a line.
 abbrev pub lines_of : List ℕ → List (List ℕ)
 lines_of script = without_empty_last (slice_split (λ b. b == 10) script)
 

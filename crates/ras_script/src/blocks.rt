@@ -29,8 +29,8 @@ pub fn position_of(byte: u8, text: &[u8]) -> Option<usize>
     position_in_rest(byte, text, at)
 }
 
-// The first index of a byte in a text that doesn't have it before `from` and that has less than a
-// block from there on.
+// Returns the first index of a byte in a text that doesn't have the byte before `from`, and that
+// has less than a block from there on.
 #[inline(always)]
 fn position_in_rest(byte: u8, text: &[u8], from: usize) -> Option<usize>
     requires within { from ≤ length text.now }
@@ -50,7 +50,7 @@ fn position_in_rest(byte: u8, text: &[u8], from: usize) -> Option<usize>
     None
 }
 
-// The first index of a byte in a text that doesn't have it before its last block.
+// Returns the first index of a byte in a text that doesn't have the byte before its last block.
 #[inline(always)]
 fn position_in_last(byte: u8, text: &[u8]) -> Option<usize>
     requires room { BLOCK_BYTES ≤ length text.now }
@@ -66,7 +66,7 @@ fn position_in_last(byte: u8, text: &[u8]) -> Option<usize>
     Some(last + lowest(places))
 }
 
-/// Returns where a byte is in the block from `at` on, as a bit for each.
+/// Returns where a byte is in the block from `at` on, with a bit for each index.
 #[inline(always)]
 pub(crate) fn places_at(byte: u8, text: &[u8], at: usize) -> u64
     requires { at + BLOCK_BYTES ≤ length text.now }
@@ -87,7 +87,7 @@ pub(crate) fn lowest(bits: u64) -> usize
     bits.trailing_zeros() as usize
 }
 
-/// Returns the bits without one that is set.
+/// Returns the bits without a bit that is set.
 #[inline(always)]
 pub(crate) fn without(bits: u64, bit: usize) -> u64
     requires small { bit < 64 }

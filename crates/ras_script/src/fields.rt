@@ -17,7 +17,7 @@ use std::alloc::Global;
 /// How many words give the snapshot of a bank.
 pub const BANK_WORDS: usize = 10;
 
-// A word as a decimal number of at most `most`.
+// Returns a word as a decimal number of at most `most`.
 #[inline(always)]
 pub(crate) fn read_number(word: &[u8], most: u64) -> Result<u64, LineRefused>
     ensures value { result ≡ read_number most word.now }
@@ -26,7 +26,7 @@ pub(crate) fn read_number(word: &[u8], most: u64) -> Result<u64, LineRefused>
     decimal(word, most).ok_or(LineRefused::Number)
 }
 
-// A word as a decimal number of 64 bits.
+// Returns a word as a decimal number of 64 bits.
 #[inline(always)]
 pub(crate) fn u64_of(word: &[u8]) -> Result<u64, LineRefused>
     ensures { result ≡ u64_of word.now }
@@ -34,7 +34,7 @@ pub(crate) fn u64_of(word: &[u8]) -> Result<u64, LineRefused>
     read_number(word, u64::MAX)
 }
 
-// A word as a decimal number of 16 bits.
+// Returns a word as a decimal number of 16 bits.
 #[inline(always)]
 pub(crate) fn u16_of(word: &[u8]) -> Result<u16, LineRefused>
     ensures { result ≡ u16_of word.now }
@@ -42,7 +42,7 @@ pub(crate) fn u16_of(word: &[u8]) -> Result<u16, LineRefused>
     Ok(read_number(word, u64::from(u16::MAX))? as u16)
 }
 
-// A word as a decimal number of 8 bits.
+// Returns a word as a decimal number of 8 bits.
 #[inline(always)]
 pub(crate) fn u8_of(word: &[u8]) -> Result<u8, LineRefused>
     ensures { result ≡ u8_of word.now }
@@ -50,7 +50,7 @@ pub(crate) fn u8_of(word: &[u8]) -> Result<u8, LineRefused>
     Ok(read_number(word, u64::from(u8::MAX))? as u8)
 }
 
-// A word as a decimal number from 1 to `most`.
+// Returns a word as a decimal number from 1 to `most`.
 fn positive_of(word: &[u8], most: u64) -> Result<u64, LineRefused>
     ensures value { result ≡ positive_of most word.now }
     ensures within { IfOk result (λ n. (1 ≤ n) × (n ≤ most)) }
@@ -62,7 +62,7 @@ fn positive_of(word: &[u8], most: u64) -> Result<u64, LineRefused>
     Ok(number)
 }
 
-// A word as a hexadecimal number.
+// Returns a word as a hexadecimal number.
 #[inline(always)]
 pub(crate) fn hex_u64_of(word: &[u8]) -> Result<u64, LineRefused>
     ensures { result ≡ hex_u64_of word.now }
@@ -70,7 +70,7 @@ pub(crate) fn hex_u64_of(word: &[u8]) -> Result<u64, LineRefused>
     hexadecimal(word).ok_or(LineRefused::Number)
 }
 
-// A word as a label.
+// Returns a word as a label.
 pub(crate) fn read_label(alloc: Global, word: &[u8]) -> Result<Label, LineRefused>
     ensures { GivesLine result (read_label word.now) }
 {
@@ -81,14 +81,14 @@ pub(crate) fn read_label(alloc: Global, word: &[u8]) -> Result<Label, LineRefuse
     }
 }
 
-// A word as bytes.
+// Returns a word as bytes.
 pub(crate) fn hex_bytes_of(alloc: Global, word: &[u8]) -> Result<Text, LineRefused>
     ensures { GivesLine result (hex_bytes_of word.now) }
 {
     bytes_of(alloc, word)?.ok_or(LineRefused::Hex)
 }
 
-// Two words as a limit.
+// Returns two words as a limit.
 pub(crate) fn read_limit(words: &[&[u8]]) -> Result<Limit, LineRefused>
     ensures { result ≡ read_limit (map (λ word. word.now) words.now) }
 {
@@ -100,7 +100,7 @@ pub(crate) fn read_limit(words: &[&[u8]]) -> Result<Limit, LineRefused>
     Ok(Limit { capacity, period })
 }
 
-// Ten words as the snapshot of a bank.
+// Returns ten words as the snapshot of a bank.
 #[tactic(auto, using(crate::proofs::ShapeLemmas::ten, crate::proofs::ShapeLemmas::too_few, crate::proofs::ShapeLemmas::too_many))]
 pub(crate) fn read_report(words: &[&[u8]]) -> Result<BankReport, LineRefused>
     ensures { result ≡ read_report (map (λ word. word.now) words.now) }

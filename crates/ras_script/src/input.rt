@@ -16,23 +16,24 @@ use ras_base::NoMemory;
 use std::alloc::Global;
 use std::marker::Model;
 
-/// What a call of `InputReader::advance` came to.
+/// What a call of `InputReader::advance` found.
 #[derive(Clone, Copy, Debug, PartialEq, Eq)]
 pub enum InputStep {
     /// A line, which `line` then returns.
     Line,
-    /// The end of a line of more than `LONGEST_LINE` bytes. None of its bytes is kept.
+    /// The end of a line of more than `LONGEST_LINE` bytes, all of which were dropped.
     Long,
-    /// Bytes of a line of more than `LONGEST_LINE` bytes. They were dropped, and its end is to come.
+    /// Bytes of a line of more than `LONGEST_LINE` bytes. They were dropped, and the line's end
+    /// hasn't come yet.
     Dropping,
-    /// The end of the source. It is `cut` if bytes stand after the last line feed. They are no
-    /// line, and never become one.
+    /// The end of the source. It is `cut` if there are bytes after the last line feed. They aren't
+    /// a line, and never become one.
     End { cut: bool },
 }
 
 // Where a line ends.
 enum LineEnd {
-    // At the line feed at this index of the bytes held.
+    // At the line feed at this index of the buffer's bytes.
     Feed(usize),
     // Further on: the buffer is full.
     Full,
@@ -41,8 +42,9 @@ enum LineEnd {
 }
 
 /// The inputs of a text are its lines that a line feed ends, each one `long` if it has more than
-/// `LONGEST_LINE` bytes, and the text is cut if bytes stand after the last line feed. The inputs of
-/// a text's beginning are the first inputs of the text, so a line that was cut is never completed.
+/// `LONGEST_LINE` bytes, and the text is cut if there are bytes after the last line feed. The
+/// inputs of a text's beginning are the first inputs of the text, so a line that was cut is never
+/// completed.
 pub fn inputs_laws()
     ensures lines { (lines : List (List ℕ)) (rest : List ℕ)
         → AllByRecursion (Lacks 10) lines → Lacks 10 rest
@@ -165,14 +167,15 @@ impl InputReader {
         }
     }
 
-    // Whether bytes of a line without its line feed were dropped or are held.
+    // Returns whether the buffer has bytes of a line without its line feed, or such bytes were
+    // dropped.
     fn is_cut(&self) -> bool
         ensures { result ≡ is_cut self.now }
     {
         self.dropping || self.window.held_len() > 0
     }
 
-    // How many bytes are held.
+    // Returns how many bytes are in the buffer.
     fn held_len(&self) -> usize
         ensures value { result ≡ length self.now.held }
         ensures few { result ≤ LONGEST_LINE + 1 }
@@ -180,7 +183,7 @@ impl InputReader {
         self.window.held_len()
     }
 
-    // The place of the first line feed among the bytes held.
+    // Returns the index of the first line feed in the buffer.
     fn first_line_feed(&self) -> Option<usize>
         ensures finds { MatchOption result (Lacks 10 self.now.held)
             (λ place. FeedAt place self.now.held) }
@@ -190,7 +193,7 @@ impl InputReader {
         self.window.first_line_feed()
     }
 
-    // Reads more bytes, after those held. The buffer has room for at least one.
+    // Reads more bytes into the buffer, which has room for at least one.
     fn read_more<S: Source>(&mut self, source: &mut S) -> Result<usize, Failed>
         requires { length self.old.held ≤ LONGEST_LINE }
         ensures moves { MovesPast [] self.old self.new (S.left source.old) (S.left source.new) }
@@ -206,7 +209,8 @@ impl InputReader {
         self.window.read_from(source, room)
     }
 
-    // Takes the bytes before a line feed as a line, or as the end of a line that is too long.
+    // Takes the bytes before a line feed from the buffer, as a line or as the end of a line that is
+    // too long.
     fn give_line(&mut self, size: usize) -> InputStep
         requires feed { FeedAt size self.old.held }
         ensures { GivesLineEnd result size self.old self.new }
@@ -220,7 +224,7 @@ impl InputReader {
         }
     }
 
-    // Drops all bytes held, which are bytes of a line that is too long.
+    // Drops all bytes in the buffer, which belong to a line that is too long.
     fn drop_held(&mut self)
         ensures { DropsHeld self.old self.new }
     {

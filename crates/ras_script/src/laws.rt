@@ -7,7 +7,7 @@ ghost use Rattle.ras_script.specs.declared.number.TheConstants.{DECIMAL_DIGITS, 
 ghost use Rattle.ras_script.specs.declared.reader.TheConstants.{LONGEST_LINE, LONGEST_SCRIPT};
 ghost use Rattle.ras_script.specs.declared.splitting.TheConstants.{HELD_WORDS};
 
-/// The numbers that the definitions of lines and words name have these digits.
+/// The numbers behind the names that the definitions of lines and words use.
 pub fn numbers_in_digits()
     ensures line { LONGEST_LINE ≡ 40000 }
     ensures script { LONGEST_SCRIPT ≡ 67108864 }

@@ -35,7 +35,7 @@ pub enum Line {
     Panic { id: u64, bank: BankReport },
     /// Count the records of the record store, as read at a time in seconds.
     Poll { seconds: u64 },
-    /// Make the account again from its files.
+    /// Recover the account from its files again.
     Restart,
 }
 
@@ -70,7 +70,7 @@ pub enum ErrorReport {
     },
 }
 
-/// Why a line is refused: the first reason that applies, going through the words from left to
+/// Why a line is rejected: the first reason that applies, going through the words from left to
 /// right. A refusal is printed by its number.
 #[derive(Clone, Copy, Debug, Error, PartialEq, Eq)]
 pub enum LineRefused {
@@ -116,9 +116,9 @@ impl LineRefused {
 /// # Errors
 ///
 /// The first that applies. `Kind`: the first word isn't a kind of line. `Words`: the kind has
-/// another number of words. Then, from left to right, `Number`: a word for a number isn't one in
-/// its range; `Hex`: a word for bytes isn't an even number of hexadecimal digits; `Label`: a word
-/// for a label isn't a label. Last, `Number`: the first address of a range is above its last.
+/// another number of words. Then, from left to right, `Number`: a word for a number isn't a number
+/// in its range; `Hex`: a word for bytes isn't an even number of hexadecimal digits; `Label`: a
+/// word for a label isn't a label. Last, `Number`: the first address of a range is above its last.
 /// `NoMemory`: only if memory runs out.
 pub fn read_line(alloc: Global, bytes: &[u8]) -> Result<Line, LineRefused>
     ensures read { ReadsLine result bytes.now }
@@ -130,7 +130,7 @@ pub fn read_line(alloc: Global, bytes: &[u8]) -> Result<Line, LineRefused>
     line_of_words(alloc, &words(bytes))
 }
 
-// Whether a line's first byte shows that it asks for nothing: there is no byte, or it begins a
+// Returns whether a line's first byte shows that it asks for nothing: the line is empty or a
 // comment.
 #[tactic(auto, using(crate::proofs::SpaceLemmas::empty_asks, crate::proofs::SpaceLemmas::comment_asks))]
 fn asks_nothing(bytes: &[u8]) -> bool
@@ -139,7 +139,7 @@ fn asks_nothing(bytes: &[u8]) -> bool
     bytes.is_empty() || bytes[0] == b'#'
 }
 
-// What a line asks for, by its words.
+// Returns what a line asks for, by its words.
 fn line_of_words(alloc: Global, words: &[&[u8]]) -> Result<Line, LineRefused>
     ensures read { GivesLine result (line_of_words (map (λ word. word.now) words.now)) }
     ensures line { (bytes : List ℕ) → AreHeldWords (map (λ word. word.now) words.now) bytes
@@ -168,7 +168,7 @@ pub fn written_lines_are_read()
     ensures { (line : Line) → IsInRange line → line_of (line_text line) ≡ Ok line }
 {}
 
-/// A line is refused only for a word, so a line without words never is.
+/// A line is rejected only because of a word, so a line without words is never rejected.
 pub fn refused_lines_have_words()
     ensures { (bytes : List ℕ) → IsErr (line_of bytes) → 0 < length (words_of bytes) }
 {}

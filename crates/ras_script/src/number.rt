@@ -11,10 +11,10 @@ pub const DECIMAL_DIGITS: usize = 20;
 /// The most digits of a hexadecimal word.
 pub const HEXADECIMAL_DIGITS: usize = 16;
 
-// This many digits, in any radix up to 16, give a value below 2^64.
+// Any number of this many digits is below 2^64, in any radix up to 16.
 const FITTING_DIGITS: usize = 16;
 
-// The table's value for a byte that is a digit of no radix.
+// The table's value for a byte that isn't a digit in any radix.
 const NONE: u8 = 36;
 
 // The value of each byte as a digit, of a radix up to 36.
@@ -53,8 +53,8 @@ pub fn hexadecimal(word: &[u8]) -> Option<u64>
     number(word, 16, HEXADECIMAL_DIGITS, u64::MAX)
 }
 
-/// What `{}` writes of a number is read back as a decimal word, and what `{:x}` and `{:X}` write as
-/// hexadecimal words.
+/// A number printed with `{}` is read back as a decimal word, and printed with `{:x}` or `{:X}` as
+/// a hexadecimal word.
 pub fn written_numbers_are_read()
     ensures in_decimal { (most n : ℕ) → n ≤ most → most < 2 ^ 64
         → decimal_of most (decimal n) ≡ Some n }
@@ -62,8 +62,8 @@ pub fn written_numbers_are_read()
         → hexadecimal_of (digits 16 upper n) ≡ Some n }
 {}
 
-// The value of a word of 1 to `longest` digits, if it is at most `most`. It is inlined so that the
-// radix is known at each use, because most words of a script are numbers.
+// Returns the value of a word of 1 to `longest` digits, if it is at most `most`. Inlined so that
+// the radix is known at each use, because most words of a script are numbers.
 #[inline(always)]
 fn number(word: &[u8], radix: u32, longest: usize, most: u64) -> Option<u64>
     requires some_radix { 10 ≤ radix }
@@ -87,7 +87,7 @@ fn number(word: &[u8], radix: u32, longest: usize, most: u64) -> Option<u64>
     if value <= most { Some(value) } else { None }
 }
 
-// The value of a digit.
+// Returns the value of a digit.
 #[inline(always)]
 fn digit_of(byte: u8, radix: u32) -> Option<u64>
     requires some_radix { 10 ≤ radix }
@@ -102,7 +102,7 @@ fn digit_of(byte: u8, radix: u32) -> Option<u64>
     }
 }
 
-// The value of a byte as a digit, `NONE` if it isn't one.
+// Returns the value of a byte as a digit, or `NONE` if it isn't a digit.
 #[inline(always)]
 pub(crate) fn value_of(byte: u8) -> u8
     ensures { result ≡ digit_value byte }

@@ -45,10 +45,10 @@ impl From<Failed> for NextRefused {
     }
 }
 
-/// A line feed cuts the lines of a script: two texts with a line feed between them have the lines
-/// of the first, then the lines of the second. Within the limits, a line that a line feed ends
-/// comes first, and then the lines of what follows, whose limit is lower by the bytes of that line
-/// and its line feed.
+/// A line feed cuts the lines of a script: the lines of two texts with a line feed between them are
+/// the lines of the first text, then the lines of the second. Within the limits, a line that a line
+/// feed ends comes first, and then the lines of what follows, whose limit is lower by the bytes of
+/// that line and its line feed.
 pub fn line_feeds_cut_scripts()
     ensures cut { (front rest : List ℕ)
         → lines_of (front ++ 10 ∷ rest) ≡ lines_of (front ++ 10 ∷ []) ++ lines_of rest }
@@ -59,7 +59,7 @@ pub fn line_feeds_cut_scripts()
 
 /// The lines of a script within the limits, each with a line feed at its end, are the script again,
 /// unless their list ends early: before a line that is too long, or before the line in which the
-/// script gets too long.
+/// script becomes too long.
 pub fn lines_within_limits_are_the_script()
     ensures { (most : ℕ) (text : List ℕ) → AreLinesOf most text (lines_within most text) }
 {}
@@ -180,14 +180,14 @@ impl LineReader {
         }
     }
 
-    // How many bytes were taken from the source.
+    // Returns how many bytes were read from the source.
     fn taken_len(&self) -> usize
         ensures { result ≡ self.now.taken }
     {
         self.taken
     }
 
-    // How many bytes are held.
+    // Returns how many bytes are in the buffer.
     fn held_len(&self) -> usize
         ensures value { result ≡ length self.now.held }
         ensures holds { IsHeld self.now }
@@ -195,7 +195,7 @@ impl LineReader {
         self.window.held_len()
     }
 
-    // The place of the first line feed among the bytes held.
+    // Returns the index of the first line feed in the buffer.
     fn first_line_feed(&self) -> Option<usize>
         ensures finds { MatchOption result (Lacks 10 self.now.held)
             (λ place. FeedAt place self.now.held) }
@@ -204,7 +204,7 @@ impl LineReader {
         self.window.first_line_feed()
     }
 
-    // Reads more bytes, after those held. The buffer has room for at least one.
+    // Reads more bytes into the buffer, which has room for at least one.
     fn read_more<S: Source>(&mut self, source: &mut S) -> Result<usize, Failed>
         requires room { length self.old.held ≤ LONGEST_LINE }
         requires few { self.old.taken ≤ LONGEST_SCRIPT }

@@ -11,7 +11,7 @@ use crate::blocks::{BLOCK_BYTES, lowest, places_at, without};
 use crate::kinds::MOST_WORDS;
 use arrayvec::ArrayVec;
 
-/// The words of a line that are stored: one more than a line of any kind has, so that a line of too
+/// How many words of a line are stored: one more than a line of any kind has, so that a line of too
 /// many words is recognized.
 pub(crate) const HELD_WORDS: usize = MOST_WORDS + 1;
 
@@ -63,7 +63,7 @@ fn hold_in_block<'a>(
     start
 }
 
-// Holds the words from `first` on, whose spaces all stand at `from` or later.
+// Stores the words from `first` on, if all spaces after `first` are at `from` or later.
 #[inline(always)]
 fn hold_rest<'a>(
     words: &mut ArrayVec<&'a [u8], HELD_WORDS>,
@@ -87,7 +87,7 @@ fn hold_rest<'a>(
     hold(words, &line[start..]);
 }
 
-// Holds a text without a space as the next word, unless it is empty, or no room is left.
+// Stores a text without a space as the next word, unless it is empty or there is no room left.
 #[inline(always)]
 fn hold<'a>(words: &mut ArrayVec<&'a [u8], HELD_WORDS>, text: &'a [u8])
     requires { Lacks 32 text.now }
@@ -100,8 +100,8 @@ fn hold<'a>(words: &mut ArrayVec<&'a [u8], HELD_WORDS>, text: &'a [u8])
 }
 
 /// The lines of a script, each with a line feed at its end, are the script, with a line feed added
-/// if its last byte isn't one. No line has a line feed, an empty script has no lines, and each line
-/// has at least a byte of the script.
+/// if its last byte isn't a line feed. No line has a line feed, an empty script has no lines, and
+/// each line has at least a byte of the script.
 pub fn lines_are_the_script()
     ensures none { lines_of [] ≡ [] }
     ensures whole { (script : List ℕ) → script_of (lines_of script) ≡ with_last_line_feed script }
@@ -109,9 +109,9 @@ pub fn lines_are_the_script()
     ensures unbroken { (script : List ℕ) → AllByRecursion (Lacks 10) (lines_of script) }
 {}
 
-/// A text without a space is one word, unless it is empty. Two texts with a space between them have
-/// the words of the first, then the words of the second. No word is empty or has a space, and words
-/// joined by single spaces are read back.
+/// A text without a space is one word, unless it is empty. The words of two texts with a space
+/// between them are the words of the first text, then the words of the second. No word is empty or
+/// has a space, and words joined by single spaces are read back.
 pub fn spaces_separate_words()
     ensures none { words_of [] ≡ [] }
     ensures single { (word : List ℕ) → IsWord word → words_of word ≡ word ∷ [] }

@@ -1,4 +1,4 @@
-//! The buffer of a reader of lines: the line that was given last, the bytes after it, and room.
+//! The buffer of a reader of lines: the line that was returned last, the bytes after it, and room.
 
 ghost use Rattle.std.specs.Prelude.{◌≡◌, ◌+◌, ◌<◌, ◌≤◌, [], ◌++◌, length, take, drop, slice_range, vec_len, IfOk, OnErr, OnOk, MatchOption};
 ghost use Rattle.ras_script.specs.Steps.Feeds.{line_feed_in};
@@ -17,9 +17,9 @@ use std::alloc::Global;
 // A line and its line feed.
 const BUFFER_BYTES: usize = LONGEST_LINE + 1;
 
-// `bytes[line..line_end]` was given last; `bytes[start..end]` is held, and `line_feed` is the place of
-// the first line feed of these, or `end`: it is asked for twice, before a line is printed and where
-// the next one is given.
+// `bytes[line..line_end]` was returned last; `bytes[start..end]` was read after it; and `line_feed`
+// is the index of the first line feed of these, or `end`. It is stored because it is used twice:
+// before a line is printed, and when the next line is returned.
 #[derive(Drop)]
 pub(crate) struct Window {
     bytes: Vec<u8>,
@@ -54,14 +54,14 @@ impl Window {
         })
     }
 
-    // The line that was given last.
+    // Returns the line that was returned last.
     pub(crate) fn line(&self) -> &[u8]
         ensures { result.now ≡ line_in self.now }
     {
         &self.bytes[self.line..self.line_end]
     }
 
-    // How many bytes are held.
+    // Returns how many bytes are in the buffer after that line.
     pub(crate) fn held_len(&self) -> usize
         ensures value { result ≡ length (held_in self.now) }
         ensures few { result ≤ BUFFER_BYTES }
@@ -69,7 +69,7 @@ impl Window {
         self.end - self.start
     }
 
-    // The place of the first line feed among the bytes held.
+    // Returns the index of the first line feed among these bytes.
     pub(crate) fn first_line_feed(&self) -> Option<usize>
         ensures { MatchOption result (Lacks 10 (held_in self.now))
             (λ place. FeedAt place (held_in self.now)) }
@@ -81,7 +81,7 @@ impl Window {
         }
     }
 
-    // Gives the first `size` bytes held as a line, and drops the `dropped` bytes after them.
+    // Returns the first `size` bytes as a line, and drops the `dropped` bytes after them.
     pub(crate) fn give(&mut self, size: usize, dropped: usize)
         requires { size + dropped ≤ length (held_in self.old) }
         ensures line { line_in self.new ≡ take size (held_in self.old) }
@@ -93,7 +93,7 @@ impl Window {
         self.line_feed = self.start + line_feed_in(&self.bytes[self.start..self.end]);
     }
 
-    // Moves the bytes held to the front. They may overwrite the line that was given last.
+    // Moves the bytes to the front. They may overwrite the line that was returned last.
     pub(crate) fn move_to_front(&mut self)
         ensures held { held_in self.new ≡ held_in self.old }
         ensures front { self.new.start ≡ 0 }
@@ -110,7 +110,7 @@ impl Window {
         }
     }
 
-    // Reads at most `most` bytes after those held.
+    // Reads at most `most` bytes after the bytes in the buffer.
     pub(crate) fn read_from<S: Source>(
         &mut self,
         source: &mut S,
@@ -154,8 +154,8 @@ fn read_after<S: Source>(
     source.read(&mut bytes[end..end + most])
 }
 
-// The place of the first line feed, or the length if there is none. It is `found` of the first
-// `searched` bytes.
+// Returns the index of the first line feed, or the length if there is no line feed, given the
+// result `found` for the first `searched` bytes.
 fn line_feed_past(bytes: &[u8], searched: usize, found: usize) -> usize
     requires inside { searched ≤ length bytes.now }
     requires found { found ≡ line_feed_in (take searched bytes.now) }
@@ -169,7 +169,7 @@ fn line_feed_past(bytes: &[u8], searched: usize, found: usize) -> usize
     }
 }
 
-// The place of the first line feed, or the length if there is none.
+// Returns the index of the first line feed, or the length if there is no line feed.
 fn line_feed_in(bytes: &[u8]) -> usize
     ensures place { result ≡ line_feed_in bytes.now }
     ensures within { result ≤ length bytes.now }

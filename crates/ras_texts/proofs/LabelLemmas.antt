@@ -4,6 +4,6 @@ use Rattle.std.specs.Prelude.{IsTrue}
 use Rattle.std.proofs.lemmas.Bool.Decides.{nat_tests}
 use Rattle.dimm_topology.specs.Labels.{Bytes, is_label_or_none}
 
--- a label or none has at most 32 bytes
+-- A valid or empty label has at most 32 bytes.
 pub label_short : (label : Bytes) → IsTrue (is_label_or_none label) → length label ≤ 32
 label_short label is = grind (arith, nat_tests, is)

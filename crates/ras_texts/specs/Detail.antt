@@ -1,4 +1,4 @@
--- What a log line prints of a bank besides the fact.
+-- What a log line prints about a bank besides the fact.
 use Rattle.std.specs.Prelude.{ℕ, Bool, List, ◌++◌, codes, if◌then◌else◌}
 use Rattle.mca_codes.specs.declared.marks.Mark.{Mark}
 use Rattle.mca_codes.specs.declared.marks.Mark.TheVariants as marks
@@ -30,12 +30,12 @@ mark_text marks.Srar = codes "srar"
 abbrev pub bit_text : Bool → List ℕ
 bit_text bit = if bit then codes "1" else codes "0"
 
--- what an error code says
+-- the text of an error code
 unfoldable pub code_detail : ℕ → List ℕ
 code_detail code = codes "code=" ++ code_text (code_of_rows code)
 
--- what an error's registers say besides the class, the weight and the page: the error's code, the threshold status,
--- OVER, and whether the code belongs to a recoverable error
+-- The text of an error's registers besides the class, the weight and the page: the error's code, the threshold status,
+-- OVER, and whether the code belongs to a recoverable error.
 unfoldable pub error_detail : Cap → Status → List ℕ
 error_detail cap status =
     code_detail (error_code status)
@@ -50,7 +50,7 @@ flags_detail global =
     ++ codes " eipv=" ++ bit_text (error_pointer_valid global)
     ++ codes " mcip=" ++ bit_text (in_progress global)
 
--- what a bank's snapshot says besides its item
+-- the text of a bank's snapshot besides its item
 abbrev pub bank_detail : BankReport → List ℕ
 bank_detail bank =
     error_detail (cap_in bank) (status_in bank) ++ flags_detail (record { 0 = bank.mcg })

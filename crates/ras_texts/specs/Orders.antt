@@ -13,7 +13,7 @@ use Rattle.ras_account.specs.Account.{State}
 use Rattle.ras_account.specs.Modules.{Module}
 use Rattle.ras_texts.specs.Text.{address_text, label_text}
 
--- the line of a page in a state: none if the page stays in use
+-- The line of a page in a state. A page that stays in use has no line.
 abbrev pub state_line : ℕ → PageState → List ℕ
 state_line page Kept = []
 state_line page Soft = line_with (codes "order soft page=" ++ address_text page)

@@ -1,4 +1,4 @@
--- What a log line prints of a section besides its item.
+-- What a log line prints about a section besides its item.
 use Rattle.std.specs.Prelude.{ℕ, List, [], ◌∷◌, ◌++◌, codes, decimal, slice_index_or, Option, None, Some}
 use Rattle.std.specs.Int.{to_be_bytes, w64}
 use Rattle.hex.specs.Hex.{encode_lower}
@@ -24,7 +24,7 @@ type_text kind = slice_index_or memory_types kind (codes "type-" ++ decimal kind
 abbrev pub digits_text : ℕ → List ℕ
 digits_text number = encode_lower (to_be_bytes w64 number)
 
--- a field that may be missing
+-- a field, or `-` if it is missing
 abbrev pub told_text : (ℕ → List ℕ) → Option ℕ → List ℕ
 told_text text None = codes "-"
 told_text text (Some value) = text value
@@ -51,6 +51,6 @@ x64_text section =
     ++ codes " structures=" ++ decimal section.structures
     ++ codes " contexts=" ++ decimal section.contexts
 
--- a section of another type: only its type
+-- the text of a section of another type: only the type
 unfoldable pub other_text : List ℕ → List ℕ
 other_text guid = codes "section=" ++ hyphenated_text lower guid

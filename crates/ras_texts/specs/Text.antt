@@ -1,4 +1,4 @@
--- The lines that are printed of entries, of events and of runs, each with its line feed.
+-- The lines printed for entries, events and runs, each with its line feed.
 use Rattle.std.specs.Prelude.{ℕ, ◌==◌, List, [], ◌++◌, codes, decimal, drop, length, Option, None, Some, if◌then◌else◌}
 use Rattle.std.specs.Int.{to_be_bytes, w64}
 use Rattle.hex.specs.Hex.{encode_lower}
@@ -53,7 +53,7 @@ state_text Kept = codes "kept"
 state_text Soft = codes "soft"
 state_text Hard = codes "hard"
 
--- a module's label, or `-` if there is none
+-- a module's label, or `-` if the label is empty
 abbrev pub label_text : List ℕ → List ℕ
 label_text label = if length label == 0 then codes "-" else label
 
@@ -79,7 +79,7 @@ limit_line limit = line_with (codes "limit " ++ limit_text limit)
 abbrev pub module_limit_line : Limit → List ℕ
 module_limit_line limit = line_with (codes "module-limit " ++ limit_text limit)
 
--- the line of a new retire, with how many names it drops
+-- the line of a new retire, with the number of names it drops
 abbrev pub retire_line : ℕ → ℕ → List ℕ
 retire_line boot dropped =
     line_with (codes "retire boot=" ++ decimal boot ++ codes " names=" ++ decimal dropped)
@@ -89,7 +89,7 @@ abbrev pub known_line : State → Name → List ℕ
 known_line account name =
     line_with ((if is_retired account.floor name then codes "stale " else codes "repeat ") ++ name_text name)
 
--- the line of an entry that isn't new in an account: the line of a fact's name; other entries have none
+-- The line of an entry that isn't new in an account: the line of a fact's name. Other entries have no line.
 abbrev pub repeat_line : State → Entry → List ℕ
 repeat_line account (FactEntry fact) = known_line account fact.name
 repeat_line account (PageLimit limit) = []

@@ -1,4 +1,4 @@
-//! What a log line prints of a bank's registers.
+//! What a log line prints about a bank's registers.
 
 ghost use Rattle.std.specs.Prelude.{◌≡◌, ◌++◌, codes, OnOk};
 ghost use Rattle.ras_texts.specs.Detail.{bank_detail, code_detail, error_detail, flags_detail};
@@ -9,7 +9,7 @@ use mca_status::{Cap, GlobalStatus, Status, Threshold, threshold_of};
 use ras_base::NoMemory;
 use ras_facts::BankReport;
 
-/// Appends what a bank's registers say besides the class, the weight and the page.
+/// Appends the text of a bank's registers besides the class, the weight and the page.
 ///
 /// `NoMemory`: only if memory runs out.
 pub fn push_bank(text: &mut Vec<u8>, bank: &BankReport) -> Result<(), NoMemory>
@@ -19,7 +19,7 @@ pub fn push_bank(text: &mut Vec<u8>, bank: &BankReport) -> Result<(), NoMemory>
     push_flags(text, GlobalStatus(bank.mcg))
 }
 
-// Adds what an error's registers say.
+// Appends the text of an error's registers.
 #[tactic(auto, unfolding(crate::specs::Detail::error_detail))]
 fn push_error(text: &mut Vec<u8>, cap: Cap, status: Status) -> Result<(), NoMemory>
     ensures { OnOk result (text.new.items ≡ text.old.items ++ error_detail cap status) }
@@ -32,7 +32,7 @@ fn push_error(text: &mut Vec<u8>, cap: Cap, status: Status) -> Result<(), NoMemo
     Ok(())
 }
 
-// Adds what an error code says.
+// Appends the text of an error code.
 #[tactic(auto, unfolding(crate::specs::Detail::code_detail))]
 fn push_code(text: &mut Vec<u8>, code: u16) -> Result<(), NoMemory>
     ensures { OnOk result (text.new.items ≡ text.old.items ++ code_detail code) }
@@ -41,7 +41,7 @@ fn push_code(text: &mut Vec<u8>, code: u16) -> Result<(), NoMemory>
     push_code_text(text, code_of(code))
 }
 
-// Adds the flags of IA32_MCG_STATUS.
+// Appends the flags of IA32_MCG_STATUS.
 #[tactic(auto, unfolding(crate::specs::Detail::flags_detail))]
 fn push_flags(text: &mut Vec<u8>, global: GlobalStatus) -> Result<(), NoMemory>
     ensures { OnOk result (text.new.items ≡ text.old.items ++ flags_detail global) }
@@ -54,7 +54,7 @@ fn push_flags(text: &mut Vec<u8>, global: GlobalStatus) -> Result<(), NoMemory>
     Ok(())
 }
 
-// A bank's threshold status as a field.
+// Returns a bank's threshold status as a field.
 fn threshold_field(threshold: Threshold) -> &'static [u8]
     ensures { result.now ≡ codes " threshold=" ++ threshold_text threshold }
 {
@@ -67,14 +67,14 @@ fn threshold_field(threshold: Threshold) -> &'static [u8]
     }
 }
 
-// OVER as a field.
+// Returns OVER as a field.
 fn over_field(is_over: bool) -> &'static [u8]
     ensures { result.now ≡ codes " over=" ++ bit_text is_over }
 {
     if is_over { b" over=1" } else { b" over=0" }
 }
 
-// The kind of recoverable error that a code belongs to, as a field.
+// Returns the kind of recoverable error that a code belongs to, as a field.
 fn mark_field(mark: Mark) -> &'static [u8]
     ensures { result.now ≡ codes " mark=" ++ mark_text mark }
 {
@@ -85,7 +85,7 @@ fn mark_field(mark: Mark) -> &'static [u8]
     }
 }
 
-// The flags RIPV, EIPV and MCIP as fields.
+// Returns the flags RIPV, EIPV and MCIP as fields.
 fn flag_fields(ripv: bool, eipv: bool, mcip: bool) -> &'static [u8]
     ensures { result.now ≡ codes " ripv=" ++ bit_text ripv ++ codes " eipv=" ++ bit_text eipv
         ++ codes " mcip=" ++ bit_text mcip }

@@ -1,4 +1,4 @@
-//! The lines that the daemon prints: of new and repeated entries, of orders, and at the end of an
+//! The lines that the daemon prints: for new and repeated entries, for orders, and at the end of an
 //! event and of a run.
 #![tactic(auto)]
 

@@ -49,7 +49,7 @@ pub fn push_known(text: &mut Vec<u8>, account: &Account, name: &Name) -> Result<
     Ok(())
 }
 
-// How many names of boots below one an account has.
+// Returns how many names of boots below this one an account has.
 fn retired_names(account: &Account, boot: u64) -> u64
     ensures { result ≡ count_by (is_retired boot) account.now.state.names }
 {

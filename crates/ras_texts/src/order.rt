@@ -15,7 +15,7 @@ use ras_account::{Account, Orders};
 use ras_base::NoMemory;
 use std::alloc::Global;
 
-/// The most bytes of the line of an order: of a module with a label of 32 bytes.
+/// The most bytes of the line of an order: of an order for a module with a label of 32 bytes.
 pub const ORDER_LENGTH: usize = 52;
 
 /// Appends the lines of orders, with the labels of an account. Requires a text with room for them.
@@ -45,7 +45,7 @@ pub fn standing_lines(alloc: Global, account: &Account) -> Result<Vec<u8>, NoMem
     Ok(text)
 }
 
-// Adds the lines of the pages with an outstanding order.
+// Appends the lines of the pages with an outstanding order.
 fn push_standing_pages(text: &mut Vec<u8>, account: &Account) -> Result<(), NoMemory>
     ensures { OnOk result (text.new.items
         ≡ text.old.items ++ flat_map page_line account.now.state.pages) }
@@ -59,7 +59,7 @@ fn push_standing_pages(text: &mut Vec<u8>, account: &Account) -> Result<(), NoMe
     Ok(())
 }
 
-// Adds the lines of the modules that are to be replaced.
+// Appends the lines of the modules that are to be replaced.
 fn push_standing_modules(text: &mut Vec<u8>, account: &Account) -> Result<(), NoMemory>
     ensures { OnOk result (text.new.items
         ≡ text.old.items ++ flat_map replaced_line account.now.state.modules) }
@@ -74,7 +74,7 @@ fn push_standing_modules(text: &mut Vec<u8>, account: &Account) -> Result<(), No
     Ok(())
 }
 
-// Adds the line of an order to a text that has room for it.
+// Appends the line of an order to a text that has room for it.
 fn push_order(text: &mut Vec<u8>, order: Order, account: &Account)
     requires { HasOrderRoom 1 text.old }
     ensures line { text.new.items ≡ text.old.items ++ order_line account.now.state.modules order }
@@ -87,7 +87,7 @@ fn push_order(text: &mut Vec<u8>, order: Order, account: &Account)
     }
 }
 
-// The label of the module at an index.
+// Returns the label of the module at an index.
 fn module_label(account: &Account, place: usize) -> Label
     ensures { result ≡ module_label account.now.state.modules place }
 {
@@ -98,7 +98,7 @@ fn module_label(account: &Account, place: usize) -> Label
     }
 }
 
-// Adds the line of a page in a state to a text that has room for it.
+// Appends the line of a page in a state to a text that has room for it.
 fn push_state(text: &mut Vec<u8>, page: u64, state: PageState)
     requires { HasOrderRoom 1 text.old }
     ensures line { text.new.items ≡ text.old.items ++ state_line page state }
@@ -111,7 +111,7 @@ fn push_state(text: &mut Vec<u8>, page: u64, state: PageState)
     }
 }
 
-// Adds a line that ends with a page to a text that has room for it.
+// Appends a line that ends with a page to a text that has room for it.
 fn push_page_line(text: &mut Vec<u8>, head: &[u8], page: u64)
     requires head { length head.now ≤ 16 }
     requires room { HasOrderRoom 1 text.old }
@@ -124,7 +124,7 @@ fn push_page_line(text: &mut Vec<u8>, head: &[u8], page: u64)
     push_within(text, b"\n");
 }
 
-// Adds the line of a module that is to be replaced to a text that has room for it.
+// Appends the line of a module that is to be replaced to a text that has room for it.
 fn push_module(text: &mut Vec<u8>, label: &Label)
     requires { HasOrderRoom 1 text.old }
     ensures line { text.new.items ≡ text.old.items ++ module_line label.now }
@@ -135,7 +135,7 @@ fn push_module(text: &mut Vec<u8>, label: &Label)
     push_within(text, b"\n");
 }
 
-// Adds a label, or `-` if there is none, to a text that has room for it.
+// Appends a label, or `-` if it is empty, to a text that has room for it.
 #[tactic(auto, using(crate::proofs::LabelLemmas::label_short))]
 fn push_label_within(text: &mut Vec<u8>, label: &Label)
     requires { vec_len text.old + 32 ≤ vec_capacity text.old }
@@ -151,7 +151,7 @@ fn push_label_within(text: &mut Vec<u8>, label: &Label)
     }
 }
 
-// Adds a piece to a text that has room for it.
+// Appends a piece to a text that has room for it.
 fn push_within(text: &mut Vec<u8>, piece: &[u8])
     requires { vec_len text.old + length piece.now ≤ vec_capacity text.old }
     ensures piece { text.new.items ≡ text.old.items ++ piece.now }

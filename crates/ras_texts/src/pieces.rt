@@ -119,7 +119,7 @@ pub fn hexadecimal_digits(number: u64) -> [u8; 16]
     digits
 }
 
-/// Appends a page as the address of its first byte, or `-` if there is none.
+/// Appends a page as the address of its first byte, or `-` if there is no page.
 ///
 /// `NoMemory`: only if memory runs out.
 pub fn push_page(text: &mut Vec<u8>, page: Option<u64>) -> Result<(), NoMemory>
@@ -135,7 +135,7 @@ pub fn push_page(text: &mut Vec<u8>, page: Option<u64>) -> Result<(), NoMemory>
     Ok(())
 }
 
-/// Appends the label of a module, or `-` if there is none.
+/// Appends the label of a module, or `-` if it is empty.
 ///
 /// `NoMemory`: only if memory runs out.
 pub fn push_label(text: &mut Vec<u8>, label: &Label) -> Result<(), NoMemory>
@@ -145,7 +145,7 @@ pub fn push_label(text: &mut Vec<u8>, label: &Label) -> Result<(), NoMemory>
     Ok(())
 }
 
-/// Returns the label of a module, or `-` if there is none.
+/// Returns the label of a module, or `-` if it is empty.
 pub fn label_word(label: &Label) -> &[u8]
     ensures { result.now ≡ label_text label.now }
 {

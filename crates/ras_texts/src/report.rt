@@ -1,4 +1,4 @@
-//! The lines of a new entry: for a report one for each item, with the item's detail.
+//! The lines of a new entry: for a report one line for each item, with the item's detail.
 
 ghost use Rattle.std.specs.Prelude.{◌≡◌, ◌++◌, OnOk};
 ghost use Rattle.std.specs.List.{flat_map, zip};
@@ -14,7 +14,7 @@ use ras_base::{NoMemory, push_number};
 use ras_facts::{Detail, Entry, Fact, Item};
 
 /// Appends the lines of an entry that is new in an account. `details` are the details of its items,
-/// one for each, and none unless it is a fact.
+/// one for each; only a fact has items.
 ///
 /// # Errors
 ///
@@ -69,7 +69,7 @@ pub fn push_detail(text: &mut Vec<u8>, detail: &Detail) -> Result<(), NoMemory>
     }
 }
 
-// Adds the line of a report that lists nothing.
+// Appends the line of a report that lists nothing.
 #[tactic(auto, unfolding(crate::specs::Reports::empty_line))]
 fn push_empty(text: &mut Vec<u8>, fact: &Fact) -> Result<(), NoMemory>
     ensures { OnOk result (text.new.items ≡ text.old.items ++ empty_line fact.now) }
@@ -82,7 +82,7 @@ fn push_empty(text: &mut Vec<u8>, fact: &Fact) -> Result<(), NoMemory>
     Ok(())
 }
 
-// Adds the line of each item with its detail.
+// Appends the line of each item with its detail.
 fn push_items(text: &mut Vec<u8>, fact: &Fact, details: &[Detail]) -> Result<(), NoMemory>
     ensures { OnOk result (text.new.items
         ≡ text.old.items ++ flat_map (told_line fact.now) (zip fact.now.items details.now)) }
@@ -94,7 +94,7 @@ fn push_items(text: &mut Vec<u8>, fact: &Fact, details: &[Detail]) -> Result<(),
     Ok(())
 }
 
-// Adds the line of an item with its detail.
+// Appends the line of an item with its detail.
 #[tactic(auto, unfolding(crate::specs::Text::item_line))]
 fn push_item(text: &mut Vec<u8>, fact: &Fact, item: &Item, detail: &Detail) -> Result<(), NoMemory>
     ensures { OnOk result
@@ -111,7 +111,7 @@ fn push_item(text: &mut Vec<u8>, fact: &Fact, item: &Item, detail: &Detail) -> R
     Ok(())
 }
 
-// Adds the name, the time, the class and the weight of an item.
+// Appends the name, the time, the class and the weight of an item.
 #[tactic(auto, unfolding(crate::specs::Text::item_head))]
 fn push_head(text: &mut Vec<u8>, fact: &Fact, item: &Item) -> Result<(), NoMemory>
     ensures { OnOk result (text.new.items ≡ text.old.items ++ item_head fact.now item.now) }

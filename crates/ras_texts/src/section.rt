@@ -1,4 +1,4 @@
-//! What a log line prints of a section of firmware.
+//! What a log line prints about a section of firmware.
 
 ghost use Rattle.std.specs.Prelude.{◌≡◌, ◌++◌, codes, decimal, MatchOption, OnOk};
 ghost use Rattle.ras_texts.specs.Sections.{digits_text, memory_text, other_text, processor_text};
@@ -9,7 +9,8 @@ use cper_sections::{MemSection, ProcSection, X64Section};
 use ras_base::{NoMemory, push_number};
 use uuid::Uuid;
 
-/// Appends what a memory section says: the type of the error, where it is, and the address's mask.
+/// Appends the text of a memory section: the type of the error, where it is, and the address's
+/// mask.
 ///
 /// `NoMemory`: only if memory runs out.
 #[tactic(auto, unfolding(crate::specs::Sections::memory_text))]
@@ -25,7 +26,7 @@ pub fn push_memory(text: &mut Vec<u8>, memory: &MemSection) -> Result<(), NoMemo
     Ok(())
 }
 
-/// Appends what a processor section says.
+/// Appends the text of a processor section.
 ///
 /// `NoMemory`: only if memory runs out.
 #[tactic(auto, unfolding(crate::specs::Sections::processor_text))]
@@ -40,7 +41,7 @@ pub fn push_processor(text: &mut Vec<u8>, processor: &ProcSection) -> Result<(),
     Ok(())
 }
 
-/// Appends what an IA32/X64 section says.
+/// Appends the text of an IA32/X64 section.
 ///
 /// `NoMemory`: only if memory runs out.
 #[tactic(auto, unfolding(crate::specs::Sections::x64_text))]
@@ -65,7 +66,7 @@ pub fn push_other(text: &mut Vec<u8>, guid: Uuid) -> Result<(), NoMemory>
     Ok(())
 }
 
-// Adds the type of a memory error, if it is there.
+// Appends the type of a memory error, if it is there.
 fn push_type(text: &mut Vec<u8>, kind: Option<u8>) -> Result<(), NoMemory>
     ensures { OnOk result (text.new.items ≡ text.old.items ++ told_text type_text kind) }
 {
@@ -75,7 +76,7 @@ fn push_type(text: &mut Vec<u8>, kind: Option<u8>) -> Result<(), NoMemory>
     }
 }
 
-// Adds a type of memory errors.
+// Appends a type of memory errors.
 fn push_known_type(text: &mut Vec<u8>, kind: u8) -> Result<(), NoMemory>
     ensures { OnOk result (text.new.items ≡ text.old.items ++ type_text kind) }
 {
@@ -85,7 +86,7 @@ fn push_known_type(text: &mut Vec<u8>, kind: u8) -> Result<(), NoMemory>
     }
 }
 
-// The name of a type of memory errors, if it has one.
+// Returns the name of a type of memory errors, if it has one.
 #[tactic(auto, unfolding(crate::specs::Sections::type_text))]
 fn type_word(kind: u8) -> Option<&'static [u8]>
     ensures { MatchOption result (type_text kind ≡ codes "type-" ++ decimal kind)
@@ -112,7 +113,7 @@ fn type_word(kind: u8) -> Option<&'static [u8]>
     }
 }
 
-// Adds a field that is a number.
+// Appends a field that is a number.
 fn push_field(text: &mut Vec<u8>, head: &[u8], value: u8) -> Result<(), NoMemory>
     ensures { OnOk result (text.new.items ≡ text.old.items ++ (head.now ++ decimal value)) }
 {
@@ -120,7 +121,7 @@ fn push_field(text: &mut Vec<u8>, head: &[u8], value: u8) -> Result<(), NoMemory
     push_number(text, u64::from(value))
 }
 
-// Adds a field that is a number, if it is there.
+// Appends a field that is a number, if it is there.
 fn push_place(text: &mut Vec<u8>, head: &[u8], value: Option<u16>) -> Result<(), NoMemory>
     ensures { OnOk result
         (text.new.items ≡ text.old.items ++ (head.now ++ told_text decimal value)) }
@@ -132,7 +133,7 @@ fn push_place(text: &mut Vec<u8>, head: &[u8], value: Option<u16>) -> Result<(),
     }
 }
 
-// Adds a field of 16 hexadecimal digits, if it is there.
+// Appends a field of 16 hexadecimal digits, if it is there.
 fn push_digits(text: &mut Vec<u8>, head: &[u8], value: Option<u64>) -> Result<(), NoMemory>
     ensures { OnOk result
         (text.new.items ≡ text.old.items ++ (head.now ++ told_text digits_text value)) }

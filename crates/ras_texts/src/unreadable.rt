@@ -23,7 +23,7 @@ pub fn push_unreadable(text: &mut Vec<u8>, id: u64, why: Unreadable) -> Result<(
     Ok(())
 }
 
-// The word of a reason for which a record can't be read.
+// Returns the word for the reason why a record can't be read.
 fn unreadable_word(why: Unreadable) -> &'static [u8]
     ensures { result.now ≡ unreadable_word why }
 {

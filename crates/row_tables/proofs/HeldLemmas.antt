@@ -1,5 +1,5 @@
--- Tables whose first rows are held and whose other keys wait behind them, as a list of entries and
--- the number of rows held. For the crates above too.
+-- Tables as a list of entries and the number of rows: the first entries have rows, and the keys of the others are
+-- reserved. Other crates use this too.
 use Rattle.std.proofs.Common.{◌≡◌, ℕ, zero, suc, ◌+◌, ◌<◌, ◌≤◌, Bool, true, false, not, cond, if◌then◌else◌, ◌||◌, nat_lt, List, [], ◌∷◌, ◌++◌, length, take, drop, None, Some, refl, sym, ap, ◌∙◌, true≢false, max, unwrap_or, slice_get, is_some, arith, append-nil, add-one, get_or, filter, nat_eq, ◌-◌, length-append, length-drop}
 use Rattle.std.specs.List.{list_any, position, position_or_len, IsDistinct}
 use Rattle.std.proofs.lemmas.Map.Keys.{IsDistinct-tail, apart_from_distinct}
@@ -24,7 +24,7 @@ not_false false is = absurd (true≢false (sym is))
 not_zero : (n : ℕ) → nat_eq (suc n) 0 ≡ false
 not_zero n = grind (arith, nat_tests)
 
--- how many rows are held once the one at a place is
+-- how many rows there are once the key at an index has a row
 abbrev pub covers : ℕ → ℕ → ℕ
 covers zero place = suc zero
 covers (suc held) zero = suc held
@@ -37,7 +37,7 @@ covers-max (suc held) (suc place) within =
     let rest : covers held place ≡ max held (place + 1) = covers-max held place (omega arith) in omega arith
 
 module _ {K R : Type 0} where
-  -- what contracts see of entries of which the first are held
+  -- entries as contracts see them, if the first ones have rows
   abbrev pub viewed : ℕ → List (K × R) → Held K R
   viewed held es = record { rows = take held es; waiting = drop held (keys_of es) }
 
@@ -54,13 +54,13 @@ module _ {K R : Type 0} where
   keys_of-append [] fs = refl
   keys_of-append (e ∷ es) fs = ap (λ rest. e.0 ∷ rest) (keys_of-append es fs)
 
-  -- the keys held and those that wait are all keys
+  -- The keys with rows and the reserved keys are all keys.
   pub all_keys-viewed : (held : ℕ) (es : List (K × R)) → keys_of (take held es) ++ drop held (keys_of es) ≡ keys_of es
   all_keys-viewed zero es = refl
   all_keys-viewed (suc held) [] = refl
   all_keys-viewed (suc held) (e ∷ es) = ap (λ ks. e.0 ∷ ks) (all_keys-viewed held es)
 
-  -- entries of which the first ones stay
+  -- The first entries are unchanged.
   pub viewed-append : (held : ℕ) (es more : List (K × R)) → held ≤ length es
       → viewed held (es ++ more) ≡ record { rows = take held es; waiting = drop held (keys_of es) ++ keys_of more }
   viewed-append zero es more within = λ i. record { rows = []; waiting = keys_of-append es more i }
@@ -68,7 +68,7 @@ module _ {K R : Type 0} where
   viewed-append (suc held) (e ∷ es) more within =
       ap (λ (v : Held K R). record { rows = e ∷ v.rows; waiting = v.waiting }) (viewed-append held es more (omega arith))
 
-  -- the first key that waits is held, with a row
+  -- The first reserved key gets a row.
   pub viewed-next : (row : R) (held : ℕ) (es : List (K × R)) → held < length es
       → viewed (suc held) (set_value_at es held row)
       ≡ record { rows = take held es ++ waiting_rows row (take 1 (drop held (keys_of es))); waiting = drop 1 (drop held (keys_of es)) }
@@ -78,7 +78,7 @@ module _ {K R : Type 0} where
   viewed-next row (suc held) (e ∷ es) within =
       ap (λ (v : Held K R). record { rows = e ∷ v.rows; waiting = v.waiting }) (viewed-next row held es (omega arith))
 
-  -- a row that is put at a place among those held
+  -- A row replaces the row at an index.
   pub viewed-set : (row : R) (held : ℕ) (es : List (K × R)) (place : ℕ) → place < held
       → viewed held (set_value_at es place row) ≡ record { rows = set_value_at (take held es) place row; waiting = drop held (keys_of es) }
   viewed-set row zero es place below = absurd (omega arith)
@@ -91,7 +91,7 @@ module _ {K R : Type 0} where
   keys_of-waiting row [] = refl
   keys_of-waiting row (k ∷ ks) = ap (λ rest. k ∷ rest) (keys_of-waiting row ks)
 
-  -- reading at a place among the rows held
+  -- The key at an index among the rows.
   pub keys-take : (held i : ℕ) (es : List (K × R)) → i < held → slice_get (keys_of (take held es)) i ≡ slice_get (keys_of es) i
   keys-take zero i es below = absurd (omega arith)
   keys-take (suc held) i [] below = refl
@@ -104,7 +104,7 @@ module _ {K R : Type 0} where
   values-take (suc held) zero (e ∷ es) below = refl
   values-take (suc held) (suc i) (e ∷ es) below = values-take held i es (omega arith)
 
-  -- a key and its row at a place
+  -- The key and the row at an index.
   pub slice_get-pair : (es : List (K × R)) (i : ℕ) (k : K) (row : R) → slice_get (keys_of es) i ≡ Some k → slice_get (values_of es) i ≡ Some row → slice_get es i ≡ Some (k, row)
   slice_get-pair [] i k row is row_is = cc
   slice_get-pair (e ∷ es) zero k row is row_is =
@@ -113,7 +113,7 @@ module _ {K R : Type 0} where
       λ i. Some (key i, value i)
   slice_get-pair (e ∷ es) (suc i) k row is row_is = slice_get-pair es i k row is row_is
 
-  -- the keys of the entries whose keys pass
+  -- The keys of the entries whose keys pass.
   pub keys-filter : (test : K → Bool) (es : List (K × R)) → keys_of (filter {X = K × R} (λ e. test e.0) es) ≡ filter test (keys_of es)
   keys-filter test [] = refl
   keys-filter test (e ∷ es) = by (test e.0) (keys-filter test es)
@@ -123,7 +123,7 @@ module _ {K R : Type 0} where
       by true ih = ap (λ ks. e.0 ∷ ks) ih
       by false ih = ih
 
-  -- entries that are kept: those held that pass, and all that wait
+  -- The entries that are kept: those with rows whose keys pass, and all reserved ones.
   kept-append : (test : K → Bool) (held : ℕ) (es : List (K × R)) → held ≤ length es
       → kept_entries test held es ≡ filter {X = K × R} (λ e. test e.0) (take held es) ++ drop held es
   kept-append test zero es within = refl
@@ -141,7 +141,7 @@ module _ {K R : Type 0} where
   keys_of-drop (suc held) [] = refl
   keys_of-drop (suc held) (e ∷ es) = keys_of-drop held es
 
-  -- the number of rows held is what is left of all beside those that wait
+  -- The number of rows left is the number of all entries left without the reserved ones.
   pub kept-count : (test : K → Bool) (held : ℕ) (es after : List (K × R)) (n : ℕ) → held ≤ length es → after ≡ kept_entries test held es → n ≡ length after - (length es - held)
       → n ≡ length (filter {X = K × R} (λ e. test e.0) (take held es))
   kept-count test held es after n within kept count =
@@ -166,8 +166,7 @@ module _ {K R : Type 0} where
       let all : after ≡ filter {X = K × R} (λ e. test e.0) (take held es) ++ drop held es = kept ∙ kept-append test held es within in
       omega (arith, within, ap length all, length-append (filter {X = K × R} (λ e. test e.0) (take held es)) (drop held es), length-drop held es)
 
-  -- what a map's `retain` leaves, where the closure counts down and passes all once it has come to
-  -- 0
+  -- What a map's `retain` leaves, if the closure counts down and passes everything once the count is 0.
   pub kept-RetainsPairs : {F : Type 0} (T : F → K → R → Bool → R → F → Type 0) (test : F → K → Bool) (left : F → ℕ)
       → ((f : F) (k : K) (row : R) (b : Bool) (row' : R) (g : F) → T f k row b row' g → (b ≡ (nat_eq (left f) 0 || test f k)) × (row' ≡ row) × (left g ≡ left f - 1) × (test g ≡ test f))
       → (es : List (K × R)) (f : F) (held : ℕ) → left f ≡ held → (kept : List (K × R)) → RetainsPairs T f es kept → kept ≡ kept_entries (test f) held es
@@ -186,7 +185,7 @@ module _ {K R : Type 0} where
       let rest : h.3 ≡ kept_entries (test f) held es = kept-RetainsPairs T test left says es h.2 held next h.3 h.5 ∙ ap (λ t. kept_entries t held es) s.3 in
       h.6 ∙ (λ i. cond (passes i) ((e.0, s.1 i) ∷ rest i) (rest i))
 
-  -- where no key waits, all rows are held
+  -- If no key is reserved, all entries have rows.
   pub all_held : (held : ℕ) (es : List (K × R)) → held ≤ length es → drop held (keys_of es) ≡ [] → take held es ≡ es
   all_held zero [] within none = refl
   all_held zero (e ∷ es) within none = cc
@@ -201,12 +200,12 @@ module _ {K R : Type 0} where
   none_waits [] = refl
   none_waits (e ∷ es) = none_waits es
 
--- `same` says that two keys are equal
+-- `same` says whether two keys are equal.
 module _ {K R : Type 0} (same : K → K → Bool) (exact : (x y : K) → same x y ≡ true → x ≡ y) where
   abbrev is_in : List (K × R) → K → Bool
   is_in es k = list_any (same k) (keys_of es)
 
-  -- the keys before a place differ from the key there
+  -- The keys before an index differ from the key there.
   pub apart_before : (k : K) (es : List (K × R)) (held : ℕ) (d : K) → IsDistinct same (keys_of es) → held < length es
       → same k (get_or (keys_of es) held d) ≡ true → is_in (take held es) k ≡ false
   apart_before k [] held d once within here = absurd (omega arith)
@@ -222,7 +221,7 @@ module _ {K R : Type 0} (same : K → K → Bool) (exact : (x y : K) → same x 
       by false equal ih = ih
 
   module _ (k : K) where
-    -- the first place at which the test of a key passes is the key's place
+    -- The first index at which the test of a key passes is the key's index.
     place-or_len : (es : List (K × R)) → is_in es k ≡ true
         → IsPlace same k (keys_of es) (position_or_len (same k) (keys_of es)) × (position_or_len (same k) (keys_of es) < length es)
     place-or_len [] there = absurd (true≢false (sym there))
@@ -256,7 +255,7 @@ module _ {K R : Type 0} (same : K → K → Bool) (exact : (x y : K) → same x 
             above : length (keys_of es) ≡ length es → n < length es → nat_lt n (length (keys_of es)) ≡ false → ⊥
             above same within test = grind (arith, nat_tests)
 
-    -- whether a key is held, by the place that `position` gives
+    -- Whether a key has a row, by the index that `position` returns.
     pub held-position : (held : ℕ) (es : List (K × R)) → held ≤ length es → is_in (take held es) k ≡ nat_lt (position_or_len (same k) (keys_of es)) held
     held-position zero [] within = refl
     held-position (suc held) [] within = absurd (omega arith)
@@ -290,8 +289,8 @@ module _ {K R : Type 0} (same : K → K → Bool) (exact : (x y : K) → same x 
         by true test there len = cc
         by false test there len = grind (arith, nat_tests)
 
-    -- a key that is held or waits first is in the table, at a place among the held ones or right
-    -- behind them
+    -- A key that has a row or is the first reserved one is in the table, at an index among the rows or right after
+    -- them.
     pub ready-there : (held : ℕ) (es : List (K × R)) → is_ready same (viewed held es) k ≡ true → is_in es k ≡ true
     ready-there zero [] ready = ready
     ready-there zero (e ∷ es) ready = by (same k e.0) ready
@@ -314,7 +313,7 @@ module _ {K R : Type 0} (same : K → K → Bool) (exact : (x y : K) → same x 
         let rest : is_ready same (viewed held es) k ≡ true = sym (ap (λ b. b || is_ready same (viewed held es) k) at.0) ∙ ready in
         let within : place ≤ held = ready-place held es place rest at.1 in omega arith
 
-    -- the row at the key's place is the one that a look-up finds, where the key is held
+    -- The row at the key's index is the row that a look-up finds, if the key has a row.
     pub lookup-held : (held : ℕ) (es : List (K × R)) (place : ℕ) (row : R) → IsPlace same k (keys_of es) place → place < held → slice_get (values_of es) place ≡ Some row
         → Some row ≡ lookup (same k) (take held es)
     lookup-held held [] place row at below is = absurd at
@@ -330,7 +329,7 @@ module _ {K R : Type 0} (same : K → K → Bool) (exact : (x y : K) → same x 
     lookup-waiting (suc held) (e ∷ es) (suc place) at above =
         lookup-waiting held es place at.1 (omega arith) ∙ ap (λ b. cond b (Some e.1) (lookup (same k) (take held es))) (sym at.0)
 
-    -- a row that is written at the key's place
+    -- A row is written at the key's index.
     rows-put : (row : R) (held : ℕ) (es : List (K × R)) (place : ℕ) → IsPlace same k (keys_of es) place → place ≤ held
         → take (covers held place) (set_value_at es place row) ≡ updated_rows same k row (λ old. row) (take held es)
     rows-put row held [] place at within = absurd at
@@ -361,14 +360,14 @@ module _ {K R : Type 0} (same : K → K → Bool) (exact : (x y : K) → same x 
         ap (λ m. viewed m (set_value_at es place row)) covered
         ∙ (λ i. record { rows = rows-put row held es place at within i; waiting = waiting-put row held es place at within i })
 
-    -- a key that is inserted behind the others, where it isn't there
+    -- A key that isn't in the table is inserted after the others.
     pub inserted-known : (es : List (K × R)) (row : R) → is_in es k ≡ true → es ≡ es ++ waiting_rows row (added_keys same (keys_of es) (k ∷ []))
     inserted-known es row known = sym (ap (λ b. es ++ waiting_rows row (if b then [] else k ∷ [])) known ∙ append-nil es)
 
     pub inserted-new : (es : List (K × R)) (row : R) → is_in es k ≡ false → es ++ (k, row) ∷ [] ≡ es ++ waiting_rows row (added_keys same (keys_of es) (k ∷ []))
     inserted-new es row fresh = sym (ap (λ b. es ++ waiting_rows row (if b then [] else k ∷ [])) fresh)
 
-    -- a key that isn't there goes behind the others
+    -- A key that isn't in the table goes after the others.
     pub insert_entry-last : (es : List (K × R)) (row : R) → is_in es k ≡ false → insert_entry same es k row ≡ es ++ (k, row) ∷ []
     insert_entry-last [] row none = refl
     insert_entry-last (e ∷ es) row none = by (same k e.0) none (insert_entry-last es row)
@@ -378,7 +377,7 @@ module _ {K R : Type 0} (same : K → K → Bool) (exact : (x y : K) → same x 
         by true h ih = absurd (true≢false h)
         by false h ih = ap (λ (rest : List (K × R)). e ∷ rest) (ih h)
 
-    -- a row that took the place of the key's own, and that gave way to it again
+    -- A row replaced the key's own row, and then the key's own row was put back.
     pub put_back : (es : List (K × R)) (row known : R) → lookup (same k) es ≡ Some known
         → set_value_at (insert_entry same es k row) (position_or_len (same k) (keys_of es)) known ≡ es
     put_back [] row known there = cc
@@ -396,7 +395,7 @@ module _ {K R : Type 0} (same : K → K → Bool) (exact : (x y : K) → same x 
     is_in-lookup es = is_some-lookup (same k) es
 
 module _ {K : Type 0} (same : K → K → Bool) (exact : (x y : K) → same x y ≡ true → x ≡ y) (own : (x : K) → same x x ≡ true) where
-  -- keys that wait, with one more
+  -- The reserved keys, with one more.
   pub waiting-more : (held ks : List K) (i : ℕ) (d : K) → i < length ks
       → added_keys same held (take i ks) ++ added_keys same (held ++ added_keys same held (take i ks)) (get_or ks i d ∷ []) ≡ added_keys same held (take (i + 1) ks)
   waiting-more held ks i d within =

@@ -1,4 +1,4 @@
--- The laws of tables, for the crates above too.
+-- The laws of tables, which other crates use too.
 use Rattle.std.proofs.Common.{◌≡◌, ◌<◌, Bool, true, false, cond, if◌then◌else◌, ◌||◌, List, [], ◌∷◌, ◌++◌, length, map, Option, None, Some, refl, sym, ap, ◌∙◌, append_assoc, append-nil, true≢false, unwrap_or, arith}
 use Rattle.std.specs.List.{list_any, filter_map, IsDistinct, AllByRecursion}
 use Rattle.std.specs.Map.{keys_of, lookup}
@@ -32,9 +32,9 @@ or_right : (b : Bool) → (b || true) ≡ true
 or_right true = refl
 or_right false = refl
 
--- `same` says that two keys are equal
+-- `same` says whether two keys are equal.
 module _ {K : Type 0} (same : K → K → Bool) (exact : (x y : K) → same x y ≡ true → x ≡ y) (own : (x : K) → same x x ≡ true) where
-  -- no key stands in the list twice
+  -- No key is in the list twice.
   abbrev pub Once : List K → Type 0
   Once [] = Unit {0}
   Once (k ∷ ks) = (list_any (same k) ks ≡ false) × Once ks
@@ -60,7 +60,7 @@ module _ {K : Type 0} (same : K → K → Bool) (exact : (x y : K) → same x y 
       by true known new = known
       by false known new = ap (λ rest. k ∷ rest) (new ∙ ap (λ before. later ++ added_keys same before js) (append_assoc held (k ∷ []) later))
 
-  -- a key is held or added where it is held or in the list
+  -- A key is in the list with the added keys if and only if it is in one of the two lists.
   pub any-added : (k : K) (held ks : List K) → (list_any (same k) held || list_any (same k) (added_keys same held ks)) ≡ (list_any (same k) held || list_any (same k) ks)
   any-added k held [] = refl
   any-added k held (j ∷ js) =
@@ -79,7 +79,7 @@ module _ {K : Type 0} (same : K → K → Bool) (exact : (x y : K) → same x y 
   pub any-distinct : (k : K) (ks : List K) → list_any (same k) (distinct_keys same ks) ≡ list_any (same k) ks
   any-distinct k ks = any-added k [] ks
 
-  -- a key that is held isn't added
+  -- A key that has a row isn't added.
   none-added : (k : K) (held ks : List K) → list_any (same k) held ≡ true → list_any (same k) (added_keys same held ks) ≡ false
   none-added k held [] there = refl
   none-added k held (j ∷ js) there =
@@ -105,7 +105,7 @@ module _ {K : Type 0} (same : K → K → Bool) (exact : (x y : K) → same x y 
       by true known new = known
       by false known new = new
 
-  -- the keys of a list with one key more
+  -- The keys of a list with one more key.
   pub distinct-known : (ks : List K) (k : K) → list_any (same k) ks ≡ true → distinct_keys same (ks ++ k ∷ []) ≡ distinct_keys same ks
   distinct-known ks k there =
       added-append [] ks (k ∷ []) ∙ ap (λ b. distinct_keys same ks ++ (if b then [] else k ∷ [])) (any-distinct k ks ∙ there) ∙ append-nil (distinct_keys same ks)
@@ -124,7 +124,7 @@ module _ {K : Type 0} (same : K → K → Bool) (exact : (x y : K) → same x y 
       by true is ih = ap (λ x. Some (f x)) (sym (exact k j is))
       by false is ih = ih
 
-  -- rows that differ at one key
+  -- Rows that differ only at one key.
   module _ {R : Type 0} (f g : K → R) (k : K) (elsewhere : (j : K) → same k j ≡ false → g j ≡ f j) where
     apart : (js : List K) → list_any (same k) js ≡ false → map {B = K × R} (λ j. (j, g j)) js ≡ map {B = K × R} (λ j. (j, f j)) js
     apart [] none = refl
@@ -162,7 +162,7 @@ module _ {K : Type 0} (same : K → K → Bool) (exact : (x y : K) → same x y 
         by true is h ih = absurd (true≢false h)
         by false is h ih = λ i. (j, elsewhere j is i) ∷ ih h i
 
-  -- keys with their rows, where a list has one key more and the rows differ at it alone
+  -- Keys with their rows, if a list has one more key and only its row differs.
   pub keyed-more : {R : Type 0} (f g : K → R) (k : K) (new : R) (change : R → R) (keys : List K)
       → ((j : K) → same k j ≡ false → g j ≡ f j)
       → (list_any (same k) keys ≡ true → g k ≡ change (f k))
@@ -183,7 +183,7 @@ module _ {K : Type 0} (same : K → K → Bool) (exact : (x y : K) → same x y 
   keys-keyed f [] = refl
   keys-keyed f (k ∷ ks) = ap (λ rest. k ∷ rest) (keys-keyed f ks)
 
-  -- the elements of a key in a list with one element more
+  -- The elements of a key in a list with one more element.
   module _ {X : Type 0} (key : X → Option K) (xs : List X) (x : X) where
     of_key-more : (k : K) (b : Bool) → is_key same k (key x) ≡ b → of_key same key (xs ++ x ∷ []) k ≡ of_key same key xs k ++ (if b then x ∷ [] else [])
     of_key-more k b is = filter-append (λ y. is_key same k (key y)) xs (x ∷ []) ∙ ap (λ c. of_key same key xs k ++ cond c (x ∷ []) []) is
@@ -197,7 +197,7 @@ module _ {K : Type 0} (same : K → K → Bool) (exact : (x y : K) → same x y 
     of_key-none : (j : K) → key x ≡ None → of_key same key (xs ++ x ∷ []) j ≡ of_key same key xs j
     of_key-none j names = of_key-more j false (ap (is_key same j) names) ∙ append-nil (of_key same key xs j)
 
-  -- a key that no element names has no elements, and one that an element names has some
+  -- A key has elements if and only if an element names it.
   module _ {X : Type 0} (key : X → Option K) (k : K) where
     pub of_key-unnamed : (xs : List X) → list_any (same k) (filter_map key xs) ≡ false → of_key same key xs k ≡ []
     of_key-unnamed [] none = refl
@@ -227,8 +227,8 @@ module _ {K : Type 0} (same : K → K → Bool) (exact : (x y : K) → same x y 
             by true h ih = omega arith
             by false h ih = ih h
 
-  -- the law: a table of a list with one element more is that of the list, continued by the element,
-  -- where a row goes on by one element
+  -- The law: the table of a list with one more element is the table of the list, continued by the element, if a row is
+  -- continued by one element.
   module _ {X R : Type 0} (key : X → Option K) (row : List X → R) (first : X → R) (more : R → X → R)
       (starts : (x : X) → row (x ∷ []) ≡ first x) (goes : (xs : List X) (x : X) → 0 < length xs → row (xs ++ x ∷ []) ≡ more (row xs) x) where
     pub table-more : (xs : List X) (x : X) → table same key row (xs ++ x ∷ []) ≡ table_after same key first more (table same key row xs) x
@@ -269,14 +269,14 @@ module _ {K : Type 0} (same : K → K → Bool) (exact : (x y : K) → same x y 
                 ap (λ ks. map {B = K × R} (λ j. (j, after j)) ks) (distinct-new keys k fresh)
                 ∙ updated-new before after k elsewhere (first x) (λ r. more r x) here (distinct_keys same keys) (any-distinct k keys ∙ fresh)
 
-  -- the look-up of a key: the row of its elements, where an element names it
+  -- The look-up of a key finds the row of its elements, if an element names the key.
   pub lookup-table : {X R : Type 0} (key : X → Option K) (row : List X → R) (xs : List X) (k : K)
       → lookup (same k) (table same key row xs) ≡ cond (list_any (same k) (filter_map key xs)) (Some (row (of_key same key xs k))) None
   lookup-table key row xs k =
       lookup-keyed (λ j. row (of_key same key xs j)) k (distinct_keys same (filter_map key xs))
       ∙ ap (λ b. cond b (Some (row (of_key same key xs k))) None) (any-distinct k (filter_map key xs))
 
-  -- the keys of a table that was updated
+  -- The keys of an updated table.
   pub keys-updated : {R : Type 0} (k : K) (new : R) (change : R → R) (es : List (K × R))
       → keys_of (updated_rows same k new change es) ≡ (if list_any (same k) (keys_of es) then keys_of es else keys_of es ++ k ∷ [])
   keys-updated k new change [] = refl
@@ -299,7 +299,7 @@ module _ {K : Type 0} (same : K → K → Bool) (exact : (x y : K) → same x y 
       keys-keyed [] = refl
       keys-keyed (k ∷ ks) = ap (λ rest. k ∷ rest) (keys-keyed ks)
 
-  -- each of the keys that are seen first is there once
+  -- No key is there twice among the keys in first-seen order.
   none-apart : (k : K) (ks : List K) → list_any (same k) ks ≡ false → AllByRecursion (λ j. same k j ≡ false) ks
   none-apart k [] is = tt
   none-apart k (j ∷ js) is = by (same k j) refl is (none-apart k js)
@@ -317,7 +317,7 @@ module _ {K : Type 0} (same : K → K → Bool) (exact : (x y : K) → same x y 
   pub distinct-once : (ks : List K) → IsDistinct same (distinct_keys same ks)
   distinct-once ks = IsDistinct-once (distinct_keys same ks) (once-added [] ks)
 
-  -- the look-ups in a table that was updated
+  -- The look-ups in an updated table.
   pub lookup-updated-own : {R : Type 0} (k : K) (new : R) (change : R → R) (es : List (K × R))
       → lookup (same k) (updated_rows same k new change es) ≡ Some (option_map_or change (lookup (same k) es) new)
   lookup-updated-own k new change [] = ap (λ b. cond b (Some new) None) (own k)
@@ -341,8 +341,7 @@ module _ {K : Type 0} (same : K → K → Bool) (exact : (x y : K) → same x y 
       by false is ih = ap (λ rest. cond (same j e.0) (Some e.1) rest) ih
 
 module _ {K : Type 0} (same : K → K → Bool) where
-  -- a row that is put at a key is that of the key changed, where it is made from the row that a
-  -- look-up finds
+  -- Replacing the row of a key is changing it, if the new row is made from the row that a look-up finds.
   pub updated-looked : {R : Type 0} (k : K) (new : R) (change : R → R) (row : R) (es : List (K × R)) → row ≡ change (unwrap_or (lookup (same k) es) new)
       → updated_rows same k row (λ old. row) es ≡ updated_rows same k (change new) change es
   updated-looked k new change row [] is = λ i. (k, is i) ∷ []

@@ -5,7 +5,7 @@ use Rattle.std.specs.Prelude.{Bool, false, if◌then◌else◌, Option, None, So
 use Rattle.std.specs.List.{list_any, filter_map}
 
 module _ {K : Type 0} (same : K → K → Bool) where
-  -- the keys of a list that aren't held yet, in the order in which they are first seen, each once
+  -- The keys of a list that aren't there yet, in the order in which they are first seen, each once.
   abbrev pub added_keys : List K → List K → List K
   added_keys held [] = []
   added_keys held (k ∷ ks) = if list_any (same k) held then added_keys held ks else k ∷ added_keys (held ++ k ∷ []) ks
@@ -14,7 +14,7 @@ module _ {K : Type 0} (same : K → K → Bool) where
   abbrev pub distinct_keys : List K → List K
   distinct_keys ks = added_keys [] ks
 
-  -- whether this is the key that an element names, if it names any
+  -- Whether an element names this key.
   abbrev pub is_key : K → Option K → Bool
   is_key k None = false
   is_key k (Some j) = same k j

@@ -1,5 +1,5 @@
-//! Tables of rows by key. Keys that are held have a row each, in the order in which they came;
-//! after them keys may wait, so that their rows can begin later without allocating memory.
+//! Tables of rows by key. Each key has a row, in the order in which the keys were added; after them
+//! keys may be reserved, so that their rows can be added later without allocating memory.
 #![tactic(auto)]
 
 mod row_table;

@@ -1,4 +1,4 @@
-//! The table: the held keys, each with its row, and the keys that wait.
+//! The table: the keys with their rows, and the reserved keys.
 
 ghost use Rattle.std.specs.Prelude.{◌≡◌, ◌↔◌, ◌<◌, ◌≤◌, ◌^◌, ◌++◌, [], ◌∷◌, not, map, IsTrue, Some, Err, IfOk, OnOk, OnErr, length, slice_get, take, drop, filter, nat_eq, ◌-◌, ◌||◌, Bool};
 ghost use Rattle.std.specs.Bool.{IsFalse, OnTrue};
@@ -24,7 +24,7 @@ pub trait KeyTest<K> {
         ensures { result ≡ passes self.now key.now };
 }
 
-/// Why a row can't be put after the others.
+/// Why a row can't be appended.
 #[derive(Clone, Copy, Debug, PartialEq, Eq)]
 pub enum RowRefused {
     /// The key has a row.
@@ -33,10 +33,11 @@ pub enum RowRefused {
     NoMemory,
 }
 
-/// Keys in the order in which they came, each with its row, and after them keys that wait for a
-/// row.
+/// Keys in the order in which they were added, each with its row, and after them reserved keys,
+/// which wait for a row.
 ///
-/// A key waits so that its row can begin later without allocating memory. Each key is there once.
+/// A key is reserved so that its row can be added later without allocating memory. Each key is
+/// there once.
 #[derive(Drop)]
 pub struct RowTable<K: Hash + ExactEq + Copy, R: Copy> {
     table: IndexMap<K, R>,
@@ -59,7 +60,7 @@ impl<K: Hash + ExactEq + Copy, R: Copy> Model for RowTable<K, R> {
 }
 
 impl<K: Hash + ExactEq + Copy, R: Copy> RowTable<K, R> {
-    /// Returns a table with no rows, in which no key waits.
+    /// Returns a table without rows and without reserved keys.
     pub fn new(alloc: Global) -> RowTable<K, R>
         ensures rows { result.rows ≡ [] }
         ensures waiting { result.waiting ≡ [] }
@@ -70,28 +71,28 @@ impl<K: Hash + ExactEq + Copy, R: Copy> RowTable<K, R> {
         }
     }
 
-    /// Returns how many keys are held.
+    /// Returns how many keys have a row.
     pub fn len(&self) -> usize
         ensures { result ≡ length self.now.rows }
     {
         self.held
     }
 
-    /// Returns whether no key is held.
+    /// Returns whether no key has a row.
     pub fn is_empty(&self) -> bool
         ensures { IsTrue result ↔ (self.now.rows ≡ []) }
     {
         self.held == 0
     }
 
-    /// Returns how many keys are held or wait.
+    /// Returns how many keys have a row or are reserved.
     pub fn len_with_waiting(&self) -> usize
         ensures { result ≡ length (all_keys self.now) }
     {
         self.table.len()
     }
 
-    /// Returns the key that is held at a place, from 0.
+    /// Returns the key with a row at an index, from 0.
     pub fn key(&self, place: usize) -> &K
         requires { place < length self.now.rows }
         ensures { slice_get (keys_of self.now.rows) place ≡ Some result.now }
@@ -99,7 +100,7 @@ impl<K: Hash + ExactEq + Copy, R: Copy> RowTable<K, R> {
         &self.table.keys().as_slice()[place]
     }
 
-    /// Returns the row at a place, from 0.
+    /// Returns the row at an index, from 0.
     pub fn row(&self, place: usize) -> &R
         requires { place < length self.now.rows }
         ensures { slice_get (values_of self.now.rows) place ≡ Some result.now }
@@ -107,7 +108,7 @@ impl<K: Hash + ExactEq + Copy, R: Copy> RowTable<K, R> {
         &self.table[place]
     }
 
-    /// Returns whether a key is held.
+    /// Returns whether a key has a row.
     pub fn holds(&self, key: &K) -> bool
         ensures { result ≡ is_held K.eq self.now.rows key.now }
     {
@@ -117,8 +118,8 @@ impl<K: Hash + ExactEq + Copy, R: Copy> RowTable<K, R> {
         }
     }
 
-    /// Returns whether a key is the first that waits, by one comparison and without a hash. A held
-    /// key never waits.
+    /// Returns whether a key is the first reserved one, by one comparison and without a hash. A key
+    /// with a row is never reserved.
     pub fn waits_first(&self, key: &K) -> bool
         ensures first { result ≡ list_any (K.eq key.now) (take 1 self.now.waiting) }
         ensures apart { OnTrue result (IsFalse (is_held K.eq self.now.rows key.now)) }
@@ -126,8 +127,8 @@ impl<K: Hash + ExactEq + Copy, R: Copy> RowTable<K, R> {
         self.held < self.table.len() && *key == self.table.keys().as_slice()[self.held]
     }
 
-    /// Returns the index of a key, and its row if it is held. Requires that the key is held or is
-    /// the first that waits.
+    /// Returns the index of a key, and its row if it has one. Requires that the key has a row or is
+    /// the first reserved one.
     pub fn find(&self, key: &K) -> (usize, Option<R>)
         requires { IsTrue (is_ready K.eq self.now key.now) }
         ensures place { IsPlace K.eq key.now (all_keys self.now) result.0 }
@@ -139,7 +140,8 @@ impl<K: Hash + ExactEq + Copy, R: Copy> RowTable<K, R> {
         (place, row_at(&self.table, self.held, place))
     }
 
-    /// Puts a row at an index that `find` returned. If the key there was waiting, it is held now.
+    /// Puts a row at an index that `find` returned. If the key there was reserved, it has a row
+    /// now.
     pub fn put(&mut self, place: usize, row: R)
         requires there { place < length (all_keys self.old) }
         requires next { place ≤ length self.old.rows }
@@ -151,7 +153,7 @@ impl<K: Hash + ExactEq + Copy, R: Copy> RowTable<K, R> {
         self.held = self.held.max(place + 1);
     }
 
-    /// Replaces the row of the held key at an index.
+    /// Replaces the row at an index.
     pub fn set_row(&mut self, place: usize, row: R)
         requires { place < length self.old.rows }
         ensures rows { self.new.rows ≡ set_value_at self.old.rows place row }
@@ -160,8 +162,7 @@ impl<K: Hash + ExactEq + Copy, R: Copy> RowTable<K, R> {
         self.table[place] = row;
     }
 
-    /// Begins the row of the first key that waits, which is now held, after the others. Requires
-    /// that a key waits.
+    /// Appends a row for the first reserved key. Requires that a key is reserved.
     pub fn begin_next(&mut self, row: R)
         requires { 0 < length self.old.waiting }
         ensures rows { self.new.rows ≡ self.old.rows ++ waiting_rows row (take 1 self.old.waiting) }
@@ -172,10 +173,10 @@ impl<K: Hash + ExactEq + Copy, R: Copy> RowTable<K, R> {
         self.held += 1;
     }
 
-    /// Appends a key with its row. Requires that no key waits. After an error the rows are
+    /// Appends a key with its row. Requires that no key is reserved. After an error the rows are
     /// unchanged.
     ///
-    /// `Repeated`: if and only if the key is held.
+    /// `Repeated`: if and only if the key has a row.
     pub fn push_row(&mut self, key: K, row: R) -> Result<(), RowRefused>
         requires { self.old.waiting ≡ [] }
         ensures ok { OnOk result (self.new.rows ≡ self.old.rows ++ (key, row) ∷ []) }
@@ -202,7 +203,7 @@ impl<K: Hash + ExactEq + Copy, R: Copy> RowTable<K, R> {
         Ok(())
     }
 
-    /// Removes all keys that wait.
+    /// Removes all reserved keys.
     pub fn give_up(&mut self)
         ensures rows { self.new.rows ≡ self.old.rows }
         ensures waiting { self.new.waiting ≡ [] }
@@ -210,8 +211,8 @@ impl<K: Hash + ExactEq + Copy, R: Copy> RowTable<K, R> {
         self.table.truncate(self.held);
     }
 
-    /// Removes the rows of the held keys that fail the test. The other rows keep their order, and
-    /// waiting keys stay.
+    /// Removes the rows whose keys fail the test. The other rows keep their order, and reserved
+    /// keys stay.
     pub fn retain<T: KeyTest<K>>(&mut self, test: &T)
         ensures rows { self.new.rows ≡ filter (λ e. T.passes test.now e.0) self.old.rows }
         ensures waiting { self.new.waiting ≡ self.old.waiting }
@@ -221,8 +222,8 @@ impl<K: Hash + ExactEq + Copy, R: Copy> RowTable<K, R> {
         self.held = self.table.len() - waiting;
     }
 
-    /// Lets a key wait after the others that do, unless it is held or waits already. Returns
-    /// whether it was new. Nothing reads `row` while the key waits.
+    /// Reserves a key after the other reserved keys, unless it has a row or is reserved already.
+    /// Returns whether it was new. Nothing reads `row` while the key is reserved.
     pub fn let_wait(&mut self, key: K, row: R) -> Result<bool, NoMemory>
         ensures rows { self.new.rows ≡ self.old.rows }
         ensures ok { OnOk result (self.new.waiting ≡ waiting_with K.eq self.old (key ∷ [])) }
@@ -232,8 +233,8 @@ impl<K: Hash + ExactEq + Copy, R: Copy> RowTable<K, R> {
         insert_last(&mut self.table, key, row)
     }
 
-    /// Lets those of these keys wait that aren't held, in the order in which they first appear,
-    /// each once. Keys that waited before no longer do, and after `NoMemory` no key waits.
+    /// Reserves those of these keys that have no row, in the order in which they first appear, each
+    /// once. Earlier reservations are dropped, and after `NoMemory` no key is reserved.
     pub fn reserve(&mut self, keys: &[K], row: R) -> Result<(), NoMemory>
         ensures rows { self.new.rows ≡ self.old.rows }
         ensures ok { OnOk result (self.new.waiting ≡ new_keys K.eq self.old.rows keys.now) }
@@ -250,7 +251,7 @@ impl<K: Hash + ExactEq + Copy, R: Copy> RowTable<K, R> {
     }
 }
 
-// The place of a key that is in the table.
+// Returns the index of a key that is in the table.
 fn place_of<K: Hash + ExactEq + Copy, R: Copy>(table: &IndexMap<K, R>, key: &K) -> usize
     requires { IsTrue (is_held K.eq table.now.entries key.now) }
     ensures place { IsPlace K.eq key.now (keys_of table.now.entries) result }
@@ -260,7 +261,7 @@ fn place_of<K: Hash + ExactEq + Copy, R: Copy>(table: &IndexMap<K, R>, key: &K) 
     table.get_index_of(key).unwrap_or(table.len())
 }
 
-// The row at a place, if it is one of the first `held`.
+// Returns the row at an index, if it is one of the first `held`.
 fn row_at<K: Hash + ExactEq + Copy, R: Copy>(
     table: &IndexMap<K, R>,
     held: usize,
@@ -293,7 +294,7 @@ fn insert_last<K: Hash + ExactEq + Copy, R: Copy>(
     match known {
         None => Ok(true),
         Some(known) => {
-            // The key was there: its row goes back to its place.
+            // The key was there: its own row is put back.
             table[place] = known;
             Ok(false)
         }

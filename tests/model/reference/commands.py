@@ -274,8 +274,8 @@ def answer(words, data, files):
         return lines_trace(*numbers, data)
     if words[:2] == [b"lines", b"ghes"] and (numbers := boot_and_second(words[2:])):
         return lines_ghes(*numbers, data)
-    if words[:2] == [b"lines", b"trace"] and (numbers := boot_cap_and_second(words[2:])):
-        return trace_feed(*numbers, data)
+    if words[:2] == [b"lines", b"trace"] and words[5:] in ([], [b"edac"]) and (numbers := boot_cap_and_second(words[2:5])):
+        return trace_feed(*numbers, data, of_drivers=bool(words[5:]))
     if words[:2] == [b"lines", b"log"] and (numbers := boot_cap_and_second(words[2:5])) and (both := borders_of(words[5:])):
         return log_feed(*numbers, *both, data)
     return None

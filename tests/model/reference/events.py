@@ -103,9 +103,9 @@ def raw_section(text):
 READERS = {b"aer": pcie_section, b"non_standard": raw_section, b"mc": memory.of_controller, b"extlog_mem": memory.of_log}
 
 
-def has_stray(line):
-    """Whether a line has an event's name behind a clock, wherever both are."""
-    return STRAYS.search(line) or memory.may_be_of_firmware(line) and STRAY_MC.search(line)
+def has_stray(line, of_drivers):
+    """Whether a line has an event's name behind a clock, wherever both are; a driver's too if these count."""
+    return STRAYS.search(line) or (of_drivers or memory.may_be_of_firmware(line)) and STRAY_MC.search(line)
 
 
 def named_in(line):
@@ -125,13 +125,18 @@ def is_of_extended_log(line):
     return bool(found) and found[1] == b"extlog_mem"
 
 
-def event_in(line):
-    """The time stamp of a line's event, and its severity, type and section; none if the line has no event that counts."""
+def event_in(line, of_drivers=False):
+    """The time stamp of a line's event, and its severity, type and section; none if the line has no event that counts.
+
+    Every driver's event of a memory controller counts if `of_drivers` says so.
+    """
     line = behind_name(line)
     clock, found = named_in(line)
-    if not found or found[1] == b"mc" and memory.is_of_another_driver(found[2]):
-        check(not has_stray(line))
+    is_of_driver = found and found[1] == b"mc" and memory.is_of_another_driver(found[2])
+    if not found or is_of_driver and not of_drivers:
+        check(not has_stray(line, of_drivers))
         return None
     stamp = STAMP.fullmatch(clock + b":")
     check(stamp and int(stamp[1]) <= LAST_SECOND_OF_TRACE)
-    return int(stamp[1]) * SECOND + int(stamp[2]), *READERS[found[1]](found[2])
+    reader = memory.of_driver if is_of_driver else READERS[found[1]]
+    return int(stamp[1]) * SECOND + int(stamp[2]), *reader(found[2])

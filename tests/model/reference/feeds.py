@@ -54,9 +54,9 @@ def log_feed(boot, cap, began, checks, told, log):
     )
 
 
-def trace_feed(boot, cap, began, trace):
-    """What `lines trace` with three numbers prints, and its status."""
-    names, reports = Names(), Reports(boot, began, has_own_tables=True)
+def trace_feed(boot, cap, began, trace, of_drivers=False):
+    """What `lines trace` with three numbers prints, and its status; with every driver's events if `of_drivers` says so."""
+    names, reports = Names(), Reports(boot, began, has_own_tables=True, of_drivers=of_drivers)
 
     def text(number, line):
         gap = f"# gap {number}\n" if is_gap(line) else ""

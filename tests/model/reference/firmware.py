@@ -79,11 +79,11 @@ def table_of(sources):
 class Reports:
     """The report in work, and the sources of the last table."""
 
-    def __init__(self, boot, began, reads_events=True, has_own_tables=False, border=None):
+    def __init__(self, boot, began, reads_events=True, has_own_tables=False, border=None, of_drivers=False):
         self.boot, self.began, self.sources, self.work = boot, began, [], None
         # from when on a trace has the memory errors too
         self.border = border
-        self.reads_events, self.has_own_tables = reads_events, has_own_tables
+        self.reads_events, self.has_own_tables, self.of_drivers = reads_events, has_own_tables, of_drivers
 
     def end(self):
         """What is told of the report in work, which ends."""
@@ -173,7 +173,7 @@ class Reports:
         if line is None:
             return PARTIAL.format(self.work["source"], self.work["begun"]) if self.work else ""
         try:
-            if self.reads_events and (event := event_in(bytes_of_line)):
+            if self.reads_events and (event := event_in(bytes_of_line, self.of_drivers)):
                 return self.event(*event)
         except Unreadable:
             return UNREAD.format(line)

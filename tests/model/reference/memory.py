@@ -1,10 +1,10 @@
-"""The events of memory errors that the firmware reported: `mc_event` of ghes_edac, and `extlog_mem_event`."""
+"""The events of memory errors: `mc_event` of the firmware's driver and of others, and `extlog_mem_event`."""
 import re
 
 from reference.base import check
 
 MEMORY = bytes.fromhex("1411bca5646fde4eb8633e83ed7c83b1")
-SEVERITIES = {b"Uncorrected": 0, b"Fatal": 1, b"Corrected": 2}
+SEVERITIES = {b"Uncorrected": 0, b"Deferred": 0, b"Fatal": 1, b"Corrected": 2}
 WORDS = {b"recoverable": 0, b"fatal": 1, b"corrected": 2}
 # The kernel's names of the types of errors, from 1 on.
 KINDS = (
@@ -17,6 +17,8 @@ HEX = rb"([0-9a-fA-F]{1,16})"
 FIRMWARE = b"APEI location: "
 # What a controller's event has in its parentheses, up to its driver's detail.
 CONTROLLER = re.compile(rb"[^ ]* [^ ]* ([^ ]*) ([^ ]*) [^ ]* APEI location: (.*)", re.S)
+# The same of another driver, whose detail may be anything.
+DRIVER = re.compile(rb"([^ ]*) location:([^ ]*) ([^ ]*) ([^ ]*)(?: .*)?", re.S)
 FRONT = re.compile(rb"1 ([^ ]*) error: (.*)", re.S)
 LOG = re.compile(
     rb"\{[^}]*\} ([^ ]*) error: ((?:(?! physical addr: ).)*) physical addr: %s \(mask lsb: %s\) (.*FRU: .*)" % (HEX, HEX), re.S
@@ -30,6 +32,11 @@ def little(value, size):
     return (value or 0).to_bytes(size, "little")
 
 
+def number_of(word):
+    """The number of a decimal word, none if it doesn't fit into a field."""
+    return int(word) if re.fullmatch(rb"[0-9]{1,20}", word) and int(word) < 65_536 else None
+
+
 def place_of(text):
     """The node, the card and the module with which a text begins, each if it is there."""
     place = []
@@ -37,7 +44,7 @@ def place_of(text):
         value = None
         if text.startswith(name):
             word, _, text = text[len(name) :].lstrip(b" ").partition(b" ")
-            value = int(word) if re.fullmatch(rb"[0-9]{1,20}", word) and int(word) < 65_536 else None
+            value = number_of(word)
         place.append(value)
     return place
 
@@ -69,17 +76,33 @@ def may_be_of_firmware(text):
     return not mark or FIRMWARE in behind
 
 
-def of_controller(text):
-    """The severity, the type and the section of the firmware's event of a memory controller."""
-    found, front = CONTROLLER.fullmatch(in_parentheses(text)), FRONT.fullmatch(text)
-    check(found and front)
-    address, grain = re.fullmatch(rb"address:0x" + HEX, found[1]), found[2].removeprefix(b"grain:")
-    grain = GRAINS.get(grain.lstrip(b"0") if len(grain) <= 20 else b"") if found[2] != grain else None
+def error_of(text, address, grain, place):
+    """The severity, the type and the section of a controller's event with this address, this grain and this place."""
+    front = FRONT.fullmatch(text)
+    check(front)
+    address, word = re.fullmatch(rb"address:0x" + HEX, address), grain.removeprefix(b"grain:")
+    grain = GRAINS.get(word.lstrip(b"0") if len(word) <= 20 else b"") if word != grain else None
     check(address and grain)
     name, on, _ = front[2].partition(b" on ")
     mask = ALL - grain if grain > 1 else None
     severity = SEVERITIES.get(front[1], 3)
-    return section(severity, int(address[1], 16) or None, mask, place_of(found[3]), name if on else b"")
+    return section(severity, int(address[1], 16) or None, mask, place, name if on else b"")
+
+
+def of_controller(text):
+    """The severity, the type and the section of the firmware's event of a memory controller."""
+    found = CONTROLLER.fullmatch(in_parentheses(text))
+    check(found)
+    return error_of(text, found[1], found[2], place_of(found[3]))
+
+
+def of_driver(text):
+    """The severity, the type and the section of another driver's event: its place are the controller and two layers."""
+    found = DRIVER.fullmatch(in_parentheses(text))
+    check(found)
+    controller, layers, address, grain = found.groups()
+    top, middle, *_ = *layers.split(b":"), b""
+    return error_of(text, address, grain, [*map(number_of, (controller, top, middle))])
 
 
 def of_log(text):

@@ -1,14 +1,14 @@
--- What functions that aren't public answer.
+-- Results of functions that aren't public.
 use Rattle.std.specs.Prelude.{◌≡◌, Result, Ok, Err}
 use Rattle.apei_sources.specs.declared.refusals.TableRefused.{TableRefused}
 use Rattle.apei_sources.specs.declared.refusals.TableRefused.TheVariants.{NoMemory}
 
--- what was answered, seen by a view, is what is read
+-- This view of the result is what is read.
 abbrev pub Reads : {X Y E : Type 0} → (X → Y) → Result X E → Result Y E → Type 0
 Reads view (Ok value) answer = answer ≡ Ok (view value)
 Reads view (Err why) answer = answer ≡ Err why
 
--- or memory ran out
+-- Reading fails for this reason, or memory ran out.
 abbrev pub Fails : {Y : Type 0} → TableRefused → Result Y TableRefused → Type 0
 Fails NoMemory answer = Unit {0}
 Fails why answer = answer ≡ Err why

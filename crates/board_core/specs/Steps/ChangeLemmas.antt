@@ -14,7 +14,7 @@ use Rattle.board_core.specs.Steps.MomentLemmas.{becomes_same, before_sync, after
 use Rattle.board_core.specs.Stop.{Left, Same, Becomes, Begins, Appends, InFile, InStore, InOut, file_in}
 use Rattle.board_core.specs.Told.{Told, Torn, overlay}
 
--- What the model says now may be left.
+-- A crash now may leave what the model says.
 
 here_after : (act : Act) (disk : Disk) (t : Told) → MayLeave disk rests t.here → MayLeave (after_all (steps_of act t) disk) rests (after_act act t).here
 here_after (through Zero place bytes) disk t may = record { zero = settled_left (overlay place bytes t.here.file0); one = may.one; store = may.store; out = may.out }
@@ -57,7 +57,7 @@ pub told_left : (s : State) (t : Told) → Some (told_of s) ≡ Some t → LeftN
 told_left s t is = subst (λ (u : Told). LeftNow (clock_of s.past) u.here) (some_is (told_of s) t is)
     (now_counts (settled_disk s.past.first.here) (steps_of_all s.past.acts s.past.first) (length (steps_of_all s.past.acts s.past.first)) (now_of s.past).here (omega arith) (here_left s.past))
 
--- what a crash leaves now has the store and the text of the model
+-- What a crash now leaves has the store and the text of the model.
 kept_left : (past : Past) (left : Left) → LeftNow (clock_of past) left → (left.store ≡ (now_of past).here.store) × (left.out ≡ (now_of past).here.out)
 kept_left past left now =
     let may : MayLeave (disk_of past) rests left = now_left past left now in
@@ -146,7 +146,7 @@ module _ (past : Past) where
       (prints_part piece piece) (InOut (Appends piece)) (one_more (prints piece) (prints_part piece piece) refl)
       (λ left may. print_appends (disk_of past) piece left may)
 
--- a step of the device that keeps the store changes nothing that a crash leaves
+-- A step of the device that keeps the store changes nothing that a crash leaves.
 
 becomes_store : (store old new : List Stored) → store ≡ old → Becomes store old new → new ≡ old
 becomes_store store old new is (inl same) = same

@@ -1,4 +1,4 @@
--- How the disk model goes on over one write, one sync and one print.
+-- How the disk model continues over one write, one sync and one print.
 use Rattle.std.specs.Prelude.{◌≡◌, ℕ, ◌+◌, ◌-◌, ◌<◌, ◌≤◌, ◌⊎◌, max, min, List, [], ◌∷◌, ◌++◌, length, take, drop, refl}
 use Rattle.std.proofs.Common.{sym, ◌∙◌, ap, subst, inl, inr, arith, get_or, append-nil, length-append, length-take, length-drop}
 use Rattle.std.proofs.lemmas.Bool.{cases_lt}
@@ -56,7 +56,7 @@ overlay_inside place bytes old k within from below =
     get_or_append_left (take place old ++ bytes) (drop (place + length bytes) old) 0 k both
     ∙ get_or-append_right (take place old) bytes place k 0 size from
 
--- a write that was torn leaves all bytes outside of its range
+-- A torn write leaves all bytes outside of its range.
 pub torn_outside : (place count : ℕ) (old new : List ℕ) → Torn place count old new → (k : ℕ) → (k < place) ⊎ (place + count ≤ k) → get_or new k 0 ≡ get_or old k 0
 torn_outside place count old new torn k (inl front) = sym (get_or-take place new k 0 front) ∙ (ap (λ xs. get_or xs k 0) torn.front ∙ get_or-take place old k 0 front)
 torn_outside place count old new torn k (inr back) =
@@ -66,7 +66,7 @@ torn_outside place count old new torn k (inr back) =
     let f : get_or new (place + count + i) 0 ≡ get_or old (place + count + i) 0 = sym (get_or-drop (place + count) new i 0) ∙ (e ∙ get_or-drop (place + count) old i 0) in
     subst (λ (n : ℕ). get_or new n 0 ≡ get_or old n 0) is f
 
--- a write that was torn, after others
+-- A torn write after others.
 pub torn_more : (file : DiskFile) (place count : ℕ) (old new : List ℕ) → MayLeaveFile file old → Torn place count old new → MayLeaveFile (with_range place count file) new
 torn_more file place count old new may torn = record {
   stays = λ k below outside.
@@ -80,7 +80,7 @@ torn_more file place count old new may torn = record {
       omega arith);
 }
 
--- a write that succeeded, after others
+-- A write that succeeded, after others.
 pub overlay_more : (file : DiskFile) (place : ℕ) (bytes old : List ℕ) → MayLeaveFile file old → MayLeaveFile (with_range place (length bytes) file) (overlay place bytes old)
 overlay_more file place bytes old may = record {
   stays = λ k below outside.
@@ -100,7 +100,7 @@ record IsBefore (file : DiskFile) (place count : ℕ) (bytes from : List ℕ) : 
   may : MayLeaveFile file from
   torn : Torn place count from bytes
 
--- the write began past the end of what is left: nothing of it is there
+-- The write began past the end of what is left: nothing of it is there.
 nothing_written : (file : DiskFile) (place count : ℕ) (bytes : List ℕ) → place ≤ greatest_length (length file.synced) file.written → MayLeaveFile (with_range place count file) bytes → length bytes < place → IsBefore file place count bytes bytes
 nothing_written file place count bytes within may short = record {
   may = record {
@@ -111,8 +111,7 @@ nothing_written file place count bytes within may short = record {
   torn = record { front = refl; back = refl; longer = omega arith; within = omega arith };
 }
 
--- a part of the last sync's bytes stands in the range again, and what the write made longer is cut
--- off
+-- A part of the last sync's bytes is in the range again, and what the write added to the length is cut off.
 module _ (file : DiskFile) (place count cut : ℕ) (part bytes : List ℕ) (is_cut : cut ≡ greatest_length (length file.synced) file.written) (is_part : part ≡ take count (drop place file.synced)) (within : place ≤ cut) (may : MayLeaveFile (with_range place count file) bytes) (long : place ≤ length bytes) where
   abbrev from : List ℕ
   from = overlay place part (take cut bytes)

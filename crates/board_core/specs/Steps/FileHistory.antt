@@ -8,7 +8,7 @@ use Rattle.board_core.specs.declared.history.MemChange.TheVariants.{Wrote, Synce
 use Rattle.board_core.specs.DiskModel.{settled_file, Range, DiskFile, with_range}
 use Rattle.board_core.specs.Told.{overlay}
 
--- its bytes
+-- the file's bytes after a change
 abbrev pub bytes_after : FileNo → MemChange → List ℕ → List ℕ
 bytes_after Zero (Wrote Zero place new) bytes = overlay place new.items bytes
 bytes_after One (Wrote One place new) bytes = overlay place new.items bytes
@@ -18,7 +18,7 @@ abbrev pub bytes_after_all : FileNo → List MemChange → List ℕ → List ℕ
 bytes_after_all file [] bytes = bytes
 bytes_after_all file (change ∷ changes) bytes = bytes_after_all file changes (bytes_after file change bytes)
 
--- what the disk has of it, if it has these bytes before the change
+-- what the disk has of the file after a change, if the file has these bytes before it
 abbrev pub disk_after : FileNo → MemChange → List ℕ → DiskFile → DiskFile
 disk_after Zero (Wrote Zero place new) bytes file = with_range place (length new.items) file
 disk_after One (Wrote One place new) bytes file = with_range place (length new.items) file

@@ -1,4 +1,4 @@
--- What the fields of a board in memory stand for.
+-- What the fields of a board in memory mean.
 use Rattle.std.specs.Prelude.{◌≡◌, ℕ, List, map, Option, None, Some, Vec}
 use Rattle.std.specs.declared.alloc.Global.{Global}
 use Rattle.erst_store.specs.Device.{Device, volatile_of}
@@ -20,12 +20,12 @@ act_of (Printed piece) = prints piece.items
 abbrev pub acts_of : List MemChange → List Act
 acts_of events = map act_of events
 
--- the model has these files, this device and this text
+-- The model has these files, this device and this text.
 abbrev pub Has : Told → List ℕ → List ℕ → Device → List ℕ → Type 0
 Has t file0 file1 d out =
     (t.here ≡ record { file0 = file0; file1 = file1; store = d.store; out = out }) × (t.volatile ≡ volatile_of d)
 
--- what a file began with: kept apart once something was written, and else what it holds
+-- the first bytes of a file: recorded once something was written, and before that its present bytes
 abbrev pub began_with : Option (Vec ℕ Global) → List ℕ → List ℕ
 began_with None bytes = bytes
 began_with (Some first) bytes = first.items

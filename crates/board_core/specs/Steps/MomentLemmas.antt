@@ -1,4 +1,4 @@
--- How the moments of the disk model go on over one call more.
+-- How the moments of the disk model continue over one more call.
 use Rattle.std.specs.Prelude.{◌≡◌, ℕ, zero, suc, ◌≤◌, ◌⊎◌, List, [], ◌∷◌, ◌++◌, length, refl}
 use Rattle.std.proofs.Common.{sym, subst, inl, inr, arith, length-append, append-nil}
 use Rattle.erst_store.specs.Store.{Stored}
@@ -10,12 +10,12 @@ use Rattle.board_core.specs.Told.{Torn}
 use Rattle.board_core.specs.DiskModel.{greatest_length, MayLeaveFile, Disk, MayLeave, Call, writes, syncs, stores, prints, rests, disk_file, after, after_all, piece_of, MayLeaveSince, disk_clock}
 use Rattle.board_core.specs.Steps.DiskLemmas.{torn_before, settled_only, begins_none, nothing_begins}
 
--- a store that is one or the other, if both are the same
+-- A store is one of two stores, and these are equal.
 pub becomes_same : (old new : List Stored) → Becomes old old new → new ≡ old
 becomes_same old new (inl is) = is
 becomes_same old new (inr is) = is
 
--- what may be left if no call is in work may be left during each
+-- What a crash between calls may leave, a crash during a call may leave.
 pub call_more : (disk : Disk) (call : Call) (left : Left) → MayLeave disk rests left → MayLeave disk call left
 call_more disk call left may = record {
   zero = may.zero;
@@ -28,7 +28,7 @@ pub after_all-append : (calls more : List Call) (disk : Disk) → after_all (cal
 after_all-append [] more disk = refl
 after_all-append (x ∷ xs) more disk = after_all-append xs more (after x disk)
 
--- a moment of calls with one more is one of those before, or during that call, or after it
+-- A moment of calls with one more is a moment of the calls before, or during that call, or after it.
 pub since_split : (disk : Disk) (calls : List Call) (call : Call) (t : ℕ) (left : Left) → t ≤ length calls → MayLeaveSince disk (calls ++ call ∷ []) t left
     → MayLeaveSince disk calls t left ⊎ (MayLeave (after_all calls disk) call left ⊎ MayLeave (after call (after_all calls disk)) rests left)
 since_split disk [] call zero left within may = inr may
@@ -79,7 +79,7 @@ pub record AfterDisk (disk : Disk) (Step : Left → Left → Type 0) (left : Lef
 pub after_disk : (disk : Disk) (calls : List Call) (Step : Left → Left → Type 0) (left : Left) → AfterDisk (after_all calls disk) Step left → After (disk_clock disk calls) Step left
 after_disk disk calls Step left step = record { from = step.from; was = now_counts disk calls (length calls) step.from (omega arith) step.was; by = step.by }
 
--- one call more, of which it is known what a crash during it and after it leaves
+-- One more call, given what a crash during it and after it leaves.
 pub leads_call : (disk : Disk) (calls more : List Call) (call : Call) (Step : Left → Left → Type 0) → more ≡ calls ++ call ∷ []
     → ((left : Left) → MayLeave (after call (after_all calls disk)) rests left → AfterDisk (after_all calls disk) Step left)
     → Leads Step (disk_clock disk calls) (disk_clock disk more)
@@ -119,7 +119,7 @@ write_before disk One place count within left may =
       by = record { bytes = left.file1; step = found.2; rest = refl };
     }
 
--- what may be left during a write or a sync is what may be left before it
+-- What a crash during a write or a sync may leave, a crash before it may leave.
 before_write : (disk : Disk) (file : FileNo) (place count : ℕ) (left : Left) → MayLeave disk (writes file place count) left → MayLeave disk rests left
 before_write disk file place count left may = record { zero = may.zero; one = may.one; store = may.store; out = may.out }
 

@@ -130,7 +130,7 @@ impl Board for MemBoard {
         ensures answers { AnswersPut result
             (refusal_of id bytes.now (told_of self.old).here.store) }
         ensures device { IsDevice (device_of (told_of self.old)) }
-        // A put that is refused changes nothing.
+        // A put that the store refuses changes nothing.
         ensures does { Performs device_call self.old
             (past_after result (device (put id bytes.now)) self.old.past)
             self.old self.new (put_failure result) }

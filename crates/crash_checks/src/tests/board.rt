@@ -1,4 +1,4 @@
-//! The board that all runs go over.
+//! The board of all runs.
 
 ghost use Rattle.std.specs.Prelude.{◌≡◌, None, IfOk, OnErr, IsErr};
 ghost use Rattle.board_core.specs.Cause.{HasCause};
@@ -10,8 +10,8 @@ use erst_store::Store;
 use std::alloc::Global;
 use std::test::Fail;
 
-/// A board that tells nothing, as one over real files does, so that the clauses of a run say little
-/// of it.
+/// A board that isn't modelled, like a board over real files, so that the clauses of a run say
+/// little about it.
 ///
 /// It has one disk in memory, or two: then its disk is exchanged for the second at the second sync
 /// of file 1, and that call and every later disk call go there. All is printed to the first, whose
@@ -24,7 +24,7 @@ pub struct TestBoard {
     print_faults: u64,
 }
 
-// The two disks, apart from the counts, which so stay as they are when a disk is used.
+// The two disks, without the counts, which therefore don't change when a disk is used.
 #[derive(Drop)]
 struct Disks {
     first: MemBoard,
@@ -35,19 +35,19 @@ struct Disks {
 }
 
 impl TestBoard {
-    /// A board whose disk has these files.
+    /// Returns a board whose disk has these files.
     pub fn new(alloc: Global, zero: Vec<u8>, one: Vec<u8>) -> Result<TestBoard, Fail> {
         let first = disk_with(alloc, zero, one)?;
         Ok(over(first, disk_with(alloc, Vec::new(alloc), Vec::new(alloc))?))
     }
 
-    /// A board with an empty disk, whose device is busy so many times in each operation.
+    /// Returns a board with an empty disk, whose device is busy this many times in each operation.
     pub fn slow(alloc: Global, slow: u64) -> Result<TestBoard, Fail> {
         let first = MemBoard::new(alloc, Store::new(alloc), slow)?;
         Ok(over(first, disk_with(alloc, Vec::new(alloc), Vec::new(alloc))?))
     }
 
-    /// A board whose disk is empty, and is to be exchanged for one that has this file 0.
+    /// Returns a board whose disk is empty, and will be exchanged for one that has this file 0.
     pub fn exchanging(alloc: Global, zero: Vec<u8>) -> Result<TestBoard, Fail> {
         let first = disk_with(alloc, Vec::new(alloc), Vec::new(alloc))?;
         let mut board = over(first, disk_with(alloc, zero, Vec::new(alloc))?);
@@ -55,44 +55,44 @@ impl TestBoard {
         Ok(board)
     }
 
-    /// The call of this number fails, from 1, as long as memory is left.
+    /// Makes the call of this number, from 1, fail, as long as memory is left.
     pub fn fail_at(&mut self, call: u64) {
         let _ = self.disks.first.fail_at(call);
     }
 
-    /// Every call after so many fails.
+    /// Makes every call after this many fail.
     pub fn stop_after(&mut self, calls: u64) {
         self.disks.first.stop_after(calls);
     }
 
-    /// A board over what a stop now leaves of the first disk.
+    /// Returns a board over what a crash now leaves of the first disk.
     pub fn left(self, alloc: Global, pick: Pick) -> Result<TestBoard, Fail> {
         let TestBoard { disks, .. } = self;
         let Disks { first, second, .. } = disks;
         Ok(over(first.left(alloc, pick)?, second))
     }
 
-    /// What was printed.
+    /// Returns the printed text.
     pub fn out(&self) -> &[u8] {
         self.disks.first.out()
     }
 
-    /// How many calls were made, on either disk.
+    /// Returns how many calls were made, on either disk.
     pub fn calls(&self) -> u64 {
         self.disks.calls
     }
 
-    /// The calls on the first disk.
+    /// Returns the calls on the first disk.
     pub fn disk_calls(&self) -> &[DiskCall] {
         self.disks.first.disk_calls()
     }
 
-    /// The accesses to the device.
+    /// Returns the accesses to the device.
     pub fn accesses(&self) -> &[Access] {
         self.disks.first.accesses()
     }
 
-    /// How many records are in the store.
+    /// Returns how many records are in the store.
     pub fn records(&self) -> usize {
         self.disks.first.store().len()
     }
@@ -121,7 +121,7 @@ fn disk_with(alloc: Global, zero: Vec<u8>, one: Vec<u8>) -> Result<MemBoard, Fai
 }
 
 impl Disks {
-    // The disk that is there, for a call.
+    // Returns the present disk, for a call.
     fn disk(&mut self) -> &mut MemBoard {
         if self.is_to_be_exchanged && self.syncs_of_one > 1 {
             self.calls = self.calls.saturating_add(1);
@@ -131,7 +131,7 @@ impl Disks {
         }
     }
 
-    // The first disk, for a call.
+    // Returns the first disk, for a call.
     fn first(&mut self) -> &mut MemBoard {
         self.calls = self.calls.saturating_add(1);
         &mut self.first
@@ -224,7 +224,7 @@ fn write_inside(
     board.write_at(file, place, bytes)
 }
 
-// What a call answered, with the count of its faults raised if it failed.
+// Returns the result of a call, and raises the count of its faults if it failed.
 fn count_failure<T>(answer: Result<T, Failed>, faults: &mut u64) -> Result<T, Failed>
     ensures ok { IfOk answer (λ value. result ≡ Ok value) }
     ensures err { OnErr answer (IsErr result) }

@@ -12,7 +12,7 @@ const ZERO: FileNo = FileNo::Zero;
 
 const ONE: FileNo = FileNo::One;
 
-// Those of an opening over no file.
+// The calls of an opening over missing files.
 const OPENING: &[DiskCall] = &[
     Sync(ZERO),
     Sync(ONE),
@@ -26,8 +26,8 @@ const OPENING: &[DiskCall] = &[
     Sync(ZERO),
 ];
 
-// Those of an opening over a file 0 whose front gate is closed, and of a link of one fact of a
-// module.
+// The calls of an opening over a file 0 whose front gate is closed, and of a link of one fact with
+// a module.
 const APPENDING: &[DiskCall] = &[
     WriteAt(ZERO, 1, 97),
     Sync(ZERO),
@@ -39,7 +39,7 @@ const APPENDING: &[DiskCall] = &[
     Sync(ZERO),
 ];
 
-// Those by which a file of version 1 is taken over, and a link is kept.
+// The calls that take over a file of version 1 and append a link.
 const TAKING_OVER: &[DiskCall] = &[
     WriteAt(ONE, 0, 1),
     Sync(ONE),
@@ -53,7 +53,8 @@ const TAKING_OVER: &[DiskCall] = &[
     Sync(ONE),
 ];
 
-// Those of an opening over no file, and of one link for the two records of a poll: all of the run.
+// The calls of an opening over missing files, and of one link for the two records of a poll: all of
+// the run.
 const POLLING: &[DiskCall] = &[
     Sync(ZERO),
     Sync(ONE),

@@ -1,4 +1,4 @@
-//! The record store's device: its accesses in whole runs, word for word, and one that is slow.
+//! The record store's device: its accesses in whole runs, word for word, and a slow device.
 use super::board::TestBoard;
 use super::records::{ENTRIES, ERST, PADDED, PANIC, POLL, PUT_5, RECORD, TOLD_5};
 use super::{ends_so, play_on};
@@ -22,7 +22,7 @@ const LISTING: &[Access] = &[
     Read(Value, NONE),
 ];
 
-// What the padded table does besides before a read: Value holds what the listing told last.
+// What the padded table reads besides, before a read: Value has the listing's last result.
 const IDLE: &[Access] = &[Read(Value, NONE)];
 
 const READING: &[Access] = &[
@@ -119,7 +119,7 @@ const PLAYS: [(u64, &[&[u8]], Exit, &[&[u8]], usize); 4] = [
     ),
     // The record is saved before the device is found to be busy.
     (1000, SAVED, Exit::ErstBusy, &[b"done 1\nstop 10 busy\n"], 1),
-    // An empty store is listed, and nothing more is asked of it.
+    // An empty store is listed, and no more calls of the device are made.
     (
         1000,
         &[ERST, ENTRIES, POLL],

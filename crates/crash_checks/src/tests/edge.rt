@@ -1,6 +1,6 @@
-//! The program's own board, over a system in memory: a stop of the machine before each call of the
-//! system in a run, or after one that failed, what it leaves by choices of names and of writes, and
-//! a run that goes on from that.
+//! The program's own board, over a system in memory: a crash of the machine before each call of the
+//! system in a run, or after a failed call, what the crash leaves by choices of names and of
+//! writes, and a run that continues from it.
 
 ghost use Rattle.ras_base.specs.LittleEndian.{AreBytes};
 
@@ -19,7 +19,7 @@ use std::test::Fail;
 // More calls of the system than each run here makes.
 const MOST_CALLS: u64 = 1000;
 
-// Which names are as they were before the last change of each: none, all, or one.
+// Which names are as they were before the last change of each: no name, all, or one.
 const OLD_NAMES: [[bool; 4]; 6] = [
     [false, false, false, false],
     [true, true, true, true],
@@ -29,7 +29,7 @@ const OLD_NAMES: [[bool; 4]; 6] = [
     [false, false, false, true],
 ];
 
-// How the writes come out that aren't synced.
+// What a crash leaves of the writes that aren't synced.
 const WRITES: [WriteLeft; 3] = [WriteLeft::Old, WriteLeft::New, WriteLeft::Fill(0xa5)];
 
 fn pick_of(is_old: [bool; 4], rest: WriteLeft) -> StopPick<'static> {
@@ -46,18 +46,18 @@ fn pick_of(is_old: [bool; 4], rest: WriteLeft) -> StopPick<'static> {
     }
 }
 
-// What there is now.
+// Returns the folder now.
 fn now(system: &MemSystem) -> Result<LeftFolder, Fail> {
     Ok(system.left(&pick_of(OLD_NAMES[0], WriteLeft::New))?)
 }
 
-// What a slice holds are bytes, which a board asks of the store's file.
+// The bytes of a slice are below 256, which a board requires of the store's file.
 fn are_bytes(_bytes: &[u8])
     ensures { AreBytes _bytes.now }
 {}
 
-// What befalls a run: nothing, a stop before the call of the system of this number, or that this
-// call fails, with this done.
+// What happens in a run: nothing, a crash before the call of the system of this number, or a
+// failure of this call after this effect.
 #[derive(Clone, Copy)]
 enum Trouble {
     Nothing,
@@ -65,7 +65,7 @@ enum Trouble {
     Failure(u64, Effect),
 }
 
-// A call of the daemon over a folder, and what befalls it.
+// A call of the daemon over a folder, with this trouble.
 fn call_over<U: Use>(
     alloc: Global,
     words: &[RasWord],
@@ -100,7 +100,7 @@ fn run_over(
     call_over::<Alone>(alloc, &words, joined(alloc, script)?, start, trouble)
 }
 
-// The names of the account that a folder has.
+// Returns the names of the account in a folder.
 fn names_in(alloc: Global, start: &LeftFolder) -> Result<Vec<u8>, Fail> {
     let words = vec![in alloc;
         RasWord::new(alloc, b"report")?,
@@ -111,7 +111,7 @@ fn names_in(alloc: Global, start: &LeftFolder) -> Result<Vec<u8>, Fail> {
     Ok(now(&system)?.out)
 }
 
-// Whether a run over what a stop left is done, and its account has these names.
+// Whether a run over what a crash left is done, and its account has these names.
 fn is_whole(
     alloc: Global,
     script: &[&[u8]],
@@ -122,7 +122,7 @@ fn is_whole(
     Ok(exit == Exit::Done && names_in(alloc, &now(&system)?)?.as_slice() == names)
 }
 
-// What a stop leaves of a run that this befell; none if it made no such call.
+// Returns what a crash leaves of a run with this trouble; `None` if the run made no such call.
 fn left_of(
     system: &MemSystem,
     exit: Exit,
@@ -136,8 +136,8 @@ fn left_of(
     }
 }
 
-// Has each call of a run stop it, or fail with this done, and answers how many those were, if the
-// account was whole over all that a stop leaves then.
+// Lets a crash come before each call of a run, or lets the call fail after this effect, and returns
+// how many calls there were, if the account was whole over all that a crash leaves then.
 fn calls_that_lose_nothing(
     alloc: Global,
     script: &[&[u8]],

@@ -1,4 +1,4 @@
-//! That the account is made again from what the disk gives, and from nothing else.
+//! The account is recovered from what the disk has, and from nothing else.
 use super::board::TestBoard;
 use super::journals::{OLD_CUT, OLD_EMPTY, Pieces};
 use super::{EVERYDAY, LOGGED, ends_so, joined};
@@ -6,8 +6,8 @@ use ras_daemon::Exit;
 use std::alloc::Global;
 use std::test::Fail;
 
-// The disk is exchanged as the journal is opened again, for one with this file 0; how the run ends,
-// and what it prints.
+// The disk is exchanged when the journal is opened again, for a disk with this file 0; how the run
+// ends, and what it prints.
 const ROWS: [(Pieces, Exit, &[&[u8]]); 2] = [
     // The same line is new again.
     (
@@ -20,7 +20,7 @@ const ROWS: [(Pieces, Exit, &[&[u8]]); 2] = [
             b"done 3\nend entries=1 names=1\n",
         ],
     ),
-    // If somebody damaged the disk by then, the run says at which byte.
+    // If somebody has damaged the disk by then, the run reports at which byte.
     (
         OLD_CUT,
         Exit::Damaged { file: 0, place: 73 },

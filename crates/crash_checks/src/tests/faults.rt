@@ -6,7 +6,7 @@ use ras_daemon::Exit;
 use std::alloc::Global;
 use std::test::Fail;
 
-// The calls from one number to another, how a run in which one of them fails ends, and what it has
+// The calls from one number to another, how a run ends in which one of them fails, and what it has
 // printed then.
 type Faults = &'static [(u64, u64, Exit, &'static [&'static [u8]])];
 
@@ -38,8 +38,8 @@ const RESTARTED: Faults = &[
     ),
 ];
 
-// Those of the opening, the put, the listing and the reading, the link, the text, the clearing, and
-// the last two lines.
+// The calls of the opening, the put, the listing and the reading, the link, the text, the clearing,
+// and the last two lines.
 const POLLED: Faults = &[
     (1, 10, Exit::DiskFault, &[]),
     (11, 11, Exit::PrintFault, &[]),
@@ -59,7 +59,7 @@ const POLLED: Faults = &[
     ),
 ];
 
-// Those of the opening, the writing of the record, and the last two lines.
+// The calls of the opening, the writing of the record, and the last two lines.
 const SAVED: Faults = &[
     (1, 10, Exit::DiskFault, &[]),
     (11, 11, Exit::PrintFault, &[]),
@@ -77,7 +77,7 @@ const ROWS: [(&[&[u8]], Faults); 4] = [
     (&[ERST, ENTRIES, PANIC], SAVED),
 ];
 
-// Whether a run in which this call fails ends so, and with that call, if it fails it.
+// Whether a run in which this call fails ends in this way, with this call as the last.
 fn fails_so(
     alloc: Global,
     script: &[&[u8]],

@@ -51,7 +51,7 @@ fn write<U: Use>(board: &mut FileBoard<RealSystem, U, Brand>, bytes: &[u8]) -> (
     (is_written, board.sync(FileNo::One).is_ok())
 }
 
-// A board that only reads finds a missing file empty, makes no file and writes to none. Beside a
+// A board that only reads finds a missing file empty, makes no file and writes to no file. Beside a
 // board that writes it has what the files contained at its first use.
 #[test]
 fn reading_board_changes_nothing(rt: HostRuntime) -> Result<(), Fail> {

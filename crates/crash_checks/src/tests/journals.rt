@@ -41,7 +41,7 @@ const LIMIT_LINK: &[u8] = b"\x15\0\0\0\x01\0\0\0\x02\x05\0\0\0\0\0\0\0\x3c\0\0\0
 /// Generation 1 with the everyday error.
 pub const LABELLED: Pieces = &[FRONT, ONE, NOTHING, OPEN, LINK, CLOSED];
 
-/// The same in version 1, without the error, and without a gate after that.
+/// Generation 1 in version 1, without the error, and without a gate after it.
 pub const OLD_LABELLED: Pieces = &[OLD_FRONT, ONE, OLD_NOTHING, OPEN, LINK, CLOSED];
 
 pub const OLD_EMPTY: Pieces = &[OLD_FRONT, ONE, OLD_NOTHING, CLOSED];
@@ -51,10 +51,10 @@ pub const OLD_CUT: Pieces = &[OLD_FRONT, ONE, OLD_NOTHING];
 /// The empty generation 2.
 pub const SECOND: Pieces = &[FRONT, TWO, NOTHING, CLOSED];
 
-/// A file that doesn't stand, of one open gate.
+/// A file that isn't valid: one open gate.
 pub const GATE: Pieces = &[OPEN];
 
-/// A file that was closed for the next generation, and is longer than that.
+/// A file that was closed for the next generation, and is longer than that generation.
 pub const SHUT: Pieces = &[
     CLOSED,
     b"RASJRNL2",
@@ -69,7 +69,7 @@ pub const SHUT: Pieces = &[
     CLOSED,
 ];
 
-/// Generation 1 with 256 links of a limit, which so is switched before the next link.
+/// Generation 1 with 256 links of a limit, which is therefore switched before the next link.
 pub fn full_chain(alloc: Global) -> Result<Vec<u8>, Fail> {
     let mut bytes = joined(alloc, &[FRONT, ONE, NOTHING])?;
     for _ in 0..256 {

@@ -1,7 +1,7 @@
-//! Lines of the record store, and what is printed of them. The table and the record are samples
+//! Lines of the record store, and the text printed for them. The table and the record are samples
 //! that were written down by hand.
 
-/// The head of the plainest table that is admitted, and its first entry.
+/// The head of the smallest admitted table, and its first entry.
 pub const ERST: &[u8] = b"erst \
     4552535470020000005900000000000000000000000000000000000000000000\
     00000000300000000000000012000000\
@@ -42,7 +42,7 @@ pub const PUT_5: &[u8] = b"put 5 \
     0000000000000000000000000000000000000000000000000000000000000000\
     05";
 
-/// The same of another identifier.
+/// The front of a record with another identifier.
 pub const PUT_7: &[u8] = b"put 7 \
     435045520001ffffffff02000200000000000000610100000000000000000000\
     0000000000000000000000000000000000000000000000000000000000000000\
@@ -58,19 +58,19 @@ pub const RECORD: &[u8] = b"\
     00000002400000000000000000000000000000000000400000000000000000000000000000000000000000\
     0000000000000000000000000000000000000000000000000000000000000000020000000000000000\n";
 
-/// What is printed of the first record.
+/// The text printed for the first record.
 pub const TOLD_5: &[u8] = b"\
     log record=0000000000000005 t=300 class=corrected weight=1 label=- page=0000000040000000 \
     memory type=single-bit-ecc node=- card=- module=- mask=-\n\
     log record=0000000000000005 t=300 class=informational weight=1 label=- \
     page=- section=00112233-4455-6677-8899-aabbccddeeff\n";
 
-/// A poll, and what is printed of a record that is known.
+/// A poll, and the text printed for a known record.
 pub const POLL: &[u8] = b"poll 300\n";
 
 pub const REPEATED_5: &[u8] = b"repeat record=0000000000000005\n";
 
-/// The report of a bank that is saved, and what is printed of it.
+/// The report of a bank that is saved, and the text printed for it.
 pub const PANIC: &[u8] = b"panic 9 1 100 0 4 3 1000c14 4 be00000000800400 0 0\n";
 
 pub const PANIC_TOLD: &[u8] = b"log bank=1/0/4/3 t=100 class=UC weight=1 label=- page=- \

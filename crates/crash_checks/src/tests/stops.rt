@@ -1,4 +1,4 @@
-//! Stops of the machine after each call of a run, and runs that go on from what they leave.
+//! Crashes of the machine after each call of a run, and runs that continue from what they leave.
 use super::board::TestBoard;
 use super::journals::{GATE, LABELLED, OLD_LABELLED, Pieces, SECOND, SHUT, full_chain};
 use super::records::{
@@ -12,8 +12,8 @@ use std::test::Fail;
 
 const PICKS: &[Pick] = &[Pick::Old, Pick::New, Pick::Fill(0xa5)];
 
-// What is printed of a run over the module and the everyday line if the line is news, and if
-// it isn't.
+// The text printed by a run over the module and the everyday line if the line is new, and if it
+// isn't.
 const NEWS: &[u8] = b"done 1\ndone 2\nlog bank=1/0/7/1000 t=100 class=CE weight=1 label=DIMM_A1 \
 page=0000000012345000 code=memory:RD:0 threshold=none over=0 mark=- ripv=0 eipv=0 mcip=0\ndone 3\n\
 end entries=1 names=1\n";
@@ -30,16 +30,17 @@ const ONE_NAME: &[u8] = b"end entries=1 names=1\n";
 
 const TWO_NAMES: &[u8] = b"end entries=2 names=2\n";
 
-// A script whose run over a new board is stopped, one whose run goes over what is left, and what
-// comes of it.
+// A script whose run over a new board is ended by a crash, a script whose run goes over what is
+// left, and the outcome.
 struct Stop {
     script: &'static [&'static [u8]],
     next: &'static [&'static [u8]],
     cases: &'static [Case],
 }
 
-// The calls from one number to another, after each of which the first run is stopped; what it has
-// printed then; and what the next one prints over what is left under each of some picks.
+// The calls from one number to another, after each of which the machine crashes in the first run;
+// what that run has printed then; and what the next one prints over what is left under each of some
+// picks.
 struct Case {
     first: u64,
     last: u64,
@@ -49,7 +50,7 @@ struct Case {
 }
 
 // After call 14 the link's first sync was made, after call 15 the write of its gate, and after call
-// 16 the sync of that.
+// 16 the sync of the gate.
 const LINKED: Stop = Stop {
     script: &[MODULE, EVERYDAY],
     next: &[MODULE, EVERYDAY],
@@ -85,7 +86,7 @@ const LINKED: Stop = Stop {
     ],
 };
 
-// A record is counted and told by call 39, and cleared by call 44.
+// A record is counted and printed by call 39, and cleared by call 44.
 const POLLED: Stop = Stop {
     script: &[ERST, ENTRIES, PUT_5, RECORD, POLL],
     next: &[ERST, ENTRIES, POLL],
@@ -165,7 +166,7 @@ fn is_left(alloc: Global, stop: &Stop, case: &Case, calls: u64, pick: Pick) -> R
     Ok(is_so && are_joined(left.out(), case.output))
 }
 
-// The number of calls after which a stop left something else.
+// Returns the number of calls after which a crash left something else.
 fn first_otherwise(alloc: Global, stop: &Stop) -> Result<Option<u64>, Fail> {
     for case in stop.cases {
         for calls in case.first..=case.last {
@@ -190,7 +191,7 @@ fn a_stop_leaves_what_was_done(rt: HostRuntime) -> Result<(), Fail> {
 }
 
 // A script over both files, the most calls that its run makes, and the end of a run over what a
-// stop leaves, whichever stop it was.
+// crash leaves, whichever crash it was.
 struct Row {
     script: &'static [&'static [u8]],
     zero: Pieces,
@@ -224,7 +225,7 @@ const ROWS: [Row; 7] = [
         calls: 20,
         end: b"end entries=1 names=1\n",
     },
-    // A link goes into either file, also beside one of an earlier generation.
+    // A link is appended to either file, also beside a file of an earlier generation.
     Row {
         script: &[LIMIT],
         zero: LABELLED,
@@ -256,7 +257,7 @@ const ROWS: [Row; 7] = [
     },
 ];
 
-// The same, over a file 0 of 256 links, from which the journal is switched.
+// The scripts over a file 0 of 256 links, from which the journal is switched.
 const SWITCHES: [Row; 2] = [
     Row {
         script: &[LIMIT],
@@ -299,8 +300,8 @@ const POLLS: [Row; 3] = [
     },
 ];
 
-// Whether a run over this file 0 that is stopped after so many calls leaves a board, under a pick,
-// over which the script is taken to its end, and no record stays in the store.
+// Whether a run over this file 0 that a crash ends after this many calls leaves a board, under a
+// pick, over which the script is taken to its end, and no record stays in the store.
 fn goes_on(alloc: Global, row: &Row, zero: &[u8], calls: u64, pick: Pick) -> Result<bool, Fail> {
     let zero = zero.to_vec(alloc)?;
     let one = joined(alloc, row.one)?;
@@ -312,7 +313,7 @@ fn goes_on(alloc: Global, row: &Row, zero: &[u8], calls: u64, pick: Pick) -> Res
     Ok(is_done && left.out().ends_with(row.end) && left.records() == 0)
 }
 
-// The number of calls after which a stop was not gone on from.
+// Returns the number of calls after which a run couldn't continue from a crash.
 fn first_wrong(alloc: Global, row: &Row, zero: &[u8]) -> Result<Option<u64>, Fail> {
     for calls in 0..=row.calls {
         for pick in PICKS {

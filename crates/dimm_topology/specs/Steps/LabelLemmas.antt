@@ -1,4 +1,4 @@
--- Labels of the same bytes are the same label.
+-- Labels with the same bytes are the same label.
 use Rattle.std.proofs.Common.{◌≡◌, true, sym}
 use Rattle.std.specs.Cmp.Lexicographic.{same_text, nat_list_eq_equiv}
 use Rattle.dimm_topology.specs.Labels.{Bytes, same_label}

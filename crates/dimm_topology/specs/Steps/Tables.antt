@@ -1,4 +1,4 @@
--- What a topology keeps beside its rows, to find what they say without a walk through them.
+-- The tables that a topology stores beside its rows, so that it needn't search them.
 use Rattle.std.specs.Prelude.{◌≡◌, ℕ, Bool, false, nat_eq, if◌then◌else◌, Option, None, Some, List, [], ◌∷◌, filter}
 use Rattle.std.specs.List.{list_any, find}
 use Rattle.std.specs.Option.{option_map}
@@ -15,29 +15,29 @@ use Rattle.dimm_topology.specs.declared.row.Row.TheVariants.{Range}
 use Rattle.dimm_topology.specs.declared.tables.Tables.{Tables}
 use Rattle.dimm_topology.specs.Steps.Ranges.{meets}
 
--- whether a row is a range that has an address in common with one of these
+-- Whether a row is a range that has an address in common with one of these.
 abbrev pub meets_one : List HeldRange → Row → Bool
 meets_one ranges (Range label first last) = list_any (meets first last) ranges
 meets_one ranges _ = false
 
--- the owner that labels name, where there are any
+-- the owner by these labels; None if there are no labels
 abbrev pub noted : List Bytes → Option (Option Bytes)
 noted [] = None
 noted (label ∷ labels) = Some (the_one (label ∷ labels))
 
--- the owner that labels name with one more
+-- the owner by these labels and one more
 abbrev pub joined : Option (Option Bytes) → Bytes → Option Bytes
 joined None label = Some label
 joined (Some None) label = None
 joined (Some (Some held)) label = if same_label held label then Some held else None
 
--- the tables say what the rows say
+-- The tables say what the rows say.
 pub record Tells (rows : List Row) (tables : Tables) : Type 0 where
   -- the sockets of CPUs
   pub sockets : (cpu : ℕ) → get nat_eq tables.sockets cpu ≡ socket_by_rows rows cpu
-  -- which labels module rows have
+  -- which labels are those of module rows
   pub modules : (label : Bytes) → contains same_label tables.modules label ≡ is_module_label rows label
-  -- the owners of locations that rows name
+  -- the owners of the locations in rows
   pub owners : (location : Location) → get location_eq.it tables.owners location ≡ noted (labels_of_rows (filter (is_at location) rows))
   -- which addresses are in ranges
   pub held : (label : Bytes) (first last : ℕ) → list_any (overlap (Range label first last)) rows ≡ list_any (meets first last) tables.ranges

@@ -1,4 +1,4 @@
--- The instructions by kinds, and what those of each kind do with the variables.
+-- The instructions by kind, and what each kind does with the variables.
 use Rattle.std.specs.Prelude.{◌≡◌, ℕ, ◌+◌, ◌&&◌, is_some, Bool, true, false, Option, Some, None, Result, Ok, Err, nat_eq, if◌then◌else◌}
 use Rattle.board_core.specs.declared.board.Reg.{Reg}
 use Rattle.erst_interp.specs.declared.entries.Instruction.{Instruction}
@@ -70,7 +70,7 @@ turn_by Work.TheVariants.Unknown i e v s = stops BadInstruction s
 turn_by Work.TheVariants.Computes i e v s = computes (computed i e v) s
 turn_by (Work.TheVariants.Uses how) i e v s = uses e s (λ reg. used_by how i e v reg s)
 
--- whether an entry uses a register that is good
+-- Whether an entry uses a valid register.
 abbrev pub is_use : Work → Bool
 is_use (Work.TheVariants.Uses how) = true
 is_use work = false
@@ -104,7 +104,7 @@ is_straight_by (Work.TheVariants.Uses how) i register = is_straight_at how i reg
 abbrev pub is_straight : InstructionEntry → Bool
 is_straight e = is_straight_by (work_of e.instruction) e.instruction e.register
 
--- the turn of such an entry
+-- The turn of an entry that runs straight on to the next.
 abbrev pub GoesOn : Variables → Result Variables RunRefused → Type 0
 GoesOn v (Ok after) = after.index ≡ v.index + 1
 GoesOn v (Err Register) = Unit {0}

@@ -1,4 +1,4 @@
--- What private functions of a run say of what a board's model says, keeps and counts.
+-- The model, the record store and the counts after the private functions of a run.
 use Rattle.std.specs.Prelude.{◌≡◌, ◌≢◌, ℕ, ◌+◌, ◌-◌, ◌≤◌, ◌⊎◌, true, false, List, [], Option, Some, None, Result, Ok, Err, IfSome}
 use Rattle.erst_store.specs.Store.{Stored}
 use Rattle.erst_store.specs.Actions.{range_address, range_length}
@@ -15,8 +15,8 @@ use Rattle.erst_interp.specs.Machine.{MachineState, Outcome, goes, stops, new_va
 use Rattle.erst_interp.specs.Run.{KeepsButDevice, IsCutShort, acts_of}
 use Rattle.erst_interp.specs.Steps.Parts.{uses_register}
 
--- Calls succeeded, or the last of them failed. The record store may have changed so. If a crash before calls that
--- succeeded leaves the store in the model, so does one after them.
+-- Calls succeeded, or the last of them failed. The record store may have changed in this way. If a crash before calls
+-- that succeeded leaves the store in the model, so does a crash after them.
 pub record GoesWell (Store : List Stored → List Stored → Type 0) (old new : Seen) : Type 0 where
   pub kept : Relates KeepsButDevice old.told new.told
   pub stops : Passes (InStore Store) old.clock new.clock
@@ -32,13 +32,13 @@ abbrev pub Touches : {T E : Type 0} → (List Stored → List Stored → Type 0)
 Touches Store (Ok x) old new = GoesWell Store old new
 Touches Store (Err e) old new = Fails Store old new
 
--- the record store stays
+-- The record store is unchanged.
 abbrev pub Stays : List Stored → List Stored → Type 0
 Stays old new = new ≡ old
 
 -- ---- calls of the device
 
--- it stays, or is what a crash during these calls leaves of it
+-- The record store is unchanged, or is what a crash during these calls leaves of it.
 abbrev pub StoreIn : List DeviceCall → Option Told → List Stored → List Stored → Type 0
 StoreIn calls None old new = Unit {0}
 StoreIn calls (Some t) old new = (new ≡ old) ⊎ Moment (acts_of calls) t (record t.here { store = new })
@@ -54,7 +54,7 @@ pub record Cut (calls : List DeviceCall) (old new : Seen) : Type 0 where
 
 -- ---- parts of a turn
 
--- the state that variables and what the model says make
+-- the state with these variables and the model's device
 abbrev pub state_in : Variables → Told → MachineState
 state_in v t = record { variables = v; device = device_of t; calls = [] }
 
@@ -62,7 +62,7 @@ abbrev pub state_of : Outcome → MachineState
 state_of (goes s) = s
 state_of (stops why s) = s
 
--- the calls that a part of a turn makes; none are known of a board that isn't modelled
+-- The calls that a part of a turn makes; an empty list for a board that isn't modelled.
 abbrev pub calls_in : (MachineState → Outcome) → Variables → Option Told → List DeviceCall
 calls_in part v None = []
 calls_in part v (Some t) = (state_of (part (state_in v t))).calls
@@ -72,7 +72,7 @@ ComesTo (goes s) (Ok v) = v ≡ s.variables
 ComesTo (stops cause s) (Err why) = cause ≡ why
 ComesTo outcome result = ⊥
 
--- a part that was done, or refused with no call failing
+-- A part is done, or refused without a failed call.
 pub record Turned (part : MachineState → Outcome) (v : Variables) (result : Result Variables RunRefused) (old new : Seen) : Type 0 where
   pub made : Made (calls_in part v old.told) old new
   pub comes : IfSome old.told (λ t. ComesTo (part (state_in v t)) result)
@@ -87,14 +87,14 @@ pub record IsUnused (e : InstructionEntry) (result : Result Variables RunRefused
   pub called : result ≢ Err Register
   pub same : new ≡ old
 
--- the place of a stretch in the range, if it is inside
+-- the offset of a stretch in the range, if it is inside
 abbrev pub IsPlace : ℕ → ℕ → Option ℕ → Type 0
 IsPlace address count None = is_inside address count ≡ false
 IsPlace address count (Some place) = (is_inside address count ≡ true) × (place ≡ address - range_address) × (place + count ≤ range_length)
 
 -- ---- runs
 
--- the state of a run that begins over what the model says, and its end
+-- the state at the start of a run over the model's device, and the run's end
 abbrev pub start_over : ℕ → Told → MachineState
 start_over input t = state_in (new_variables input) t
 

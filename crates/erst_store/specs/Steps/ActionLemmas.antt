@@ -1,4 +1,4 @@
--- What each action of the device keeps, and what a listing gives.
+-- Properties that each action of the device keeps, and what a listing returns.
 use Rattle.std.proofs.Common.{◌≡◌, ℕ, zero, suc, ◌+◌, ◌-◌, ◌^◌, ◌<◌, ◌≤◌, Bool, true, false, nat_eq, nat_lt, if◌then◌else◌, List, [], ◌∷◌, ◌++◌, length, drop, slice_get, Option, None, Some, ◌||◌, refl, sym, ap, ◌∙◌, arith, add-one, inl, inr, true≢false}
 use Rattle.std.specs.Prelude.{◌⊎◌}
 use Rattle.std.specs.List.{AllByRecursion}
@@ -16,7 +16,7 @@ use Rattle.erst_store.specs.Device.{Device, effects, effect_in, act, after_check
 use Rattle.erst_store.specs.DeviceLaws.{IsDevice, MayChange, id_changed, listing, after_listings, left_to_list, listed_to_end}
 use Rattle.erst_store.specs.Steps.StoreLemmas.{others-with_record, without-twice}
 
--- what each row does to a device holds of the action that was written
+-- A property of the effect of each row is a property of the effect of the action.
 pub effect_does : (P : Device → Type 0) (rows : List (ℕ × (Device → Device))) (action : ℕ) (d : Device) → P d → AllByRecursion (λ row. nat_eq action row.0 ≡ true → P (row.1 d)) rows → P (effect_in rows action d)
 effect_does P [] action d start each = start
 effect_does P (row ∷ rows) action d start each = by (nat_eq action row.0) refl (effect_does P rows action d start each.1)
@@ -168,7 +168,7 @@ id_small [] i id each is = absurd cc
 id_small (r ∷ rs) zero id each is = let same : r.id ≡ id = cc in omega (arith, each.0.below)
 id_small (r ∷ rs) (suc i) id each is = id_small rs i id each.1 is
 
--- a listing of what stands at a place leaves these
+-- A listing step keeps the numbers small.
 pub listed_small : (d : Device) (o : Option ℕ) → IsDevice d → o ≡ slice_get (ids d.store) d.cursor → (after_id d o).value < 2 ^ 64
 listed_small d (Some id) kept is = id_small d.store d.cursor id kept.store.each (sym is)
 listed_small d None kept is = omega arith
@@ -183,7 +183,7 @@ count_answer d kept = omega (arith, kept.store.count)
 
 -- ---- a listing
 
--- the numbers from a place on, one by one
+-- The numbers from an index on, one by one.
 got_first : (ks : List ℕ) (i : ℕ) → i < length ks → (k : ℕ) × (slice_get ks i ≡ Some k) × (drop i ks ≡ k ∷ drop (suc i) ks)
 got_first [] i within = absurd (omega (arith, within))
 got_first (k ∷ ks) zero within = (k, refl, refl)

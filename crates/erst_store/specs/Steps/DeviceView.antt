@@ -1,9 +1,9 @@
--- What private functions of the device say.
+-- What private functions of the device return.
 use Rattle.std.specs.Prelude.{◌≡◌, ℕ, ◌≤◌, true, false, List, length, Option, None, Some}
 use Rattle.erst_store.specs.Store.{most_bytes}
 use Rattle.erst_store.specs.Device.{is_record_out, id_at, record_at}
 
--- a record that stands whole in the range at an offset
+-- A whole record is in the range at an offset.
 pub record FoundRecord (range : List ℕ) (offset id : ℕ) (bytes : List ℕ) : Type 0 where
   pub inside : is_record_out range offset ≡ false
   pub id_is : id_at range offset ≡ id

@@ -1,4 +1,4 @@
--- What is done to a device leaves it one.
+-- Every action on a device leaves a device.
 use Rattle.std.proofs.Common.{◌≡◌, ℕ, ◌+◌, ◌-◌, ◌^◌, ◌<◌, ◌≤◌, Bool, true, false, nat_eq, nat_lt, if◌then◌else◌, List, ◌++◌, length, take, drop, replicate, slice_get, Option, None, Some, refl, sym, ◌∙◌, arith, inl, inr, length-append, length-take, length-drop}
 use Rattle.std.proofs.lemmas.Bool.{cases_lt, ltb-false, le-ltb}
 use Rattle.std.proofs.lemmas.Bool.Decides.{nat_tests}
@@ -131,13 +131,13 @@ pub IsDevice-range : (place : ℕ) (bytes : List ℕ) (d : Device) → IsDevice 
 IsDevice-range place bytes d kept are room =
     device_ranged d (range_with place bytes d.range) d.status kept (length-range_with place bytes d.range kept.length room) (AreBytes-range_with place bytes d.range are kept.bytes)
 
--- a device whose range was changed in place
+-- A device whose range was changed in place.
 pub IsDevice-filled : (d : Device) (n : ℕ) (new rest : List ℕ) → IsDevice d → n ≡ range_length → length new ≡ range_length → AreBytes new → IsDevice (record d { range = take n (new ++ rest) })
 IsDevice-filled d n new rest kept size whole are =
     let is : take n (new ++ rest) ≡ new = take_at new rest n (whole ∙ sym size) in
     rw is (device_ranged d new d.status kept whole are)
 
--- a record that no put refuses
+-- A put refuses no such record.
 pub record Unrefused (id : ℕ) (bytes : List ℕ) (store : List Stored) : Type 0 where
   pub named : is_reserved id ≡ false
   pub short : nat_lt most_bytes (length bytes) ≡ false

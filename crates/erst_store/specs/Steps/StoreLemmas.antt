@@ -63,7 +63,7 @@ placed id (r ∷ rs) (Some place) is =
           ∙ eqb-true _ _ found.1;
     }
 
--- an identifier that is apart from all is apart from one of them
+-- An identifier that differs from all differs from one of them.
 apart_at : (k id : ℕ) (rs : List Stored) (place : ℕ) → AllByRecursion (λ y. nat_eq k y ≡ false) (ids rs) → StandsAt id rs place → nat_eq k id ≡ false
 apart_at k id [] place apart there = absurd (omega (arith, there.within))
 apart_at k id (r ∷ rs) zero apart there = ap (nat_eq k) (sym there.same) ∙ apart.0
@@ -344,7 +344,7 @@ short-at [] place bytes each is = absurd cc
 short-at (r ∷ rs) zero bytes each is = let same : r.bytes ≡ bytes = cc in subst (λ (bs : List ℕ). length bs ≤ most_bytes) same each.0.size
 short-at (r ∷ rs) (suc place) bytes each is = short-at rs place bytes each.1 is
 
--- what is found under an identifier is a store's
+-- The bytes found under an identifier are a record's.
 pub bytes_at : (id : ℕ) (rs : List Stored) (bytes : List ℕ) → AllByRecursion Fits rs → bytes_under id rs ≡ Some bytes → AreBytes bytes
 bytes_at id [] bytes each is = absurd cc
 bytes_at id (r ∷ rs) bytes each is = by (nat_eq r.id id) is (bytes_at id rs bytes each.1)
@@ -353,7 +353,7 @@ bytes_at id (r ∷ rs) bytes each is = by (nat_eq r.id id) is (bytes_at id rs by
     by true here ih = let same : r.bytes ≡ bytes = cc in subst AreBytes same each.0.bytes
     by false later ih = ih later
 
--- what a put gives is a store
+-- A put leaves a store.
 pub IsStore-put : (id : ℕ) (bytes : List ℕ) (rs : List Stored) → IsStore rs → Fits (record { id = id; bytes = bytes }) → is_full_for id rs ≡ false → IsStore (with_record id bytes rs)
 IsStore-put id bytes rs kept fits room = by (holds id rs) refl
   where

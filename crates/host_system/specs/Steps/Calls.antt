@@ -25,8 +25,8 @@ SeesPrinted piece old new = seen_now new ≡ record (seen_now old) { out = (seen
 abbrev pub SeesBegun : List ℕ → FolderPast → FolderPast → Type 0
 SeesBegun piece old new = InOut (Begins piece) (seen_now old) (seen_now new)
 
--- Bytes were written at an offset of a usable file, or the write failed. The file may be used as before, and the
--- other file and the store's file are as they were.
+-- Bytes were written at an offset of a usable file, or the write failed. The file may be used as before, and the other
+-- file and the store's file are unchanged.
 pub record WritesFile {T E : Type 0} (file : FileNo) (place : ℕ) (bytes : List ℕ) (result : Result T E) (old new : Option FolderPast) : Type 0 where
   pub told : OnOk result (IfTold (SeesWritten file place bytes) old new)
   pub failed : OnErr result (IfTold (SeesTorn file place (length bytes)) old new)
@@ -34,8 +34,8 @@ pub record WritesFile {T E : Type 0} (file : FileNo) (place : ℕ) (bytes : List
   pub stops : Passes (InFile file (Torn place (length bytes))) (clock_over old) (clock_over new)
   pub usable : IfSome new (IsUsable file)
 
--- A file was synced, or the sync failed. A board sees the same, and the other file and the store's file are
--- as they were. On `Ok` the file is durable, and may be used as before.
+-- A file was synced, or the sync failed. A board sees the same, and the other file and the store's file are unchanged.
+-- On `Ok` the file is durable, and may be used as before.
 pub record Syncs {T E : Type 0} (IsFor : FileNo → FolderPast → Type 0) (file : FileNo) (result : Result T E) (old new : Option FolderPast) : Type 0 where
   pub told : IfTold SeesSame old new
   pub keeps : IfTold (KeepsOthers file) old new
@@ -50,7 +50,7 @@ pub record SyncsNames {T E : Type 0} (result : Result T E) (old new : Option Fol
   pub stops : Passes Same (clock_over old) (clock_over new)
   pub named : OnOk result (IfSome new AreNamed)
 
--- A piece was printed, or that failed. The files are as they were.
+-- A piece was printed, or that failed. The files are unchanged.
 pub record PrintsPiece {T E : Type 0} (piece : List ℕ) (result : Result T E) (old new : Option FolderPast) : Type 0 where
   pub told : OnOk result (IfTold (SeesPrinted piece) old new)
   pub failed : OnErr result (IfTold (SeesBegun piece) old new)

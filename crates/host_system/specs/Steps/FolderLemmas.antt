@@ -1,4 +1,4 @@
--- Only for proofs: what a stop leaves of a folder after one change, by what one before it leaves.
+-- What a crash leaves of a folder after one change, by what a crash before the change leaves.
 use Rattle.std.specs.Prelude.{◌≡◌, ℕ, ◌+◌, ◌≤◌, ◌⊎◌, max, List, [], ◌∷◌, ◌++◌, length, take, Option, None, Some, refl}
 use Rattle.std.proofs.Common.{sym, ap, subst, inl, inr, arith, length-take}
 use Rattle.board_core.specs.DiskModel.{greatest_length, DiskFile, MayLeaveFile, with_range}
@@ -31,7 +31,7 @@ pub record AreConsistent (folder : Folder) : Type 0 where
   pub store : IsConsistent folder.store
   pub new : IsConsistent folder.new
 
--- a range that is no shorter
+-- A range may be made longer.
 pub wider : (file : DiskFile) (place n count : ℕ) (bytes : List ℕ) → n ≤ count → MayLeaveFile (with_range place n file) bytes → MayLeaveFile (with_range place count file) bytes
 wider file place n count bytes within may = record {
   stays = λ k below outside. may.stays k below (outside_more file.written (record { place = place; count = n }) k
@@ -96,7 +96,7 @@ pub record AfterFolder (folder : Folder) (Step : Left → Left → Type 0) (left
   pub was : MayLeaveFolder folder from
   pub by : Step (seen_as from) (seen_as left)
 
--- nothing of it is seen
+-- A board doesn't see `rasd.new`.
 pub new_before : (step : NameEntry → NameEntry) (folder : Folder) → AreConsistent folder → (left : Stopped) → MayLeaveFolder (record folder { new = step folder.new }) left → AfterFolder folder Same left
 new_before step folder are left may = record {
   from = record left { new = bytes_now folder.new };
@@ -113,7 +113,7 @@ used_before New how folder left may = record { zero = may.zero; one = may.one; s
 pub none_before : (Step : Left → Left → Type 0) → ((left : Left) → Step left left) → (folder : Folder) (left : Stopped) → MayLeaveFolder folder left → AfterFolder folder Step left
 none_before Step same folder left may = record { from = left; was = may; by = same (seen_as left) }
 
--- the folder's names are on the disk
+-- The folder's names are durable.
 settled_before : (entry : NameEntry) (left : Option (List ℕ)) → MayLeaveName (settled_name entry) left → MayLeaveName entry left
 settled_before entry left (inl may) = inl may
 settled_before entry left (inr may) = absurd may
@@ -127,7 +127,7 @@ names_before folder left may = record {
   out = may.out;
 }
 
--- a file is synced
+-- A file is synced.
 synced_before : (now : Option FolderFile) (others : List (Option DiskFile)) → IsConsistent (record { now = now; others = others; how = shut }) → (left : Option (List ℕ))
     → MayLeaveName (with_now after_syncing (record { now = now; others = others; how = shut })) left → MayLeaveName (record { now = now; others = others; how = shut }) left
 synced_before None others is left may = may
@@ -141,7 +141,7 @@ sync_before (Journal One) folder are left may = record { zero = may.zero; one = 
 sync_before Store folder are left may = record { zero = may.zero; one = may.one; store = synced_before folder.store.now folder.store.others are.store left.store may.store; new = may.new; out = may.out }
 sync_before New folder are left may = record { zero = may.zero; one = may.one; store = may.store; new = synced_before folder.new.now folder.new.others are.new left.new may.new; out = may.out }
 
--- the new store takes the old one's name: a stop leaves one or the other
+-- The new store takes the old store's name: a crash leaves one or the other.
 
 left_of_settled : (bytes : List ℕ) (left : Option (List ℕ)) → MayLeaveOne (on_disk (Some (settled_file_of bytes))) left → left ≡ Some bytes
 left_of_settled bytes None may = absurd may
@@ -168,7 +168,7 @@ pub rename_before : (bytes : List ℕ) (folder : Folder) → folder.new.now ≡ 
     → MayLeaveFolder (folder_after renamed folder) left → AfterFolder folder (InStore (Becomes (store_in (Some bytes)))) left
 rename_before bytes folder is are left may = renamed_by bytes folder is are left may may.store
 
--- a piece is printed
+-- A piece is printed.
 pub print_before : (piece part missing : List ℕ) (folder : Folder) → part ++ missing ≡ piece → (left : Stopped) → MayLeaveFolder (folder_after (printed part) folder) left → AfterFolder folder (InOut (Begins piece)) left
 print_before piece part missing folder splits left may = record {
   from = record left { out = folder.out };
@@ -176,7 +176,7 @@ print_before piece part missing folder splits left may = record {
   by = record { text = left.out; step = record { part = part; missing = missing; splits = splits; is = may.out }; rest = refl };
 }
 
--- a write, at most at the end of its file
+-- A write, at most at the end of its file.
 
 record IsBefore (now : Option FolderFile) (others : List (Option DiskFile)) (place count : ℕ) (left : Option (List ℕ)) : Type 0 where
   from : Option (List ℕ)
@@ -215,7 +215,7 @@ write_before One folder place count bytes are within left may =
       by = record { bytes = bytes_or left.one; step = found.torn; rest = refl };
     }
 
--- a missing file is made, and is empty
+-- A missing file is made, and is empty.
 
 made_bytes : (now : Option FolderFile) (others : List (Option DiskFile)) → bytes_now (record { now = now; others = others; how = shut }) ≡ None → (left : Option (List ℕ)) → MayLeaveName (renewed (Some empty_file) opened (record { now = now; others = others; how = shut })) left
     → (from : Option (List ℕ)) × MayLeaveName (record { now = now; others = others; how = shut }) from × (bytes_or left ≡ bytes_or from)

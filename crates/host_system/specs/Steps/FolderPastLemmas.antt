@@ -1,4 +1,4 @@
--- Only for proofs: how the moments of a folder go on over one change more.
+-- How the moments of a folder continue over one more change.
 use Rattle.std.specs.Prelude.{◌≡◌, ℕ, zero, suc, ◌≤◌, ◌⊎◌, List, [], ◌∷◌, ◌++◌, length, Some, refl}
 use Rattle.std.proofs.Common.{sym, ◌∙◌, subst, inl, inr, arith, append-nil, length-append}
 use Rattle.board_core.specs.Clock.{Clock, After, Passes, Leads}
@@ -15,7 +15,7 @@ folder_after_all-more (x ∷ xs) change folder = folder_after_all-more xs change
 pub folder_of-more : (change : FolderChange) (past : FolderPast) → folder_of (changed_by change past) ≡ folder_after change (folder_of past)
 folder_of-more change past = folder_after_all-more past.changes change (settled_folder past.first)
 
--- what is there now is consistent, and may be left
+-- The present folder is consistent, and a crash may leave it.
 pub consistent_of : (past : FolderPast) → AreConsistent (folder_of past)
 consistent_of past = consistent_after_all past.changes (settled_folder past.first) (settled_consistent past.first)
 
@@ -25,7 +25,7 @@ here_left past = here_may (folder_of past) (consistent_of past)
 no_part : (folder : Folder) (left : Stopped) → MayLeaveFolder folder left → MayLeaveFolder (folder_after (printed []) folder) left
 no_part folder left may = record { zero = may.zero; one = may.one; store = may.store; new = may.new; out = may.out ∙ sym (append-nil folder.out) }
 
--- what may be left between changes may be left during each
+-- What a crash between changes may leave, a crash during each change may leave.
 pub during_more : (change : FolderChange) (folder : Folder) (left : Stopped) → MayLeaveFolder folder left → During change folder left
 during_more (wrote name place count bytes) folder left may = inl may
 during_more (synced name) folder left may = inl may

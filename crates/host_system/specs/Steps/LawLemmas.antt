@@ -1,4 +1,4 @@
--- Only for proofs: the laws of a board over a system. They hold of each past, whatever was done in it.
+-- The laws of a board over a system. They hold for each past, whatever was done in it.
 use Rattle.std.specs.Prelude.{◌≡◌, ℕ, ◌≤◌, List, [], length, Option, None, Some, refl}
 use Rattle.std.specs.Option.{option_map}
 use Rattle.std.proofs.Common.{sym, ◌∙◌, ap, subst, inl, inr, arith}
@@ -37,7 +37,7 @@ text_left None t left is now = absurd (none_some t is)
 text_left (Some past) t left is now =
     ap (λ (l : Left). l.out) now.is ∙ ((may_now past left now).out ∙ ap (λ (l : Left). l.out) (some_is (seen_now past) t is))
 
--- a file none of whose writes is on its way
+-- A file whose writes are all durable.
 
 no_ranges : (synced : List ℕ) (written : List Range) (left : List ℕ) → written ≡ [] → MayLeaveFile (record { synced = synced; written = written }) left → left ≡ synced
 no_ranges synced written left is may = settled_only synced left (subst (λ (ranges : List Range). MayLeaveFile (record { synced = synced; written = ranges }) left) is may)
@@ -59,7 +59,7 @@ pub earlier_left : (past : Option FolderPast) (s t : ℕ) (left : Left) → s �
 earlier_left None s t left within may = may
 earlier_left (Some past) s t left within may = record { stopped = may.stopped; may = since_earlier (settled_folder past.first) past.changes s t may.stopped within may.may; is = may.is }
 
--- the folder that a stop has left, before any change
+-- The folder that a crash has left, before any change.
 
 shut_lost : shut ≡ lost → ⊥
 shut_lost e = cc

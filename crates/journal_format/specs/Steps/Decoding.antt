@@ -1,4 +1,4 @@
--- Which rows an account takes, and how they stand in bytes.
+-- Which rows an account can have, and how they are read from bytes.
 use Rattle.std.specs.Prelude.{◌≡◌, ℕ, ◌≤◌, false, List, length, nat_eq, Ok}
 use Rattle.std.specs.List.{IsDistinct}
 use Rattle.std.specs.Map.{keys_of}
@@ -16,22 +16,22 @@ use Rattle.entry_format.specs.declared.version.Version.{Version}
 use Rattle.entry_format.specs.Reading.{name_at}
 use Rattle.journal_format.specs.CheckpointReading.{list_at, module_at, page_row_at, floor_in}
 
--- names that are few enough, each of which stands once
+-- Names that are few enough, none of them twice.
 pub record AreNames (names : List Name) : Type 0 where
   pub few : length names ≤ MOST_NAMES
   pub once : IsDistinct same_name names
 
--- rows of modules within the total weight, of which each label stands once
+-- Rows of modules within the total weight, no label twice.
 pub record AreModules (rows : List (Bytes × Module)) : Type 0 where
   pub within : weight_in rows ≤ MOST_TOTAL
   pub once : IsDistinct same_label (keys_of rows)
 
--- rows of pages, of which each page stands once
+-- Rows of pages, no page twice.
 pub record ArePages (rows : List (ℕ × PageRow)) : Type 0 where
   pub once : IsDistinct nat_eq (keys_of rows)
 
--- the names, the rows and the floor of an account stand in the bytes after the numbers at the
--- front, of which this is the floor
+-- The names, the rows and the floor of an account are in the bytes after the numbers at the front, which give this
+-- floor.
 pub record Holds (version : Version) (front : ℕ) (bytes : List ℕ) (a : State) : Type 0 where
   pub after_names : List ℕ
   pub names_are : list_at name_at bytes ≡ Ok (a.names, after_names)
@@ -41,14 +41,14 @@ pub record Holds (version : Version) (front : ℕ) (bytes : List ℕ) (a : State
   pub pages_are : list_at page_row_at after_modules ≡ Ok (a.pages, after_pages)
   pub floor_is : floor_in version front after_pages ≡ Ok a.floor
 
--- names and rows that an account with its floor takes
+-- An account with its floor can have these names and rows.
 pub record AreTaken (a : State) : Type 0 where
   pub names : AreNames a.names
   pub modules : AreModules a.modules
   pub pages : ArePages a.pages
   pub kept : has_retired a.floor a.names ≡ false
 
--- an account that has these numbers of a checkpoint's front, and no names and rows
+-- an account with these numbers of a checkpoint's front, without names and rows
 abbrev pub account_with : Limit → Limit → ℕ → State
 account_with limit module_limit entries = record (account_of empty) { limit = limit; module_limit = module_limit; entries = entries }
 

@@ -1,4 +1,4 @@
--- The numbers at the front of a checkpoint, as the code has them.
+-- The numbers at the front of a checkpoint, as the code stores them.
 use Rattle.journal_format.specs.CheckpointReading.{CheckpointFront}
 use Rattle.journal_format.specs.declared.row_reading.CheckpointFront as code
 

@@ -1,4 +1,4 @@
--- The files that a system in memory holds, as names of the folder.
+-- The files of a system in memory, as names of the folder.
 use Rattle.std.specs.Prelude.{◌≡◌, ℕ, ◌+◌, List, length, map, Option, None, Some, Vec}
 use Rattle.std.specs.Option.{option_map}
 use Rattle.std.specs.Borrow.{Lends, MutBor, Fml}
@@ -16,7 +16,7 @@ use Rattle.mem_system.specs.contracts.mem_files.MemFiles as of_files
 use Rattle.host_system.specs.Folder.{FileUse, shut, FolderFile, NameEntry, Folder, change_name, folder_after, renamed, renewed, synced_names, on_disk, used}
 use Rattle.host_system.specs.FolderPast.{FolderPast, folder_of}
 
--- the number that a name is noted by
+-- the number by which a name is noted
 abbrev pub number_of : FileName → ℕ
 number_of (Journal Zero) = 0
 number_of (Journal One) = 1
@@ -78,7 +78,7 @@ with_use New how uses = record uses { new = how }
 abbrev pub uses_of : Folder → Uses
 uses_of folder = record { zero = folder.zero.how; one = folder.one.how; store = folder.store.how; new = folder.new.how }
 
--- the folder of these files, with this output, and so used
+-- the folder of these files, with this output, and used in this way
 abbrev pub held_in : MemFiles → List ℕ → Uses → Folder
 held_in files out uses = record {
   zero = used uses.zero (entry_seen files.zero);
@@ -88,11 +88,11 @@ held_in files out uses = record {
   out = out;
 }
 
--- One name went on by a step.
+-- One name changed by this step.
 abbrev pub IsChanged : FileName → (NameEntry → NameEntry) → MemFiles → MemFiles → Type 0
 IsChanged name step old new = (out : List ℕ) (uses : Uses) → held_in new out uses ≡ change_name name step (held_in old out uses)
 
--- One name refers to another file now, or to none.
+-- One name refers to another file now, or to no file.
 abbrev pub IsRenewed : FileName → Option FolderFile → MemFiles → MemFiles → Type 0
 IsRenewed name file old new = (out : List ℕ) (uses : Uses) (how : FileUse) → held_in new out (with_use name how uses) ≡ change_name name (renewed file how) (held_in old out uses)
 

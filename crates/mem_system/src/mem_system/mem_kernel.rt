@@ -117,7 +117,7 @@ impl Kernel for MemKernel {
         self.failed.count(answer)
     }
 
-    // No call takes a descriptor, so each file has the first one above the standard streams'.
+    // No call uses a descriptor, so each file has the first one above the standard streams'.
     fn number(&mut self, _held: Held) -> Result<i32, Refusal> {
         Ok(3)
     }

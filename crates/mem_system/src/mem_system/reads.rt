@@ -24,7 +24,7 @@ impl MemSystem {
     }
 
     /// Fills the buffer with the bytes of a file from the offset `place` on. Requires that the file
-    /// has so many bytes there.
+    /// has that many bytes there.
     pub(super) fn fill(&self, name: FileName, place: u64, buf: &mut [u8])
         requires within { length buf.old ≤ length (drop place (file_bytes name self.now.past)) }
         ensures { buf.new ≡ take (length buf.old) (drop place (file_bytes name self.now.past)) }

@@ -1,11 +1,11 @@
 //! Bytes that were written down by hand, most of them from the manuals' tables.
 
-/// The type of a memory section. (UEFI, appendix N.2.2, as it stands in bytes.)
+/// The type of a memory section, as bytes. (UEFI, appendix N.2.2.)
 pub const MEMORY: [u8; 16] = [
     0x14, 0x11, 0xbc, 0xa5, 0x64, 0x6f, 0xde, 0x4e, 0xb8, 0x63, 0x3e, 0x83, 0xed, 0x7c, 0x83, 0xb1,
 ];
 
-/// The type of a section of any processor. (UEFI, appendix N.2.2, as it stands in bytes.)
+/// The type of a section of any processor, as bytes. (UEFI, appendix N.2.2.)
 pub const PROCESSOR: [u8; 16] = [
     0xad, 0xcc, 0x76, 0x98, 0xb4, 0x47, 0xdb, 0x4b, 0xb6, 0x5e, 0x16, 0xf1, 0x93, 0xc4, 0xf3, 0xdb,
 ];
@@ -15,8 +15,8 @@ pub const OTHER: [u8; 16] = [
     0x33, 0x22, 0x11, 0, 0x55, 0x44, 0x77, 0x66, 0x88, 0x99, 0xaa, 0xbb, 0xcc, 0xdd, 0xee, 0xff,
 ];
 
-/// The bytes of a memory section that says all but its type of requestor, responder and target. But
-/// for the first two, each byte is its place.
+/// The bytes of a memory section that has all fields except its requestor, responder and target.
+/// Except for the first two, each byte is its offset.
 pub const MEMORY_BYTES: [u8; 81] = [
     0x7e, 0xc1, 2, 3, 4, 5, 6, 7, 8, 9, 0x0a, 0x0b, 0x0c, 0x0d, 0x0e, 0x0f, 0x10, 0x11, 0x12, 0x13,
     0x14, 0x15, 0x16, 0x17, 0x18, 0x19, 0x1a, 0x1b, 0x1c, 0x1d, 0x1e, 0x1f, 0x20, 0x21, 0x22, 0x23,
@@ -25,7 +25,7 @@ pub const MEMORY_BYTES: [u8; 81] = [
     0x44, 0x45, 0x46, 0x47, 0x48, 0x49, 0x4a, 0x4b, 0x4c, 0x4d, 0x4e, 0x4f, 0x50,
 ];
 
-/// The bytes of a processor section, each of which is its place.
+/// The bytes of a processor section, each of which is its offset.
 pub const PROCESSOR_BYTES: [u8; 192] = [
     0, 1, 2, 3, 4, 5, 6, 7, 8, 9, 0x0a, 0x0b, 0x0c, 0x0d, 0x0e, 0x0f, 0x10, 0x11, 0x12, 0x13, 0x14,
     0x15, 0x16, 0x17, 0x18, 0x19, 0x1a, 0x1b, 0x1c, 0x1d, 0x1e, 0x1f, 0x20, 0x21, 0x22, 0x23, 0x24,
@@ -59,8 +59,7 @@ pub const RECORD: [u8; 353] = [
     0, 0, 0, 0, 0, 0, 2, 0, 0, 0, 0, 0, 0, 0, 0,
 ];
 
-/// The panic record of the report that stands in stored.rt, under the identifier
-/// 1122334455667788h.
+/// The panic record of the report in stored.rt, under the identifier 1122334455667788h.
 pub const PANIC: [u8; 456] = [
     0x43, 0x50, 0x45, 0x52, 0, 1, 0xff, 0xff, 0xff, 0xff, 2, 0, 1, 0, 0, 0, 0, 0, 0, 0, 0xc8, 1, 0,
     0, 0, 0, 0, 0, 0, 0, 0, 0, 0, 0, 0, 0, 0, 0, 0, 0, 0, 0, 0, 0, 0, 0, 0, 0, 0, 0, 0, 0, 0, 0, 0,
@@ -81,7 +80,7 @@ pub const PANIC: [u8; 456] = [
     0x80, 0xbd, 0x40, 0x50, 0x34, 0x12, 0, 0, 0, 0, 0x86, 0, 0, 0, 0, 0, 0, 0,
 ];
 
-/// So many bytes from the front, or all.
+/// Returns this many bytes from the front, or all.
 pub fn front(bytes: &[u8], length: usize) -> &[u8] {
     &bytes[..length.min(bytes.len())]
 }

@@ -1,11 +1,11 @@
 //! The lines of an input of any length, read in pieces: some as long as a line may be, some longer,
-//! and bytes that no line feed ends.
+//! and bytes without a line feed at their end.
 use board_core::MemSource;
 use ras_script::{InputReader, InputStep};
 use std::alloc::Global;
 use std::test::Fail;
 
-// How many bytes of a letter come, and whether a line feed ends them.
+// How many bytes of a letter follow, and whether a line feed ends them.
 const INPUT: [(usize, u8, bool); 6] = [
     (3, b'a', true),
     (0, b'b', true),
@@ -26,8 +26,8 @@ fn input(alloc: Global) -> Result<Vec<u8>, Fail> {
     Ok(bytes)
 }
 
-// What the reader comes to, and how many bytes its line has. The second read fails, and no byte is
-// lost by it.
+// What the reader returns, and how many bytes its line has. The second read fails, and no byte is
+// lost.
 const STEPS: [(Option<InputStep>, usize); 11] = [
     (Some(InputStep::Line), 3),
     (Some(InputStep::Line), 0),

@@ -1,4 +1,4 @@
-//! Lines as Linux prints them, lines that are near them, and the reports that lists of lines make.
+//! Lines that Linux prints, lines that are similar, and the reports that lists of lines make.
 
 use ras_facts::BankReport;
 use ras_klog::{KlogLine, KlogOut, KlogState, klog_line};
@@ -74,7 +74,7 @@ const LINES: [(&[u8], KlogLine); 7] = [
     ),
 ];
 
-// Lines that are near them.
+// Lines that are similar to them.
 const NEAR: [(&[u8], KlogLine); 16] = [
     (b"", KlogLine::Other),
     (b"[Hardware Error]: ", KlogLine::Other),
@@ -151,8 +151,8 @@ const NEAR: [(&[u8], KlogLine); 16] = [
     (b"[Hardware Error]: PROCESSOR 0:g TIME 7", KlogLine::Other),
 ];
 
-// A log in which a report is whole, one has two counters, one its time before its counter, and one
-// no time at all. The lines stand with what is told after each.
+// A log with a whole report, a report with two counters, one with its time before its counter, and
+// one without a time. Each line is followed by what the reader returns after it.
 const LOG: [(KlogLine, KlogOut); 15] = [
     (TSC, KlogOut::Nothing),
     (PROCESSOR, KlogOut::Nothing),

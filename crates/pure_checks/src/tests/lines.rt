@@ -1,4 +1,4 @@
-//! Lines of kinds that a run doesn't take yet: what they ask for, and how each word is refused.
+//! Lines of kinds that a run doesn't process yet: what they ask for, and how each word is rejected.
 use ras_facts::BankReport;
 use ras_script::{Line, LineRefused, Table, read_line};
 use std::alloc::Global;
@@ -16,8 +16,8 @@ const BANK: BankReport = BankReport {
     misc: 0x86,
 };
 
-// What a line says: the name of its kind, its number, and its bytes. Of a bank's snapshot the
-// bytes tell whether it is `BANK`.
+// The parts of a line: the name of its kind, its number, and its bytes. For a bank's snapshot the
+// bytes show whether it is `BANK`.
 type Said<'a> = (&'a [u8], u64, &'a [u8]);
 
 fn said_by(line: &Line) -> Said<'_> {
@@ -30,7 +30,7 @@ fn said_by(line: &Line) -> Said<'_> {
     }
 }
 
-// Whether a line is read and says this.
+// Whether a line is read and has these parts.
 fn says(alloc: Global, bytes: &[u8], said: Said<'_>) -> bool {
     match read_line(alloc, bytes) {
         Ok(line) => said_by(&line) == said,
@@ -55,12 +55,13 @@ fn reads_lines_of_later_kinds(rt: HostRuntime) {
     }
 }
 
-// Why a line is refused, if it is.
+// Returns why a line is rejected, if so.
 fn refusal(alloc: Global, bytes: &[u8]) -> Option<LineRefused> {
     read_line(alloc, bytes).err()
 }
 
-// Lines with the one byte `-` for a word that is refused, and with a word too many or too few.
+// Lines with the one byte `-` instead of a word, which is rejected, and lines with one word too
+// many or too few.
 const REFUSED: [(&[u8], LineRefused); 10] = [
     (b"erst -", LineRefused::Hex),
     (b"erst 00 -", LineRefused::Words),

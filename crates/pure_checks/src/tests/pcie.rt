@@ -32,7 +32,7 @@ const TWO_CORRECTABLE: PcieSection = PcieSection {
     cor: Some(0x41),
 };
 
-// A section that says nothing.
+// A section without any field.
 const EMPTY: PcieSection = PcieSection {
     device: None,
     uncor: None,

@@ -1,10 +1,10 @@
-//! Sections whose fields are told apart by their bytes.
+//! Sections whose fields are distinguished by their bytes.
 use super::bytes::{MEMORY, MEMORY_BYTES, PROCESSOR, PROCESSOR_BYTES, front};
 use cper_sections::{
     Context, MemSection, ProcSection, Section, SectionRefused, context_at, guid_at, read_section,
 };
 
-// The section of a type, as it stands in a descriptor, and its bytes.
+// Returns the section of this type, as in a descriptor, and these bytes.
 fn section(guid: &[u8; 16], bytes: &[u8]) -> Result<Section, SectionRefused> {
     read_section(guid_at(guid), bytes)
 }
@@ -21,13 +21,13 @@ const MEMORY_TOLD: MemSection = MemSection {
     kind: Some(0x48),
 };
 
-// The rank has bytes of its own, with which the later form of the section begins.
+// The rank has its own bytes, which only the later form of the section has.
 const RANKED: MemSection = MemSection {
     rank: Some(0x4b4a),
     ..MEMORY_TOLD
 };
 
-// How many bytes of a memory section are there, and what is read of them.
+// How many bytes of a memory section are there, and the section that is read from them.
 const MEMORIES: [(usize, Result<Section, SectionRefused>); 5] = [
     (72, Err(SectionRefused::Short)),
     (73, Ok(Section::Memory(MEMORY_TOLD))),

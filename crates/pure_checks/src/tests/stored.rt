@@ -1,4 +1,4 @@
-//! Records of the store: how they are read, what is printed of their reports, and the record that a
+//! Stored records: how they are read, the text printed for their reports, and the record that a
 //! panic leaves.
 use super::bytes::{OTHER, PANIC, RECORD, front};
 use cper_records::{RecordRefused, Unreadable, read_record, read_stored};
@@ -80,7 +80,7 @@ fn report_of(alloc: Global, bytes: &[u8]) -> Result<Report, Fail> {
     }
 }
 
-// Adds the lines of an entry that is fresh in an account, with these details.
+// Appends the lines of an entry that is new in an account, with these details.
 fn push_lines(
     text: &mut Vec<u8>,
     account: &Account,
@@ -90,7 +90,7 @@ fn push_lines(
     Ok(push_entry(text, details, account, entry)?)
 }
 
-// The lines of a fresh report.
+// Returns the lines of a new report.
 fn lines_of(alloc: Global, report: Report) -> Result<Vec<u8>, Fail> {
     let mut text = Vec::new(alloc);
     let account = Account::new(alloc);
@@ -100,7 +100,7 @@ fn lines_of(alloc: Global, report: Report) -> Result<Vec<u8>, Fail> {
     Ok(text)
 }
 
-// Whether these lines are printed of the record at the front of bytes.
+// Whether these lines are printed for the record at the front of bytes.
 fn prints(alloc: Global, bytes: &[u8], lines: &[u8]) -> Result<bool, Fail> {
     let report = report_of(alloc, bytes)?;
     let text = lines_of(alloc, report)?;
@@ -131,7 +131,7 @@ const REPORT: BankReport = BankReport {
     misc: 0x86,
 };
 
-// The panic record of a report, if there is one.
+// Returns the panic record of a report, if there is one.
 fn panic(id: u64, report: &BankReport) -> Option<[u8; 456]> {
     panic_record(id, report).ok()
 }
@@ -141,7 +141,7 @@ fn bytes_of_a_panic_record(rt: HostRuntime) {
     assert!(rt; panic(0x1122_3344_5566_7788, &REPORT) == Some(PANIC));
 }
 
-// Of a panic record the bank's own line is printed, with its name and its time.
+// For a panic record the bank's own line is printed, with its name and its time.
 #[test]
 fn lines_of_a_panic_record(rt: HostRuntime) -> Result<(), Fail> {
     let line = b"log bank=258/515/7/4097 t=11042563100175 class=SRAR weight=1 label=- \
@@ -150,7 +150,7 @@ page=0000000012345000 code=cache:D:L0:DRD threshold=- over=0 mark=srar ripv=1 ei
     Ok(())
 }
 
-// With one byte changed that the report doesn't give it is a record as others are.
+// With one byte changed that isn't the report's, it is an ordinary record.
 #[test]
 fn lines_of_a_changed_panic_record(rt: HostRuntime) -> Result<(), Fail> {
     let mut bytes = PANIC;
@@ -163,14 +163,14 @@ x64 apic=- structures=0 contexts=1\n";
     Ok(())
 }
 
-// Bytes as a store gives them: with zeros after them, 16,384 in all.
+// Returns bytes as a store does: with zeros after them, 16,384 in all.
 fn filled(alloc: Global, bytes: &[u8]) -> Result<Vec<u8>, Fail> {
     let mut buffer = bytes.to_vec(alloc)?;
     buffer.resize(16_384, 0)?;
     Ok(buffer)
 }
 
-// Why nothing is read under an identifier, if nothing is.
+// Returns why nothing is read under an identifier, if so.
 fn refusal(alloc: Global, id: u64, bytes: &[u8]) -> Result<Option<Unreadable>, Fail> {
     Ok(read_stored(id, &filled(alloc, bytes)?).err())
 }
@@ -191,7 +191,7 @@ fn record_under_an_identifier(rt: HostRuntime) -> Result<(), Fail> {
     Ok(())
 }
 
-// Whether this line is printed of bytes under an identifier that can't be read.
+// Whether this line is printed for bytes under an identifier that can't be read.
 fn tells(alloc: Global, id: u64, bytes: &[u8], line: &[u8]) -> Result<bool, Fail> {
     let mut text = Vec::new(alloc);
     if let Err(why) = read_stored(id, &filled(alloc, bytes)?) {
@@ -212,7 +212,7 @@ fn lines_of_unreadable_records(rt: HostRuntime) -> Result<(), Fail> {
     Ok(())
 }
 
-// The report of the panic record under an identifier, if one is read there.
+// Returns the report of the panic record under an identifier, if there is one.
 fn report(alloc: Global, id: u64, bytes: &[u8]) -> Result<Option<BankReport>, Fail> {
     match read_stored(id, &filled(alloc, bytes)?) {
         Ok(rec) => Ok(panic_of(&rec)),

@@ -1,4 +1,4 @@
--- What contracts see of the parts of an account, each with what waits after it.
+-- The parts of an account as contracts see them, each with what is reserved in it.
 use Rattle.std.specs.Prelude.{◌≡◌, ℕ, ◌+◌, ◌*◌, ◌≤◌, IfSome, length, Bool, if◌then◌else◌, List, ◌++◌, take, drop}
 use Rattle.std.specs.List.{list_any, flat_map, AllByRecursion}
 use Rattle.mca_status.specs.declared.classes.TheConstants.{CLASS_COUNT}
@@ -13,17 +13,17 @@ use Rattle.ras_account.specs.Modules.{Module}
 use Rattle.ras_account.specs.Continued.{modules_after}
 use Rattle.ras_account.specs.Rows.{row_of}
 
--- names that are counted, and names that wait to be counted
+-- counted names, and reserved names
 pub record NameList : Type 0 where
   pub held : List Name
   pub waiting : List Name
 
--- rows of modules, and labels that wait to have one
+-- rows of modules, and labels for which a row is reserved
 pub record ModuleList : Type 0 where
   pub rows : List (Bytes × Module)
   pub waiting : List Bytes
 
--- bytes spell the names that have rows, with memory for 20 bytes of each name, also of those that wait
+-- Bytes spell the names that have rows, with memory for 20 bytes of each name, reserved names included.
 pub record AreSpelled {R : Type 0} (rows : List (Name × R)) (waiting : List Name) (bytes : List ℕ) (memory : ℕ) : Type 0 where
   pub spelled : bytes ≡ flat_map name_bytes (keys_of rows)
   pub room : 20 * (length rows + length waiting) ≤ memory
@@ -35,12 +35,11 @@ all_names names = names.held ++ names.waiting
 abbrev pub all_labels : ModuleList → List Bytes
 all_labels modules = keys_of modules.rows ++ modules.waiting
 
--- whether an item of a label can be counted: the label has a row, or is the first that waits
+-- Whether an item of a label can be counted: the label has a row, or is the first reserved label.
 abbrev pub is_next_label : ModuleList → Bytes → Bool
 is_next_label modules label = list_any (same_label label) (keys_of modules.rows ++ take 1 modules.waiting)
 
--- the rows after an item is counted: a label that waited has a row now, and the others wait as
--- before
+-- The rows after an item is counted: a reserved label has a row now, and the other labels are still reserved.
 abbrev pub with_sighting : ModuleList → Sighting → ModuleList
 with_sighting modules s = record {
   rows = modules_after modules.rows s;
@@ -51,12 +50,12 @@ with_sighting modules s = record {
 abbrev pub entry_of : Bytes × ModuleRow → Bytes × Module
 entry_of e = (e.0, (row_of e.1).1)
 
--- a row that can count on: ten sums, and a bucket within the most errors
+-- A row can count more items: it has ten sums, and at most the most errors in its bucket.
 pub record IsCounting (row : ModuleRow) : Type 0 where
   pub ten : length row.sums ≡ CLASS_COUNT
   pub small : IfSome row.bucket (λ bucket. bucket.count ≤ MOST_COUNT)
 
--- an entry of the table: its row has the label that it stands under, and can count on
+-- An entry of the table: its row has the label that is its key, and can count more items.
 pub record IsModule (e : Bytes × ModuleRow) : Type 0 where
   pub label : e.1.label ≡ e.0
   pub counting : IsCounting e.1

@@ -1,4 +1,4 @@
--- What a refused row answers.
+-- How a refused row is reported.
 use Rattle.row_tables.specs.declared.row_table.RowRefused.{RowRefused}
 use Rattle.row_tables.specs.declared.row_table.RowRefused.TheVariants.{Repeated, NoMemory}
 use Rattle.ras_account.specs.declared.rebuilding.PushRefused.{PushRefused}

@@ -1,4 +1,4 @@
--- What is noted of entries before any of them is taken.
+-- What is recorded of entries before any of them is counted.
 use Rattle.std.specs.Prelude.{◌≡◌, ◌+◌, min, if◌then◌else◌, List, [], ◌∷◌, ◌++◌}
 use Rattle.dimm_topology.specs.Labels.{same_label}
 use Rattle.row_tables.specs.Tables.{added_keys}
@@ -21,7 +21,7 @@ in_force_after now (PageLimit limit) = record now { limit = limit }
 in_force_after now (Retire boot) = record now { floor = boot }
 in_force_after now (ModuleLimit limit) = record now { module_limit = limit }
 
--- what is noted of items: their labels wait, and their pages and weights are in the tally
+-- Items were recorded: their labels are reserved, and their pages and weights are in the tally.
 pub record NotesItems (modules modules' : ModuleList) (tally tally' : Tally) (items : List Item) : Type 0 where
   pub rows : modules'.rows ≡ modules.rows
   pub labels : modules'.waiting ≡ modules.waiting ++ added_keys same_label (all_labels modules) (labels_in items)
@@ -30,6 +30,6 @@ pub record NotesItems (modules modules' : ModuleList) (tally tally' : Tally) (it
   pub entries : tally'.entries ≡ tally.entries
   pub total : min tally'.total greatest ≡ min (tally.total + weights_in items) greatest
 
--- the fresh ones of some entries that bring an account to b, with one entry more
+-- the new entries that lead an account to b, with one more entry if it is new
 abbrev pub with_fresh : State → List Entry → Entry → List Entry
 with_fresh b fresh entry = if is_fresh_in b entry then fresh ++ entry ∷ [] else fresh

@@ -1,4 +1,4 @@
--- Numbers that are written and read again, and where the bytes of a number stand.
+-- Numbers that are written and read again, and the offsets of a number's bytes.
 use Rattle.std.proofs.Common.{◌≡◌, ◌∙◌, ℕ, zero, suc, ◌+◌, ◌*◌, ◌^◌, ◌<◌, ◌≤◌, List, ◌++◌, length, take, drop, get_or, refl, sym, ap, arith, inl, inr}
 use Rattle.std.proofs.lemmas.Bool.{cases_lt}
 use Rattle.std.specs.Int.{w16, w32, w64, from_le_bytes}
@@ -47,7 +47,7 @@ number_at-more : (place width : ℕ) (bytes : List ℕ)
 unfolding number_at
 number_at-more place width bytes = refl
 
--- after bytes that were passed
+-- A number after the first n bytes.
 pub number_at-drop : (n place width : ℕ) (bytes : List ℕ) → number_at place width (drop n bytes) ≡ number_at (n + place) width bytes
 number_at-drop n place zero bytes = number_at-none place (drop n bytes) ∙ sym (number_at-none (n + place) bytes)
 number_at-drop n place (suc width) bytes =
@@ -57,7 +57,7 @@ number_at-drop n place (suc width) bytes =
     let moved : number_at (n + (place + 1)) width bytes ≡ number_at (n + place + 1) width bytes = ap (λ i. number_at i width bytes) next in
     omega (arith, number_at-more place width (drop n bytes), number_at-more (n + place) width bytes)
 
--- within the first bytes
+-- A number within the first n bytes.
 pub number_at-take : (n place width : ℕ) (bytes : List ℕ) → place + width ≤ n → number_at place width (take n bytes) ≡ number_at place width bytes
 number_at-take n place zero bytes inside = number_at-none place (take n bytes) ∙ sym (number_at-none place bytes)
 number_at-take n place (suc width) bytes inside =
@@ -65,7 +65,7 @@ number_at-take n place (suc width) bytes inside =
     let rest : number_at (place + 1) width (take n bytes) ≡ number_at (place + 1) width bytes = number_at-take n (place + 1) width bytes (omega arith) in
     omega (arith, number_at-more place width (take n bytes), number_at-more place width bytes)
 
--- bytes after it change nothing
+-- Bytes after a number don't change it.
 pub number_at-append : (place width : ℕ) (bytes after : List ℕ) → place + width ≤ length bytes → number_at place width (bytes ++ after) ≡ number_at place width bytes
 number_at-append place zero bytes after inside = number_at-none place (bytes ++ after) ∙ sym (number_at-none place bytes)
 number_at-append place (suc width) bytes after inside =
@@ -73,7 +73,7 @@ number_at-append place (suc width) bytes after inside =
     let rest : number_at (place + 1) width (bytes ++ after) ≡ number_at (place + 1) width bytes = number_at-append (place + 1) width bytes after (omega arith) in
     omega (arith, number_at-more place width (bytes ++ after), number_at-more place width bytes)
 
--- bytes before it move it on
+-- Bytes before a number add their length to its offset.
 pub number_at-behind : (place width : ℕ) (before bytes : List ℕ) → number_at (length before + place) width (before ++ bytes) ≡ number_at place width bytes
 number_at-behind place zero before bytes = number_at-none (length before + place) (before ++ bytes) ∙ sym (number_at-none place bytes)
 number_at-behind place (suc width) before bytes =
@@ -83,14 +83,14 @@ number_at-behind place (suc width) before bytes =
     let moved : number_at (length before + (place + 1)) width (before ++ bytes) ≡ number_at (length before + place + 1) width (before ++ bytes) = ap (λ i. number_at i width (before ++ bytes)) next in
     omega (arith, number_at-more (length before + place) width (before ++ bytes), number_at-more place width bytes)
 
--- cut out alone
+-- A number is read from its own bytes.
 pub number_at-cut : (place width : ℕ) (bytes : List ℕ) → number_at place width bytes ≡ number_at 0 width (take width (drop place bytes))
 number_at-cut place width bytes =
     ap (λ i. number_at i width bytes) (omega arith)
     ∙ sym (number_at-drop place 0 width bytes)
     ∙ sym (number_at-take width 0 width (drop place bytes) (omega arith))
 
--- as std reads it there
+-- The standard library reads the same number.
 pub number_at-le_2 : (place : ℕ) (bytes : List ℕ) → number_at place 2 bytes ≡ from_le_bytes w16 (take 2 (drop place bytes))
 number_at-le_2 place bytes = number_at-cut place 2 bytes ∙ sym (from_le_bytes-at_2 (take 2 (drop place bytes)))
 
@@ -100,7 +100,7 @@ number_at-le_4 place bytes = number_at-cut place 4 bytes ∙ sym (from_le_bytes-
 pub number_at-le_8 : (place : ℕ) (bytes : List ℕ) → number_at place 8 bytes ≡ from_le_bytes w64 (take 8 (drop place bytes))
 number_at-le_8 place bytes = number_at-cut place 8 bytes ∙ sym (from_le_bytes-at_8 (take 8 (drop place bytes)))
 
--- a number of n bytes fits them
+-- A number of n bytes fits n bytes.
 pub number_at-lt : (place width : ℕ) (bytes : List ℕ) → AreBytes bytes → number_at place width bytes < 256 ^ width
 number_at-lt place zero bytes fits = omega (arith, number_at-none place bytes)
 number_at-lt place (suc width) bytes fits =

@@ -11,6 +11,6 @@ places_behind-append {X} before (x ∷ xs) ys =
     let step : places_behind (before ++ x ∷ []) (xs ++ ys) ≡ places_behind (before ++ x ∷ []) xs ++ places_behind ((before ++ x ∷ []) ++ xs) ys = places_behind-append (before ++ x ∷ []) xs ys in
     ap rest (rw append_assoc at step)
 
--- one element more is after all others
+-- One more element comes after all others.
 pub places-snoc : {X : Type 0} (xs : List X) (x : X) → places (xs ++ x ∷ []) ≡ places xs ++ (xs, x) ∷ []
 places-snoc xs x = places_behind-append [] xs (x ∷ [])

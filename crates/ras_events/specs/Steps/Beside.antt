@@ -1,4 +1,4 @@
--- The entries of an event, each judged by the account before the event.
+-- The entries of an event, all compared with the account before the event.
 use Rattle.std.specs.Prelude.{◌≡◌, ℕ, ◌+◌, ◌≤◌, ◌⊎◌, Bool, if◌then◌else◌, List, [], ◌∷◌, ◌++◌, length, All, IfSome}
 use Rattle.std.specs.List.{sum_by, AllByRecursion}
 use Rattle.ras_facts.specs.declared.entry.Entry.{Entry}
@@ -22,17 +22,17 @@ use Rattle.ras_events.specs.Making.{entries_in}
 use Rattle.ras_events.specs.Preparing.{news_entries, orders_along_entries, text_along}
 use Rattle.ras_events.specs.Sizes.{IsFact}
 
--- entries are facts, or one alone
+-- All entries are facts, or there is at most one.
 abbrev pub AreAlike : List Entry → Type 0
 AreAlike entries = All IsFact entries ⊎ (length entries ≤ 1)
 
--- a text and news with an entry, which is news or a repeat
+-- A text and a list of new entries have got one more entry, which is new or a repeat.
 pub record TellsEntry (is_news : Bool) (account : State) (details : List Detail) (entry : Entry) (old new : List ℕ) (before after : List Entry) : Type 0 where
   pub text : new ≡ old ++ (if is_news then entry_lines details account entry else repeat_line account entry)
   pub news : after ≡ (if is_news then before ++ entry ∷ [] else before)
 
--- the pieces so far and those that are left, with the tally of the entries of the former, their news
--- and their lines
+-- The pieces processed so far and the pieces left, with the tally, the new entries and the lines of the processed
+-- pieces.
 pub record KeepsNews (account : State) (all taken left : List Piece) (number : ℕ) (now : View) (tally : Tally) (news : List Entry) (text : List ℕ) : Type 0 where
   pub pieces : taken ++ left ≡ all
   pub count : number ≡ length left
@@ -41,15 +41,14 @@ pub record KeepsNews (account : State) (all taken left : List Piece) (number : �
   pub news_are : news ≡ fresh_entries_in account (entries_in taken)
   pub text_is : text ≡ text_along account taken
 
--- the news of an event: some entries, their link, and room for this number of orders
+-- The new entries of an event: at least one, their link, and room for this number of orders.
 pub record IsNewsOf (room : ℕ) (news : News) : Type 0 where
   pub some : 1 ≤ length news.entries.items
   pub link : news.link ≡ link_bytes news.entries.items
   pub none : news.orders.orders ≡ []
   pub room_is : news.orders.room ≡ room
 
--- an event with the text and the news that it tells has its link, room for the orders, and the line
--- that it ends with
+-- A prepared event with this text and these new entries has their link, room for their orders, and its done line.
 pub record IsLinked (number : ℕ) (told : TextAndNews) (event : Prepared) : Type 0 where
   pub entries : news_entries event.news ≡ told.news.items
   pub news : IfSome event.news (IsNewsOf (sum_by most_orders told.news.items))
@@ -57,15 +56,15 @@ pub record IsLinked (number : ℕ) (told : TextAndNews) (event : Prepared) : Typ
   pub room : HasOrderRoom (sum_by most_orders told.news.items) event.text
   pub done : event.done.items ≡ done_line number
 
--- these entries can be taken in turn, with room for their orders
+-- The account can count these entries in turn, and there is room for their orders.
 pub record CanTakeAll (account : View) (orders : OrderList) (entries : List Entry) : Type 0 where
   pub reserved : IsReservedFor account entries
   pub valid : AllByRecursion IsValidEntry entries
   pub within : StaysWithin account.state entries
   pub room : sum_by most_orders entries ≤ orders.room
 
--- in the midst of taking entries: what was taken so far, and what is left to take, come to the same
--- as all
+-- While entries are counted: counting the entries left gives the account and the orders that counting all of them
+-- gives.
 pub record IsTaking (start now : View) (before after : OrderList) (all left : List Entry) (number : ℕ) : Type 0 where
   pub count : number ≡ length left
   pub can : CanTakeAll now after left

@@ -59,7 +59,7 @@ same_name-laws = record {
   congr = λ x y z same. ap (λ name. same_name name z) (same_name-exact x y same);
 }
 
--- the derived `==` of names is this test
+-- The derived `==` of names is this test.
 eq_tied : (x y : Name) → name_eq.it x y ≡ same_name x y
 eq_tied (Bank boot cpu bank tsc) (Bank boot' cpu' bank' tsc') = refl
 eq_tied (Record id) (Record id') = refl

@@ -1,4 +1,4 @@
--- Only for proofs: the laws of a board over a system.
+-- The laws of a board over a system.
 use Rattle.std.specs.Prelude.{◌≡◌, ℕ, ◌≤◌, Option, None, Some}
 use Rattle.std.specs.Option.{option_map}
 use Rattle.std.proofs.Common.{ap}
@@ -16,7 +16,7 @@ none_some t e = cc
 some_is : (s t : Told) → Some s ≡ Some t → s ≡ t
 some_is s t e = cc
 
--- what is told of the folder
+-- The model has what a board sees of the folder.
 seen : (b : BoardState) (o : Option Left) (t : Told) → option_map (told_with b) o ≡ Some t → o ≡ Some t.here
 seen b None t is = absurd (none_some t is)
 seen b (Some here) t is = ap (λ (s : Told). Some s.here) (some_is (told_with b here) t is)

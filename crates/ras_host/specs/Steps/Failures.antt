@@ -7,12 +7,12 @@ use Rattle.ras_host.specs.declared.faults.CallFailed.TheVariants.{System, Refuse
 use Rattle.ras_host.specs.declared.faults.PutFailed.{PutFailed}
 use Rattle.ras_host.specs.declared.faults.PutFailed.TheVariants.{Store, Call}
 
--- the call as one that failed only if a call of the system failed
+-- The call's result, where only a failed call of the system counts as a failure.
 abbrev pub system_failure : {T : Type 0} → Result T CallFailed → Result (Unit {0}) CallFailed
 system_failure (Err System) = Err System
 system_failure answer = Ok tt
 
--- the call as one that failed only if it was refused
+-- The call's result, where only a refusal counts as a failure.
 abbrev pub refusal : {T : Type 0} → Result T CallFailed → Result (Unit {0}) CallFailed
 refusal (Err Refused) = Err Refused
 refusal answer = Ok tt
@@ -23,7 +23,7 @@ call_answer (Ok done) = Ok tt
 call_answer (Err (Store why)) = Ok tt
 call_answer (Err (Call why)) = Err why
 
--- a board's answer to a put
+-- what a board returns for a put
 abbrev pub put_answer : Result (Unit {0}) PutFailed → Result (Unit {0}) BoardPut
 put_answer (Ok done) = Ok tt
 put_answer (Err (Store why)) = Err (board.Refused why)

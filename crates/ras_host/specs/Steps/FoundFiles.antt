@@ -12,7 +12,7 @@ found_of (Journal One) files = files.one
 found_of Store files = None
 found_of New files = None
 
--- the same, where this was found of this name's file
+-- The found files, after this was found of this name's file.
 abbrev pub with_found : FileName → Option FoundFile → FoundFiles → FoundFiles
 with_found (Journal Zero) found files = record files { zero = found }
 with_found (Journal One) found files = record files { one = found }

@@ -1,4 +1,4 @@
--- The device that a board keeps, over the record store that the folder's store file holds.
+-- The device that a board keeps, over the record store in the folder's store file.
 use Rattle.std.specs.Prelude.{◌≡◌, ℕ, ◌⊎◌, Bool, false, ◌&&◌, nat_eq, if◌then◌else◌, List, [], Option, None, Some, IfSome, Result, Ok, Err, IsOk, OnOk, OnErr, IsSomeAnd}
 use Rattle.std.specs.Cmp.Lexicographic.{pointwise}
 use Rattle.board_core.specs.Clock.{Passes}
@@ -25,7 +25,7 @@ abbrev pub IsOff : Kept → Type 0
 IsOff Unreadable = Unit {0}
 IsOff kept = ⊥
 
--- A device that isn't used stays so, and the folder stays as it is.
+-- A device that isn't used stays unused, and the folder is unchanged.
 pub record StaysOff (old new : Kept) (before after : Option FolderPast) : Type 0 where
   pub off : IsOff new
   pub told : after ≡ before
@@ -35,15 +35,15 @@ pub record IsReading (kept : Kept) (found now : Option FolderPast) : Type 0 wher
   pub off : IsOff kept
   pub goes : IfSome found (λ past. IsSomeAnd now (GoesOnBy PrintsOrSyncs past))
 
--- whether two stores are the same
+-- Whether two records, or two stores, are the same.
 abbrev pub is_same_record : Stored → Stored → Bool
 is_same_record one other = nat_eq one.id other.id && pointwise nat_eq one.bytes other.bytes
 
 abbrev pub is_same_store : List Stored → List Stored → Bool
 is_same_store one other = pointwise is_same_record one other
 
--- The registers and the range, which are those of a new device at first. Of a device that is lost
--- they are those after the call if the file holds the store from after it, and else those before it.
+-- The device's registers and range; at first those of a new device. If the device is lost, they are those after the
+-- call if the file has the store from after it, and otherwise those before the call.
 abbrev pub volatile_in : Kept → List Stored → Volatile
 volatile_in Unread store = volatile_of (new_device [] 0)
 volatile_in (Here saved) store = volatile_of saved.device
@@ -54,30 +54,29 @@ volatile_in Unreadable store = volatile_of (new_device [] 0)
 abbrev pub device_in : Kept → FolderPast → Device
 device_in kept past = device_with (seen_now past).store (volatile_in kept (seen_now past).store)
 
--- A device that is there has this store.
+-- If the device is kept, it has this store.
 abbrev pub IsOver : Kept → List Stored → Type 0
 IsOver (Here saved) store = saved.device.store ≡ store
 IsOver kept store = Unit {0}
 
--- The store's file has the bytes of the store of a device that is there. If the file is missing, that
--- store is empty.
+-- If the device is kept, the store's file has the bytes of its store. If the file is missing, this store is empty.
 abbrev pub IsFiled : Kept → Option (List ℕ) → Type 0
 IsFiled (Here saved) file = IsFileOf saved.device.store file
 IsFiled kept file = Unit {0}
 
--- The device that is kept and the folder go together.
+-- The kept device and the folder agree.
 pub record IsInStep (kept : Kept) (past : FolderPast) : Type 0 where
   pub filed : IsFiled kept (bytes_named Store past)
   pub over : IsOver kept (seen_now past).store
   pub device : IsDevice (device_in kept past)
   pub usable : HasUsableStore past
 
--- Each change of the device came into the store's file.
+-- Each change of the device reached the store's file.
 abbrev pub IsSaved : Kept → Type 0
 IsSaved (Lost before after) = ⊥
 IsSaved kept = Unit {0}
 
--- A device has taken this step, which left its store as it was, and is kept.
+-- A device has done this step, which left its store unchanged, and is kept.
 pub record Acts (step : Device → Device) (old : Device) (new : Kept) : Type 0 where
   pub saved : Saved
   pub kept : new ≡ Here saved
@@ -85,44 +84,43 @@ pub record Acts (step : Device → Device) (old : Device) (new : Kept) : Type 0 
   pub store : (step old).store ≡ old.store
   pub device : IsDevice saved.device
 
--- The folder stays as it is, and so does the device.
+-- The folder and the device are unchanged.
 pub record Keeps (old new : Kept) (past : FolderPast) : Type 0 where
   pub device : device_in new past ≡ device_in old past
   pub saved : IsSaved new → IsSaved old
 
--- The device has taken this step, and a board sees nothing else changed. The files stay as usable as
--- they were.
+-- The device has done this step, and a board sees no other change. The files stay as usable as they were.
 pub record Turns (step : Device → Device) (old new : Kept) (before after : FolderPast) : Type 0 where
   pub device : device_in new after ≡ step (device_in old before)
   pub sees : seen_now after ≡ with_store (step (device_in old before)).store (seen_now before)
   pub files : (file : FileNo) → KeepsFile file before after
 
--- It has taken this step or none.
+-- The device has done this step, or no step.
 abbrev pub MayTurn : (Device → Device) → Kept → Kept → FolderPast → FolderPast → Type 0
 MayTurn step old new before after = Turns (λ d. d) old new before after ⊎ Turns step old new before after
 
--- Where the folder is told, a store is as it was, or has become that of the device after a step.
+-- If the folder is modelled, a store is unchanged, or has become the store of the device after a step.
 abbrev pub BecomesBy : (Device → Device) → Kept → Option FolderPast → List Stored → List Stored → Type 0
 BecomesBy step kept None = λ old new. Unit {0}
 BecomesBy step kept (Some past) = Becomes (step (device_in kept past)).store
 
--- If each change came into the store's file, each one before had, and the folder is as it was or
--- nothing of that file is on its way.
+-- If each change has reached the store's file, so had each earlier change, and either the folder is unchanged or the
+-- store's file and its name are durable.
 abbrev pub Settles : Kept → Kept → FolderPast → FolderPast → Type 0
 Settles old new before after = IsSaved new → IsSaved old × ((after ≡ before) ⊎ HasSettledStore after)
 
--- A call on the device went well and turned it by this step, or failed and turned it by this step or
--- left it as it was. A stop meanwhile leaves the store before the step or after it.
+-- A call on the device succeeded and did this step, or failed and did this step or none. A crash meanwhile leaves the
+-- store before the step or after it.
 pub record Turned {T E : Type 0} (step : Device → Device) (old new : Kept) (result : Result T E) (before after : Option FolderPast) : Type 0 where
   pub ok : OnOk result (IfTold (Turns step old new) before after)
   pub err : OnErr result (IfTold (MayTurn step old new) before after)
   pub stops : Passes (InStore (BecomesBy step old before)) (clock_over before) (clock_over after)
   pub in_step : IfSome after (IsInStep new)
   pub saved : IfTold (Settles old new) before after
-  -- A file that isn't a store's isn't replaced.
+  -- A store file that isn't a store isn't replaced.
   pub spares : IfTold SparesNoStore before after
 
--- what holds of a put that the store refused
+-- What holds of a put that the store refused.
 abbrev pub IfRefused : Result (Unit {0}) BoardPut → Type 0 → Type 0
 IfRefused (Err (Refused cause)) P = P
 IfRefused result P = Unit {0}
@@ -132,7 +130,7 @@ pub record Stays (old new : Kept) (before after : Option FolderPast) : Type 0 wh
   pub told : after ≡ before
   pub keeps : IfSome before (Keeps old new)
 
--- What was made of a device by a step, before its store comes into the file, and whether the file has those bytes
+-- A change of a device by a step, before its store is written to the file, and whether the file has these bytes
 -- already.
 pub record IsChange (step : Device → Device) (saved : Saved) (change : Change) : Type 0 where
   pub before : change.before ≡ record saved.device { store = [] }
@@ -140,7 +138,7 @@ pub record IsChange (step : Device → Device) (saved : Saved) (change : Change)
   pub device : IsDevice change.made.device
   pub same : change.differs ≡ false → change.made.file ≡ saved.file
 
--- A device is lost after this step, which didn't come into the file.
+-- A device is lost after this step, which wasn't written to the file.
 pub record Loses (step : Device → Device) (saved : Saved) (new : Kept) : Type 0 where
   pub before : Device
   pub made : Device
@@ -149,25 +147,24 @@ pub record Loses (step : Device → Device) (saved : Saved) (new : Kept) : Type 
   pub same : made ≡ step saved.device
   pub device : IsDevice made
 
--- A device that was taken out is kept as it was, or is lost.
+-- A device that was taken out is kept unchanged, or is lost.
 abbrev pub StaysOrLoses : (Device → Device) → Saved → Kept → Type 0
 StaysOrLoses step saved new = Acts (λ d. d) saved.device new ⊎ Loses step saved new
 
--- A device is kept if its store came into the file, and else is lost, together with the one from
--- before.
+-- A device is kept if its store was written to the file; otherwise it is lost, together with the device from before.
 abbrev pub KeepsOrLoses : {T E : Type 0} → Result T E → Device → Saved → Kept → Type 0
 KeepsOrLoses (Ok done) before saved new = new ≡ Here saved
 KeepsOrLoses (Err failed) before saved new = new ≡ Lost before saved.device
 
 -- ---- the device also where nothing is told
 
--- The device that a call acts on: the one that is kept, or at the first use a new one.
+-- The device that a call acts on: the kept one, or a new one at the first use.
 abbrev pub IsUsed : Kept → Device → Type 0
 IsUsed Unread d = d ≡ new_device d.store 0
 IsUsed (Here saved) d = d ≡ saved.device
 IsUsed kept d = ⊥
 
--- The device that is kept is this one.
+-- The kept device is this one.
 abbrev pub IsHere : Kept → Device → Type 0
 IsHere (Here saved) d = saved.device ≡ d
 IsHere kept d = ⊥
@@ -177,26 +174,26 @@ abbrev pub IsThere : Kept → Type 0
 IsThere (Here saved) = Unit {0}
 IsThere kept = ⊥
 
--- A call does this to the device, which is kept.
+-- A call does this step on the device, which is kept.
 pub record Does (step : Device → Device) (old new : Kept) : Type 0 where
   pub before : Device
   pub used : IsUsed old before
   pub after : IsHere new (step before)
 
--- a device after a put with this answer
+-- a device after a put with this result
 abbrev pub after_answer : ℕ → List ℕ → Result (Unit {0}) BoardPut → Device → Device
 after_answer id bytes (Ok done) d = with_put id bytes d
 after_answer id bytes (Err refused) d = d
 
--- A put answers as the store does, and leaves the device alone if it is refused.
+-- A put returns what the store returns, and doesn't change the device if the store refuses the record.
 pub record Puts (id : ℕ) (bytes : List ℕ) (result : Result (Unit {0}) BoardPut) (old new : Kept) : Type 0 where
   pub before : Device
   pub used : IsUsed old before
   pub answers : AnswersPut result (refusal_of id bytes before.store)
   pub after : IsHere new (after_answer id bytes result before)
 
--- A call that only reads the device, which is kept then, or that failed, as it doesn't over one that
--- was. The folder and the device stay as they are.
+-- A call only read the device, which is kept then; it can fail only if no device was kept. The folder and the device
+-- are unchanged.
 pub record Looks {T E : Type 0} (old new : Kept) (result : Result T E) (before after : Option FolderPast) : Type 0 where
   pub does : OnOk result (Does (λ d. d) old new)
   pub answers : IsThere old → IsOk result

@@ -1,4 +1,4 @@
--- What the kernel under the process is given and what it answers: the names' paths, and the errors.
+-- Tables for the kernel under the process: the names' numbers, and the errors.
 use Rattle.std.specs.Prelude.{ℕ, List, codes, Option, None, Result, Ok, Err}
 use Rattle.std.specs.declared.io.ErrorKind.{ErrorKind}
 use Rattle.std.specs.declared.io.ErrorKind.TheVariants as kinds
@@ -11,7 +11,7 @@ use Rattle.host_system.specs.declared.kernel.Refusal.TheVariants.{Exists, NotPer
 use Rattle.host_system.specs.declared.system.FileName.{FileName}
 use Rattle.host_system.specs.declared.system.FileName.TheVariants.{Journal, Store, New}
 
--- where the file that is kept as this name's stands
+-- the index of the file that is kept as this name's
 abbrev pub name_number : FileName → ℕ
 name_number (Journal Zero) = 0
 name_number (Journal One) = 1
@@ -30,7 +30,7 @@ place_text Left = codes "rasd.left"
 place_text Output = codes "/proc/self/fd/1"
 place_text Process = codes "/proc/self"
 
--- the library's kinds that clauses tell apart; every other one is `Other`
+-- The library's error kinds that clauses distinguish; every other kind is `Other`.
 abbrev pub refusal_of : ErrorKind → Refusal
 refusal_of kinds.AlreadyExists = Exists
 refusal_of kinds.PermissionDenied = NotPermitted
@@ -38,7 +38,7 @@ refusal_of kinds.InvalidInput = Unsupported
 refusal_of kinds.Interrupted = Interrupted
 refusal_of kind = Other
 
--- what an error of looking at a name means
+-- what an error of looking up a name means
 abbrev pub nothing_found : ErrorKind → Result (Option FoundFile) Refusal
 nothing_found kinds.NotFound = Ok None
 nothing_found kind = Err (refusal_of kind)

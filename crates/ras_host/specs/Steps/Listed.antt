@@ -1,4 +1,4 @@
--- The calls that a board lists, as they are noted: by numbers.
+-- The calls that a board lists, noted as numbers.
 use Rattle.std.specs.Prelude.{ℕ, zero, suc, List, [], ◌∷◌, map}
 use Rattle.board_core.specs.declared.board.FileNo.{FileNo}
 use Rattle.board_core.specs.declared.board.FileNo.TheVariants.{Zero, One}

@@ -1,4 +1,4 @@
--- What a board over a system tells: it tells where the system tells.
+-- The model of a board over a system. It exists if the system is modelled.
 use Rattle.std.specs.Prelude.{Option}
 use Rattle.std.specs.Option.{option_map}
 use Rattle.board_core.specs.Clock.{Clock}
@@ -10,7 +10,7 @@ use Rattle.ras_host.specs.BoardState.{BoardState}
 use Rattle.ras_host.specs.Steps.KeptDevice.{volatile_in}
 use Rattle.ras_host.specs.Steps.Listed.{disk_calls_noted, accesses_noted}
 
--- what it tells over what it sees of the folder
+-- the board's model, given what it sees of the folder
 abbrev pub told_with : BoardState → Left → Told
 told_with b here = record {
   here = here;
@@ -22,10 +22,10 @@ told_with b here = record {
 abbrev pub told_of : BoardState → Option Told
 told_of b = option_map (told_with b) (told_over b.past)
 
--- its moments
+-- the board's clock
 abbrev pub clock_of : BoardState → Clock
 clock_of b = clock_over b.past
 
--- what contracts see of it
+-- the board as contracts see it
 abbrev pub seen_of : BoardState → Seen
 seen_of b = record { told = told_of b; clock = clock_of b; faults = b.faults }

@@ -1,4 +1,4 @@
--- How large what was made of the first records is.
+-- How large the pieces of the first records are.
 use Rattle.std.specs.Prelude.{◌≤◌, ℕ, ◌*◌, All, length}
 use Rattle.std.specs.List.{flat_map}
 use Rattle.entry_format.specs.Spelling.{entry_bytes}

@@ -1,4 +1,4 @@
--- Disk calls that are made while all else that is told stays, or all but a file.
+-- Disk calls during which the rest of the model is unchanged, or all of it except one file.
 use Rattle.std.specs.Prelude.{◌≡◌, ℕ, ◌+◌, ◌-◌, ◌^◌, ◌≤◌, ◌<◌, min, Bool, List, [], ◌∷◌, length, All, Any, Result, OnOk}
 use Rattle.ras_base.specs.Prefix.{IsPrefixOf}
 use Rattle.board_core.specs.declared.board.FileNo.{FileNo}
@@ -15,7 +15,7 @@ use Rattle.ras_journal.specs.declared.standing.Standing.{Standing}
 use Rattle.ras_recover.specs.DiskCalls.{Calls, IsReading, ReadsPlace, with_calls}
 use Rattle.ras_recover.specs.Recovering.{KeepsTold}
 
--- both files were synced, or the syncs ended early
+-- Both files were synced, or the syncs ended early.
 pub record AreSyncs {T E : Type 0} (result : Result T E) (calls : List DiskCall) : Type 0 where
   pub begins : IsPrefixOf calls (Sync Zero ∷ Sync One ∷ [])
   pub done : OnOk result (calls ≡ Sync Zero ∷ Sync One ∷ [])
@@ -34,29 +34,29 @@ Counts went_well old new = new ≡ old
 Counts (broke kind) old new = Raises kind old new
 Counts gave_up old new = new ≡ old
 
--- Size and ReadAt calls, of which this holds if all succeeded
+-- These are Size and ReadAt calls, with this property if all succeeded.
 pub record AreReads (ended : Ended) (Done : List DiskCall → Type 0) (calls : List DiskCall) : Type 0 where
   pub alone : All IsReading calls
   pub done : IfWell ended (Done calls)
 
--- Only Size and ReadAt calls were made, of which this holds if all succeeded.
+-- Only Size and ReadAt calls were made, with this property if all succeeded.
 pub record Looks (ended : Ended) (Done : Told → List DiskCall → Type 0) (old new : Seen) : Type 0 where
   pub keeps : KeepsTold old.told old.clock new.told new.clock
   pub calls : Relates (λ t. Calls (AreReads ended (Done t)) t) old.told new.told
   pub faults : Counts ended old.faults new.faults
 
--- each place of a file from one on and before another was read
+-- The reads cover each offset of a file in this range.
 abbrev pub ReadsPart : FileNo → ℕ → ℕ → List DiskCall → Type 0
 ReadsPart file from end calls = (place : ℕ) → from ≤ place → place < end → Any (ReadsPlace file place) calls
 
--- such calls were made, and nothing but this file is told anew
+-- Disk calls of this kind were made, and in the model only this file changed.
 pub record WritesIn (file : FileNo) (Are : List DiskCall → Type 0) (old new : Told) : Type 0 where
   pub bytes : List ℕ
   pub made : List DiskCall
   pub is : new ≡ with_calls made (with_file file bytes old)
   pub are : Are made
 
--- where the journal stands after the checkpoint of this account, with numbers of 64 bits
+-- the journal's position after the checkpoint of this account, with numbers of 64 bits
 abbrev pub standing_begun : State → Bool → Standing
 standing_begun account shut = record {
   file = Zero;

@@ -18,19 +18,19 @@ FindsEnd (Ok Missing) buffer left =
     Lacks 10 buffer.held × (length buffer.held ≤ LONGEST_LINE) × IfSome left (λ rest. rest ≡ [])
 FindsEnd (Err failed) buffer left = Lacks 10 buffer.held
 
--- The bytes held before a line feed at this place were taken, with the line feed.
+-- The bytes before a line feed at this index were taken from the buffer, with the line feed.
 pub record Took (place : ℕ) (old new : InputBuffer) : Type 0 where
   pub line : new.line ≡ take place old.held
   pub held : new.held ≡ drop (place + 1) old.held
   pub dropping : new.dropping ≡ false
 
--- as a line, or as the end of a line of which bytes were dropped
+-- They were returned as a line, or as the end of a line whose bytes were dropped.
 abbrev pub GivesLineEnd : InputStep → ℕ → InputBuffer → InputBuffer → Type 0
 GivesLineEnd Line place old new = Took place old new × (old.dropping ≡ false)
 GivesLineEnd Long place old new = Took place old new × (old.dropping ≡ true)
 GivesLineEnd step place old new = ⊥
 
--- all bytes held were dropped, as bytes of a line that is too long
+-- All bytes in the buffer were dropped, because they belong to a line that is too long.
 pub record DropsHeld (old new : InputBuffer) : Type 0 where
   pub held : new.held ≡ []
   pub dropping : new.dropping ≡ true

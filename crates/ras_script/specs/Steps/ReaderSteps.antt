@@ -6,13 +6,13 @@ use Rattle.ras_script.specs.declared.reader.NextRefused.TheVariants.{Source, Lin
 use Rattle.ras_script.specs.Reader.{Reader, AreTaken, given_count}
 use Rattle.ras_script.specs.SplittingLaws.{Lacks}
 
--- the first line feed of a text stands at this place
+-- The first line feed of a text is at this index.
 pub record FeedAt (place : ℕ) (text : List ℕ) : Type 0 where
   pub before : Lacks 10 (take place text)
   pub inside : place < length text
   pub parts : text ≡ take place text ++ 10 ∷ drop (place + 1) text
 
--- `count` more bytes are held, which were taken from a source; none only at its end.
+-- `count` more bytes are in the buffer, which were read from a source; 0 only at the source's end.
 pub record Gains (count : ℕ) (old new : List ℕ) (before now : Option (List ℕ)) : Type 0 where
   pub bytes : List ℕ
   pub size : length bytes ≡ count
@@ -20,7 +20,7 @@ pub record Gains (count : ℕ) (old new : List ℕ) (before now : Option (List �
   pub taken : AreTaken bytes before now
   pub ends : count ≡ 0 → IfSome before (λ left. left ≡ [])
 
--- what a reader holds is no more than its buffer, than what it took, and than it may take
+-- The bytes in a reader's buffer fit the buffer, and are no more than it read and than it may read.
 pub record IsHeld (reader : Reader) : Type 0 where
   pub buffer : length reader.held ≤ LONGEST_LINE + 1
   pub known : length reader.held ≤ reader.taken
@@ -38,14 +38,14 @@ Finds (Err TooLong) reader left =
     Lacks 10 reader.held × (length reader.held ≤ LONGEST_LINE) × (reader.taken ≡ LONGEST_SCRIPT + 1)
 Finds (Err Source) reader left = Lacks 10 reader.held
 
--- The bytes held before a line feed at this place were given as a line, with the line feed.
+-- The bytes before a line feed at this index were returned as a line, with the line feed.
 pub record Gave (place : ℕ) (old new : Reader) : Type 0 where
   pub line : new.line ≡ take place old.held
   pub held : new.held ≡ drop (place + 1) old.held
   pub taken : new.taken ≡ old.taken
   pub within : given_count old + place < LONGEST_SCRIPT
 
--- they were, or the line feed is past the longest script
+-- They were returned, or the line feed is past the longest script.
 abbrev pub GivesLine : Result Bool NextRefused → ℕ → Reader → Reader → Type 0
 GivesLine (Ok true) place old new = Gave place old new
 GivesLine (Err TooLong) place old new = (new ≡ old) × (LONGEST_SCRIPT ≤ given_count old + place)

@@ -2,7 +2,7 @@
 use Rattle.std.specs.Prelude.{ℕ, List, slice_range}
 use Rattle.ras_script.specs.declared.window.Window.{Window}
 
--- the line that was given last, and the bytes after it that weren't given
+-- the line that was returned last, and the bytes after it that weren't returned yet
 abbrev pub line_in : Window → List ℕ
 line_in w = slice_range w.bytes.items w.line w.line_end
 

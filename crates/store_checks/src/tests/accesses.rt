@@ -65,7 +65,7 @@ pub const WRITING: [Access; 11] = [
 ];
 
 // A poll of a store with one record lists it, reads it and clears it. Before each read the padded
-// table reads Value once, which holds what the listing told last.
+// table reads Value once, which has the listing's last result.
 fn polling(alloc: Global, is_padded: bool) -> Result<Vec<Access>, Fail> {
     let padding: &[Access] = if is_padded { &[Read(Value, NONE)] } else { &[] };
     let mut accesses = LISTING.to_vec(alloc)?;

@@ -3,7 +3,7 @@ use super::rows::{ACTION, ALL, Row, VALUE, admitted, joined};
 use super::samples::{PADDING, PLAIN};
 use std::alloc::Global;
 
-// Whether the plain table is admitted with its entry at a place changed.
+// Whether the plain table is admitted with its entry at an index changed.
 fn admits_changed(alloc: Global, place: usize, row: Row) -> Option<bool> {
     let mut rows = PLAIN.to_vec(alloc).ok()?;
     if place < rows.len() {
@@ -29,8 +29,8 @@ fn admits_the_plain_and_the_padded_table(rt: HostRuntime) {
     assert!(rt; admitted(rt.alloc(), &[]) == Some(false));
 }
 
-// An entry of the plain table by its place, what stands in its stead, and whether the table is
-// admitted then.
+// An entry of the plain table by its index, what replaces it, and whether the table is admitted
+// then.
 const CHANGED: [(usize, Row, bool); 31] = [
     // other forms that are admitted too, as the compared busy bit
     (1, Row(1, 3, 0, 0, 0, ACTION, 0x101, 0xff), true),
@@ -58,11 +58,11 @@ const CHANGED: [(usize, Row, bool); 31] = [
     (14, Row(9, 2, 1, 0, 0, VALUE, 0, ALL), false),
     (14, Row(9, 3, 0, 0, 0, VALUE, 0, ALL), false),
     (14, Row(9, 4, 0, 0, 0, VALUE, 0, ALL), false),
-    // a write before the action's that EXECUTE doesn't take
+    // a write before the action's that EXECUTE doesn't allow
     (6, Row(5, 3, 1, 0, 0, VALUE, 0x9c, ALL), false),
     (6, Row(5, 2, 0, 0, 0, VALUE, 0, ALL), false),
-    // the answer's read: a mask of too few bits, an offset, another value to compare with, and
-    // comparing if more than a bit is answered
+    // the result's read: a mask of too few bits, an offset, another value to compare with, and
+    // comparing if the result has more than a bit
     (9, Row(6, 1, 0, 0, 0, VALUE, 0, ALL), false),
     (11, Row(7, 0, 0, 0, 0, VALUE, 0, 0x7f), false),
     (11, Row(7, 0, 0, 0, 1, VALUE, 0, ALL), false),
@@ -72,7 +72,7 @@ const CHANGED: [(usize, Row, bool); 31] = [
     // register, whose other bits stay, and what is read first may be any number
     (0, Row(0, 3, 1, 0, 0, ACTION, 0, 0xff), false),
     (8, Row(6, 3, 1, 0, 0, ACTION, 6, 0xff), false),
-    // one list in whose stead a GOTO to itself stands
+    // one list that is replaced by a GOTO to itself
     (1, Row(1, 15, 0, 0, 0, VALUE, 0, ALL), false),
 ];
 
@@ -90,11 +90,11 @@ fn judges_each_rule(rt: HostRuntime) {
 // that of a table which tests the device before it acts: if Value holds all ones it skips the
 // write.
 const MORE: [Row; 11] = [
-    // a second write to Action, a second input, a read after the answer's
+    // a second write to Action, a second input, a read after the result's
     Row(1, 3, 0, 0, 0, ACTION, 1, ALL),
     Row(9, 2, 0, 0, 0, VALUE, 0, ALL),
     Row(8, 0, 0, 0, 0, VALUE, 0, ALL),
-    // an answer's read where none is, a write to Value elsewhere
+    // a read of a result where there is no result, a write to Value elsewhere
     Row(0, 0, 0, 0, 0, VALUE, 0, ALL),
     Row(0, 3, 0, 0, 0, VALUE, 0, ALL),
     // another instruction, a bad register, and none
@@ -106,7 +106,8 @@ const MORE: [Row; 11] = [
     Row(0, 14, 0, 0, 0, VALUE, ALL, ALL),
 ];
 
-// After the action's write EXECUTE takes no write to Value, and no entry follows an answer.
+// After the action's write EXECUTE allows no write to Value, and no entry follows the read of a
+// result.
 const MORE_AFTER: [Row; 2] = [
     Row(5, 3, 0, 0, 0, VALUE, 0, ALL),
     Row(8, 4, 0, 0, 0, VALUE, 0, ALL),
@@ -129,7 +130,7 @@ fn refuses_one_entry_more(rt: HostRuntime) {
     }
 }
 
-// Whether the plain table is admitted after so many entries NOOP.
+// Whether the plain table is admitted after this many entries NOOP.
 fn admits_behind_many(alloc: Global, count: usize) -> Option<bool> {
     let before = vec![in alloc; Row(3, 4, 0, 0, 0, 0, 0, ALL); count].ok()?;
     admits_behind(alloc, &before)

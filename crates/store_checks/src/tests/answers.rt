@@ -1,4 +1,4 @@
-//! What operations answer: devices that are busy, stores that lack the record, and a full one.
+//! What operations return: over busy devices, stores that lack the record, and a full store.
 use super::played::{Answer, Operation, Start, USUAL, answer_on};
 use erst_driver::DriverRefused;
 use std::alloc::Global;
@@ -28,8 +28,8 @@ fn busy_device_is_asked_1000_times(rt: HostRuntime) -> Result<(), Fail> {
     Ok(())
 }
 
-// The records of a store, an operation, and how it ends. A full store has no room for a record
-// more, and has it for one in another's place.
+// The records of a store, an operation, and how it ends. A full store has no room for one more
+// record, but has room for a record that replaces another.
 const ANSWERS: [(u64, Operation, Answer); 14] = [
     (0, Operation::Read(1), EMPTY),
     (0, Operation::Clear(1), EMPTY),

@@ -1,4 +1,4 @@
-//! A call of the board that fails, at each place of an operation, and a stop at each place.
+//! A failed call of the board at each point of an operation, and a crash at each point.
 use super::accesses::WRITING;
 use super::played::{Answer, Operation, Start, USUAL, answer_on, left, play};
 use board_core::{Access, Pick};
@@ -8,7 +8,7 @@ use std::test::Fail;
 
 const REFUSED: Answer = Answer::Refused(DriverRefused::Register);
 
-// The access as it is listed if its call failed.
+// Returns the access as it is listed if its call failed.
 fn as_failed(access: Access) -> Access {
     match access {
         Access::Read(reg, _) => Access::Read(reg, 0),
@@ -49,16 +49,16 @@ fn failing_call_ends_a_write(rt: HostRuntime) -> Result<(), Fail> {
     Ok(())
 }
 
-// An operation, its calls, how many of them may go well until the store changes, and the records
-// that it leaves.
+// An operation, its calls, how many of them may succeed until the store changes, and the number of
+// records that it leaves.
 const STOPS: [(Operation, u64, u64, usize); 3] = [
     (Operation::Clear(1), 10, 5, 0),
     (Operation::Write(7), 11, 6, 2),
     (Operation::Read(1), 13, 14, 1),
 ];
 
-// Whether so many records are left by an operation that is stopped after so many calls, and it ends
-// so.
+// Whether this many records are left by an operation that is cut after this many calls, and it ends
+// in this way.
 fn stops_so(
     alloc: Global,
     operation: Operation,

@@ -1,4 +1,4 @@
-//! The moving of bytes in the range.
+//! Moves of bytes in the range.
 use super::rows::{
     ALL, Row, VALUE, board, last_access, plain, range_read, range_write, run, table,
 };
@@ -6,7 +6,7 @@ use board_core::{Access, MemBoard, Reg};
 use erst_interp::{RunRefused, Table};
 use std::alloc::Global;
 
-// Where the range stands.
+// The address of the range.
 const RANGE: u64 = 0xf001_0000;
 
 // Entries of action 16 that write a number to Value and take it from there.
@@ -17,13 +17,13 @@ fn taken(number: u64, instruction: u8) -> [Row; 2] {
     ]
 }
 
-// The bases of source and destination, the offset that both are moved on by, and a count.
+// The bases of source and destination, the offset of both, and a count.
 type Move = (u64, u64, u64, u64);
 
-// What a move answers, the first 8 bytes of the range after it, and the last access.
+// What a move returns, the first 8 bytes of the range after it, and the last access.
 type Moved = (Result<u64, RunRefused>, [u8; 8], Option<Access>);
 
-// The entries that do a move.
+// Returns the entries that do a move.
 fn rows_of(alloc: Global, wanted: Move) -> Option<Vec<Row>> {
     let (from, to, offset, count) = wanted;
     [
@@ -36,7 +36,7 @@ fn rows_of(alloc: Global, wanted: Move) -> Option<Vec<Row>> {
     .ok()
 }
 
-// Runs a table over a board whose range begins with the numbers from 1 on; None if the range
+// Runs a table over a board whose range begins with the numbers from 1 on; `None` if the range
 // can't be written or read.
 fn run_over(table: &Table, board: &mut MemBoard) -> Option<Moved> {
     if !range_write(board, &[1, 2, 3, 4, 5, 6, 7, 8]) {
@@ -65,9 +65,9 @@ const MOVES: [(u64, u64, u64, u64, [u8; 8], u32); 6] = [
     (2, 0, 0, 6, [3, 4, 5, 6, 7, 8, 7, 8], 0),
     // moved on by an offset
     (0, 2, 1, 2, [1, 2, 3, 2, 3, 6, 7, 8], 3),
-    // none, at the range's end
+    // no bytes, at the range's end
     (16_384, 16_384, 0, 0, [1, 2, 3, 4, 5, 6, 7, 8], 16_384),
-    // all
+    // all bytes
     (0, 0, 0, 16_384, [1, 2, 3, 4, 5, 6, 7, 8], 0),
 ];
 
@@ -94,7 +94,7 @@ fn moves_as_if_read_whole_first(rt: HostRuntime) {
 }
 
 // Bases, offset and count of stretches that aren't inside: one byte past the end, before the range,
-// none past the end, and sums that pass 2^64.
+// no bytes past the end, and sums above 2^64.
 const OUTSIDE: [Move; 8] = [
     (RANGE + 1, RANGE, 0, 16_384),
     (RANGE, RANGE + 1, 0, 16_384),

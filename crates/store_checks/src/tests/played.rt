@@ -1,6 +1,6 @@
-//! A driver over a board in memory, on which operations are played. Nothing here states anything,
-//! so that what the clauses of the driver speak of comes into the proof of one short function an
-//! operation, and never into that of a test.
+//! A driver over a board in memory, on which operations are run. No function here has a contract,
+//! so that the terms of the driver's clauses come only into the proof of one short function for
+//! each operation, and never into the proof of a test.
 use super::rows::{Row, joined, table};
 use super::samples::{PADDING, PLAIN};
 use board_core::{Access, Board, MemBoard, Pick};
@@ -11,7 +11,7 @@ use ras_base::little_endian::u32_at;
 use std::alloc::Global;
 use std::test::Fail;
 
-/// An operation on the record of an identifier, or on all.
+/// An operation on the record under an identifier, or on all records.
 #[derive(Clone, Copy, Debug)]
 pub enum Operation {
     Ids,
@@ -20,7 +20,7 @@ pub enum Operation {
     Write(u64),
 }
 
-/// How it ended: identifiers that were listed are counted, and are to be those from 1 on.
+/// How it ended. Listed identifiers are counted, and have to be those from 1 on.
 #[derive(Clone, Copy, Debug, PartialEq, Eq)]
 pub enum Answer {
     Done,
@@ -30,7 +30,7 @@ pub enum Answer {
 }
 
 /// Whether the table is the padded one, how many records the store has (their identifiers begin
-/// with 1), how slow the device is, the call that fails (0 for none) and how many may go well.
+/// with 1), how slow the device is, the call that fails (0 for none) and how many may succeed.
 #[derive(Clone, Copy)]
 pub struct Start {
     pub is_padded: bool,
@@ -40,7 +40,7 @@ pub struct Start {
     pub allowed: u64,
 }
 
-/// The plain table, and one record, on a board on which all goes well.
+/// The plain table, and one record, on a board on which every call succeeds.
 pub const USUAL: Start = Start {
     is_padded: false,
     records: 1,
@@ -49,7 +49,7 @@ pub const USUAL: Start = Start {
     allowed: u64::MAX,
 };
 
-/// What the operations answered, and what the board shows after them.
+/// What the operations returned, and what the board has after them.
 #[derive(Drop)]
 pub struct Seen {
     pub answers: Vec<Answer>,
@@ -57,7 +57,7 @@ pub struct Seen {
     pub records: usize,
 }
 
-/// Does operations one after the other on a new board.
+/// Runs operations one after the other on a new board.
 pub fn play(alloc: Global, start: Start, operations: &[Operation]) -> Result<Seen, Fail> {
     let mut board = board_at(alloc, start)?;
     see(alloc, start.is_padded, operations, &mut board)
@@ -77,7 +77,7 @@ fn see(
     })
 }
 
-/// How many records a stop after operations leaves.
+/// Returns how many records a crash after operations leaves.
 pub fn left(
     alloc: Global,
     start: Start,
@@ -89,20 +89,20 @@ pub fn left(
     records_after_stop(alloc, board, pick)
 }
 
-/// How many records a stop of a board leaves.
+/// Returns how many records a crash of a board leaves.
 pub fn records_after_stop(alloc: Global, board: MemBoard, pick: Pick) -> Result<usize, Fail> {
     let board = board.left(alloc, pick)?;
     Ok(records_of(&board))
 }
 
-/// How an operation ended alone on a new board.
+/// Returns how an operation ended that was run alone on a new board.
 pub fn answer_on(alloc: Global, start: Start, operation: Operation) -> Result<Answer, Fail> {
     let seen = play(alloc, start, &[operation])?;
     Ok(seen.answers.first().copied().unwrap_or(Answer::Wrong))
 }
 
 // What the operations answer by the driver of a table; None if memory runs out. No function here
-// that owns a board or a driver goes on by `?`: each way out would be proved to drop it.
+// that owns a board or a driver uses `?`: each way out would be proved to drop it.
 fn answers_on(
     alloc: Global,
     is_padded: bool,
@@ -215,8 +215,8 @@ fn write<B: Board>(driver: &Driver, bytes: &[u8], board: &mut B) -> Result<(), D
     driver.write(bytes, board)
 }
 
-/// A record of 128 bytes, with no section: its signatures stand at 0 and 6, its length at 20, and
-/// its identifier at 96.
+/// A record of 128 bytes, with no section: its signatures are at 0 and 6, its length at 20, and its
+/// identifier at 96.
 pub fn record(id: u64) -> [u8; 128] {
     let mut bytes = [0; 128];
     bytes[..4].copy_from_slice(b"CPER");
@@ -240,12 +240,12 @@ fn driver_of(table: Table) -> Option<Driver> {
     }
 }
 
-/// A new board, as a start says it.
+/// Returns a new board with this start.
 pub fn board_at(alloc: Global, start: Start) -> Result<MemBoard, Fail> {
     board_over(alloc, start, store_of(alloc, start.records))
 }
 
-/// A new board over a store.
+/// Returns a new board over a store.
 pub fn board_over(alloc: Global, start: Start, store: Store) -> Result<MemBoard, Fail> {
     let mut board = new_board(alloc, store, start.slow)?;
     let _ = board.fail_at(start.fails);
@@ -257,7 +257,7 @@ fn new_board(alloc: Global, store: Store, slow: u64) -> Result<MemBoard, Fail> {
     Ok(MemBoard::new(alloc, store, slow)?)
 }
 
-/// A store of so many records.
+/// Returns a store of this many records.
 pub fn store_of(alloc: Global, records: u64) -> Store {
     let mut store = Store::new(alloc);
     put_all(&mut store, records);

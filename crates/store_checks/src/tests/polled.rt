@@ -1,4 +1,4 @@
-//! Polls over a board in memory, played by functions that state nothing.
+//! Polls over a board in memory, by functions without a contract.
 use super::played::{
     Start, accesses_of, board_over, driver_at, record, records_after_stop, records_of,
 };
@@ -10,10 +10,10 @@ use ras_records::{clear_all, look};
 use std::alloc::Global;
 use std::test::Fail;
 
-/// How a poll ended: so many records were cleared, or it was refused.
+/// How a poll ended: this many records were cleared, or it was refused.
 pub type Outcome = Result<usize, DriverRefused>;
 
-/// What a poll came to, and what the board shows after it.
+/// The outcome of a poll, and what the board has after it.
 #[derive(Drop)]
 pub struct Polled {
     pub outcome: Outcome,
@@ -36,14 +36,14 @@ fn see(alloc: Global, is_padded: bool, board: &mut MemBoard) -> Result<Polled, F
     })
 }
 
-/// How many records a stop after a poll leaves.
+/// Returns how many records a crash after a poll leaves.
 pub fn left_by_poll(alloc: Global, start: Start, store: Store, pick: Pick) -> Result<usize, Fail> {
     let mut board = board_over(alloc, start, store)?;
     poll_by_table(alloc, start.is_padded, &mut board);
     records_after_stop(alloc, board, pick)
 }
 
-// None if memory runs out.
+// Returns `None` if memory runs out.
 fn poll_by_table(alloc: Global, is_padded: bool, board: &mut MemBoard) -> Option<Outcome> {
     let driver = driver_at(alloc, is_padded)?;
     let mut buffer = vec![in alloc; 0xa5; RANGE_LENGTH].ok()?;

@@ -1,5 +1,5 @@
-//! Polls of slow devices, of stores with no record or with all that one can have, and polls of which
-//! each call fails or is the last.
+//! Polls of slow devices, of stores without records or with all that a store can have, and polls in
+//! which each call fails or is the last.
 use super::played::{Start, USUAL, store_of};
 use super::polled::{Outcome, left_by_poll, poll_store, store_with};
 use board_core::Pick;
@@ -46,7 +46,7 @@ const THREE: [(u64, bool); 3] = [(5, true), (6, false), (7, true)];
 
 const CALLS: u64 = 75;
 
-// How many records are left by a poll of the three of which so many calls went well.
+// Returns how many records a poll of the three leaves, of which this many calls succeeded.
 fn left_after(calls: u64) -> usize {
     match calls {
         0..=59 => 3,
@@ -73,7 +73,7 @@ fn failing_call_ends_a_poll(rt: HostRuntime) -> Result<(), Fail> {
     Ok(())
 }
 
-// A poll that is stopped after so many calls leaves the records that aren't cleared yet.
+// A poll that is cut after this many calls leaves the records that aren't cleared yet.
 fn stops_so(alloc: Global, allowed: u64, pick: Pick) -> Result<bool, Fail> {
     let start = Start { allowed, ..USUAL };
     Ok(left_by_poll(alloc, start, store_with(alloc, &THREE), pick)? == left_after(allowed))

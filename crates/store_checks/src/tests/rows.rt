@@ -1,4 +1,4 @@
-//! Tables as rows, and their runs, made through functions that state nothing.
+//! Tables as rows, and their runs, by functions without a contract.
 use board_core::{Access, Board, MemBoard, Reg};
 use erst_interp::{ErstTableRefused, RunRefused, Table, admits, read_erst};
 use erst_store::Store;
@@ -52,7 +52,7 @@ fn add_row(bytes: &mut Vec<u8>, row: Row) -> Result<(), AllocError> {
     bytes.extend_from_slice(&row.7.to_le_bytes())
 }
 
-// Sets the head of a table of so many entries, and the checksum last.
+// Sets the head of a table of this many entries, and the checksum last.
 fn set_head(bytes: &mut [u8], count: usize) {
     let length = bytes.len();
     set_number(bytes, 0, 0x5453_5245);
@@ -62,7 +62,7 @@ fn set_head(bytes: &mut [u8], count: usize) {
     mend(bytes);
 }
 
-/// Sets a number of four bytes, if the bytes reach so far and it fits.
+/// Sets a number of four bytes, if the bytes reach that far and it fits.
 pub fn set_number(bytes: &mut [u8], place: usize, number: usize) {
     let Ok(number) = u32::try_from(number) else {
         return;
@@ -83,12 +83,12 @@ pub fn mend(bytes: &mut [u8]) {
     }
 }
 
-/// Why bytes can't be read, if so.
+/// Returns why bytes can't be read, if so.
 pub fn refusal(alloc: Global, bytes: &[u8]) -> Option<ErstTableRefused> {
     read_erst(alloc, bytes).err()
 }
 
-/// A table of these entries, or none if memory runs out.
+/// Returns a table of these entries, or `None` if memory runs out.
 pub fn table(alloc: Global, rows: &[Row]) -> Option<Table> {
     let bytes = bytes_of(alloc, rows)?;
     read_erst(alloc, &bytes).ok()
@@ -104,7 +104,7 @@ fn is_admitted(table: &Table) -> bool {
     admits(table)
 }
 
-/// A new board over an empty store, whose register Value holds this.
+/// Returns a new board over an empty store, whose register Value has this number.
 pub fn board(alloc: Global, value: u64) -> Option<MemBoard> {
     let mut board = MemBoard::new(alloc, Store::new(alloc), 0).ok()?;
     set(&mut board, Reg::Value, value);
@@ -115,8 +115,8 @@ pub fn run(table: &Table, action: u8, input: u64, board: &mut MemBoard) -> Resul
     table.run(action, input, board)
 }
 
-/// Runs a table of these entries, which are all of action 16, over a board whose register Value
-/// holds this, and gives what it answers and what the register holds then.
+/// Runs a table of these entries, which are all of action 16, over a board whose register Value has
+/// this number, and returns the result and what the register has then.
 pub fn run_rows(
     alloc: Global,
     rows: &[Row],

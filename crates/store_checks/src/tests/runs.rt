@@ -3,8 +3,7 @@ use super::rows::{ACTION, ALL, Row, VALUE, plain, run_rows};
 use erst_interp::RunRefused;
 use std::alloc::Global;
 
-// Entries, what Value holds before, what the run answers, and what Value holds after. The input is
-// 7.
+// Entries, what Value has before, what the run returns, and what Value has after. The input is 7.
 type Case = (&'static [Row], u64, Result<u64, RunRefused>, u64);
 
 const CASES: [Case; 32] = [
@@ -138,7 +137,7 @@ const CASES: [Case; 32] = [
         Err(RunRefused::Fuel),
         9,
     ),
-    // an instruction that isn't known, though its register isn't good either
+    // an instruction that isn't known, with a register that isn't usable either
     (
         &[Row(16, 0x13, 0, 1, 0, VALUE, 0, ALL)],
         9,
@@ -154,13 +153,14 @@ const CASES: [Case; 32] = [
         Err(RunRefused::BadRegister),
         5,
     ),
-    // other registers that aren't good: another address space, a bit offset of 64, other addresses
+    // other registers that aren't usable: another address space, a bit offset of 64, other
+    // addresses
     (&[Row(16, 0, 0, 1, 0, VALUE, 0, ALL)], 9, BAD, 9),
     (&[Row(16, 0, 0, 0, 64, VALUE, 0, ALL)], 9, BAD, 9),
     (&[Row(16, 0, 0, 0, 255, ACTION, 0, ALL)], 9, BAD, 9),
     (&[Row(16, 0, 0, 0, 0, VALUE + 1, 0, ALL)], 9, BAD, 9),
     (&[Row(16, 0, 0, 0, 0, 0, 0, ALL)], 9, BAD, 9),
-    // SET_DST_ADDRESS_BASE from a register that holds 0, and MOVE_DATA
+    // SET_DST_ADDRESS_BASE from a register that has 0, and MOVE_DATA
     (
         &[
             Row(16, 17, 0, 0, 0, VALUE, 0, ALL),
@@ -186,7 +186,7 @@ fn does_each_instruction(rt: HostRuntime) {
     }
 }
 
-// So many NOOP entries, and entries of another action between them.
+// Returns this many NOOP entries, and entries of another action between them.
 fn many_rows(alloc: Global, count: usize) -> Option<Vec<Row>> {
     let mut rows = Vec::new(alloc);
     for _ in 0..count {
@@ -202,14 +202,14 @@ fn answer_of_many(alloc: Global, count: usize) -> Option<Result<u64, RunRefused>
     Some(answer)
 }
 
-// How many entries of the action there are, and what the run answers.
+// How many entries of the action there are, and what the run returns.
 const TURNS: [(usize, Result<u64, RunRefused>); 3] = [
     (4_095, Ok(7)),
     (4_096, Ok(7)),
     (4_097, Err(RunRefused::Fuel)),
 ];
 
-// Entries of another action take no turn.
+// Entries of another action use no turn.
 #[test]
 fn ends_within_its_turns(rt: HostRuntime) {
     for (count, wanted) in &TURNS {

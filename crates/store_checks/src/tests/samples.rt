@@ -1,4 +1,4 @@
-//! Sample tables: the plain one, and what the padded one has before it.
+//! Sample tables: the plain one, and the entries that the padded one has before it.
 use super::rows::{ACTION, ALL, Row, VALUE};
 
 /// The plain table: the entries of its eleven actions.

@@ -6,7 +6,7 @@ use std::test::Fail;
 // The file of the store of one record, under 6, of one byte 00.
 const ONE_RECORD: &[u8] = b"RASERST1\x01\0\0\0\x06\0\0\0\0\0\0\0\x01\0\0\0\0";
 
-// The file of a store into which this is put.
+// Returns the file of a store into which this is put.
 fn file_with(alloc: Global, id: u64, bytes: &[u8]) -> Result<Vec<u8>, Fail> {
     let mut store = Store::new(alloc);
     match store.put(id, bytes) {
@@ -15,7 +15,7 @@ fn file_with(alloc: Global, id: u64, bytes: &[u8]) -> Result<Vec<u8>, Fail> {
     }
 }
 
-// How many records bytes are the file of; None if they are malformed.
+// Returns how many records a store file has; `None` if the bytes are malformed.
 fn count_in(alloc: Global, bytes: &[u8]) -> Result<Option<usize>, Fail> {
     match Store::from_bytes(alloc, bytes) {
         Ok(store) => Ok(Some(store.len())),

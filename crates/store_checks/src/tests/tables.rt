@@ -1,4 +1,4 @@
-//! The reading of tables.
+//! Reading tables.
 use super::rows::{bytes_of, mend, refusal, set_number};
 use super::samples::PLAIN;
 use erst_interp::ErstTableRefused;
@@ -16,7 +16,7 @@ fn has_the_bytes_of_the_sample(rt: HostRuntime) -> Result<(), Fail> {
     Ok(())
 }
 
-// A place of the plain table where a number is set, and why the table can't be read then.
+// An offset of the plain table where a number is set, and why the table can't be read then.
 const BROKEN: [(usize, usize, bool, Option<ErstTableRefused>); 10] = [
     (0, 0x5453_5244, true, Some(ErstTableRefused::Signature)),
     (4, 47, true, Some(ErstTableRefused::Length)),
@@ -55,7 +55,7 @@ fn refuses_the_first_cause(rt: HostRuntime) -> Result<(), Fail> {
     Ok(())
 }
 
-// Whether bytes are refused so, cut to each shorter length.
+// Whether bytes are refused for this reason, cut to each shorter length.
 fn are_refused_shorter(alloc: Global, bytes: &[u8]) -> bool {
     for length in 0..bytes.len() {
         let wanted = if length < 48 {

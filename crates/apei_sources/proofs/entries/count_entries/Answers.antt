@@ -1,4 +1,4 @@
--- Each entry that is passed is one more.
+-- Each entry that is skipped counts as one.
 use Rattle.std.proofs.Common.{◌∙◌, ◌+◌, sym, arith}
 use Rattle.apei_sources.proofs.EntryLemmas.{Counts, none_counted, one_counted, all_counted}
 use Rattle.apei_sources.proofs.entries.count_entries.Goals as goal

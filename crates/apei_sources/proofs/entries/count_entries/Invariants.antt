@@ -1,4 +1,4 @@
--- The entries that were counted and those that are left are all.
+-- The entries that were counted and the entries left are all.
 use Rattle.std.proofs.Common.{◌≡◌, ◌+◌, ◌≤◌, length}
 use Rattle.std.specs.Option.{option_map}
 use Rattle.apei_sources.specs.Entries.{entries_of}

@@ -1,4 +1,4 @@
--- One such entry settles it.
+-- One such entry is enough.
 use Rattle.std.proofs.Common.{◌≡◌, ◌∙◌, ◌+◌, ◌-◌, List, ℕ, sym, ap, arith, true}
 use Rattle.apei_sources.specs.Entries.{has_entry, is_refused, rest_of}
 use Rattle.apei_sources.specs.Steps.Cut.{AreInside}

@@ -1,4 +1,4 @@
--- The entries that are left decide.
+-- The entries left decide.
 use Rattle.std.proofs.Common.{◌≡◌, ◌-◌}
 use Rattle.std.specs.List.{list_any}
 use Rattle.apei_sources.specs.Entries.{is_refused}

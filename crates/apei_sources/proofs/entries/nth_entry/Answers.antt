@@ -1,4 +1,4 @@
--- The entry at the place that is asked for is the first of those that are left.
+-- The requested entry is the first of the entries left.
 use Rattle.std.proofs.Common.{◌≡◌, ◌∙◌, ◌+◌, ◌-◌, List, ℕ, arith, true}
 use Rattle.apei_sources.specs.Entries.{has_entry, rest_of}
 use Rattle.apei_sources.specs.Steps.Cut.{AreInside}

@@ -1,4 +1,4 @@
--- The entry that is asked for is among those that are left.
+-- The requested entry is among the entries left.
 use Rattle.std.proofs.Common.{◌≡◌, ◌-◌, [], get_or}
 use Rattle.apei_sources.specs.Steps.Cut.{cut, AreInside}
 use Rattle.apei_sources.proofs.entries.nth_entry.Given as goal

@@ -1,4 +1,4 @@
--- Each source is refused, or is one more.
+-- Each source is refused, or is appended.
 use Rattle.std.proofs.Common.{sym, arith}
 use Rattle.std.proofs.lemmas.Result.{err_from_is_err_and}
 use Rattle.std.proofs.lemmas.List.{take_rest}

@@ -1,4 +1,4 @@
--- The sources so far, and those of what is left, are all.
+-- The sources so far, and the sources of the bytes left, are all.
 use Rattle.std.proofs.Common.{◌≡◌, ◌-◌, [], nat_eq}
 use Rattle.std.specs.List.{IsDistinct}
 use Rattle.std.specs.Map.{keys_of}

@@ -1,4 +1,4 @@
--- What is cut off is laid end to end, and what is laid end to end is cut off.
+-- Entries that are cut off lie end to end, and entries that lie end to end are cut off.
 use Rattle.std.proofs.Common.{◌≡◌, ◌∙◌, ℕ, List, Option, Some, None, refl, sym, ap}
 use Rattle.std.proofs.lemmas.List.Elements.{All-from_recursion, recursion_from_All}
 use Rattle.apei_sources.specs.Entries.{entries_of}

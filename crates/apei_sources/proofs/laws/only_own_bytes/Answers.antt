@@ -1,4 +1,4 @@
--- Each number that is read stands in the own bytes.
+-- Each number that is read is in the table's or block's own bytes.
 use Rattle.apei_sources.proofs.OwnLemmas.{same_hest, same_bert, same_block, silent_block}
 use Rattle.apei_sources.proofs.laws.only_own_bytes.Goals as goal
 

@@ -1,4 +1,4 @@
--- The bytes are those after the events so far.
+-- The bytes are the bytes after the events so far.
 use Rattle.std.proofs.Common.{◌≡◌, take}
 use Rattle.board_core.specs.Steps.FileHistory.{bytes_after_all}
 use Rattle.board_core.proofs.leaving.repeat.Given as goal

@@ -1,4 +1,4 @@
--- Each test on the record's own bytes gives what it gives on all of them.
+-- Each test on the record's own bytes has the result that it has on all bytes.
 use Rattle.std.proofs.Common.{◌≡◌, ◌≤◌, ℕ, List, length, take, refl, sym, arith, nat_lt, true, false}
 use Rattle.std.proofs.lemmas.List.{length-take}
 use Rattle.cper_records.specs.Header.{record_length, has_record_length}

@@ -1,4 +1,4 @@
--- Each answer is what the bytes are, and what they are is the answer.
+-- Each result is what the bytes are, and what the bytes are is the result.
 use Rattle.std.proofs.Common.{subst}
 use Rattle.cper_records.proofs.LaidLemmas.{IsAnswer, answered, reads, refuses}
 use Rattle.cper_records.proofs.laws.records_are_laid_out.Goals as goal

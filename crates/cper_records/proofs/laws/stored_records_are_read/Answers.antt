@@ -1,4 +1,4 @@
--- By what bytes with a record at their front are read as.
+-- How bytes with a record at their front are read.
 use Rattle.std.proofs.Common.{◌≡◌, ℕ, ◌==◌, ◌-◌, ◌∙◌, Bool, true, false, List, ◌++◌, length, replicate, Result, Ok, Err, if◌then◌else◌, refl, sym, ap, subst, arith, append_assoc}
 use Rattle.std.proofs.lemmas.Bool.Decides.{nat_tests}
 use Rattle.cper_records.specs.Header.{record_id}
@@ -10,7 +10,7 @@ use Rattle.cper_records.specs.declared.refusals.Unreadable.TheVariants.{OtherId}
 use Rattle.cper_records.proofs.LaidLemmas.{IsAnswer, answered, reads}
 use Rattle.cper_records.proofs.laws.stored_records_are_read.Goals as goal
 
--- what is read under an identifier is what was read, and has that identifier
+-- A record read under an identifier is the record that was read, and has this identifier.
 abbrev Reads : ℕ → Result (List ℕ) RecordRefused → List ℕ → Type 0
 Reads id read own = (read ≡ Ok own) × (record_id own ≡ id)
 

@@ -1,4 +1,4 @@
--- Where no test refuses, the bytes are a record's.
+-- If no test refuses them, the bytes are a record.
 use Rattle.std.proofs.Common.{◌≡◌, ◌∙◌, sym, false, arith}
 use Rattle.cper_records.specs.Header.{section_count}
 use Rattle.cper_records.specs.Descriptors.{section_at, is_out, is_section_refused, some_below}

@@ -1,4 +1,4 @@
--- One such section settles it.
+-- One such section is enough.
 use Rattle.std.proofs.Common.{◌∙◌, sym}
 use Rattle.cper_records.specs.Descriptors.{is_out}
 use Rattle.cper_records.proofs.BelowLemmas.{some_below_at}

@@ -1,4 +1,4 @@
--- None of the sections before passes the end.
+-- No section so far passes the end.
 use Rattle.std.proofs.Common.{◌≡◌, false}
 use Rattle.cper_records.specs.Descriptors.{is_out, some_below}
 use Rattle.cper_records.proofs.walk.is_some_out.Given as goal

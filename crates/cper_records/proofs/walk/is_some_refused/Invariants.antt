@@ -1,4 +1,4 @@
--- Each of the sections before can be read.
+-- Each section so far can be read.
 use Rattle.std.proofs.Common.{◌≡◌, false}
 use Rattle.cper_records.specs.Descriptors.{is_section_refused, some_below}
 use Rattle.cper_records.proofs.walk.is_some_refused.Given as goal

@@ -1,4 +1,4 @@
--- The last eight bytes stay as they are.
+-- The last eight bytes are unchanged.
 use Rattle.std.proofs.Common.{ℕ, ◌≡◌, List, length, drop, arith, refl}
 use Rattle.std.proofs.lemmas.List.{drop_more, drop_all}
 use Rattle.uuid.specs.Parts.{swap_fields}

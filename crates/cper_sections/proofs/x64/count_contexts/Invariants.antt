@@ -1,4 +1,4 @@
--- The contexts that were passed and those that are left are all.
+-- The contexts that were counted and the contexts left are all.
 use Rattle.std.proofs.Common.{◌≡◌, ◌+◌, ◌-◌, length}
 use Rattle.cper_sections.specs.X64.{contexts_in}
 use Rattle.cper_sections.proofs.x64.count_contexts.Given as goal

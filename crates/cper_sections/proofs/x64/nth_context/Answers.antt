@@ -1,4 +1,4 @@
--- Each context that is passed is one that fits.
+-- Each context that is skipped fits.
 use Rattle.std.proofs.Common.{◌≡◌, ◌∙◌, ◌<◌, sym, refl, arith, drop, true}
 use Rattle.std.proofs.lemmas.Option.{slice_get_past}
 use Rattle.cper_sections.specs.X64.{contexts_in, has_context, context_length}

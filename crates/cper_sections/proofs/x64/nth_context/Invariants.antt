@@ -1,4 +1,4 @@
--- The context that is asked for is among those that are left.
+-- The requested context is among the contexts left.
 use Rattle.std.proofs.Common.{◌≡◌, ◌+◌, ◌-◌, length}
 use Rattle.std.specs.Prelude.{slice_get}
 use Rattle.cper_sections.specs.X64.{contexts_in}

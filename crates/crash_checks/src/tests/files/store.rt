@@ -17,12 +17,12 @@ const STORE: &str = "rasd.store";
 
 const NEW_STORE: &str = "rasd.new";
 
-// The store of one record, (6, 00), and that of none.
+// The store of one record, (6, 00), and the empty store.
 const ONE: &[u8] = b"RASERST1\x01\0\0\0\x06\0\0\0\0\0\0\0\x01\0\0\0\0";
 
 const NONE: &[u8] = b"RASERST1\0\0\0\0";
 
-// The longest file of a store has a byte less.
+// The longest file of a store is one byte shorter.
 const TOO_LONG: u64 = 16_789_517;
 
 type RunBoard = FileBoard<RealSystem, Alone, Brand>;
@@ -31,7 +31,7 @@ fn act(board: &mut RunBoard, action: u64) -> bool {
     board.reg_write(Reg::Action, action).is_ok()
 }
 
-// Does an action that answers in the register Value.
+// Does an action that returns something in the register Value.
 fn ask(board: &mut RunBoard, action: u64) -> Option<u64> {
     if !act(board, action) {
         return None;
@@ -43,7 +43,7 @@ fn count_anew(rt: HostRuntime) -> Option<u64> {
     ask(&mut board::<Alone>(rt), GET_RECORD_COUNT)
 }
 
-// Clears the record of an identifier, and answers the status.
+// Clears the record under an identifier, and returns the status.
 fn clear(board: &mut RunBoard, id: u64) -> Option<u64> {
     let is_set = board.reg_write(Reg::Value, id).is_ok() && act(board, SET_RECORD_IDENTIFIER);
     if !is_set || !act(board, BEGIN_CLEAR_OPERATION) || !act(board, EXECUTE_OPERATION) {
@@ -61,8 +61,8 @@ fn put_anew(rt: HostRuntime) -> Result<(), BoardPut> {
     put(&mut board::<Alone>(rt), 6)
 }
 
-// A file is made by the first change and replaced by each later one, under its owner and its mode.
-// What changes nothing leaves it alone.
+// A file is made by the first change and replaced by each later change, with the same owner and
+// mode. A change that changes nothing doesn't touch the file.
 #[test]
 fn file_follows_the_store(rt: HostRuntime) -> Result<(), Fail> {
     enter(&rt, "changes")?;
@@ -83,8 +83,8 @@ fn file_follows_the_store(rt: HostRuntime) -> Result<(), Fail> {
     leave(&rt, "changes")
 }
 
-// A stop in a change leaves a part of the new file, or all of it beside the old one. The old one
-// then counts, and the next change goes well.
+// A crash during a change leaves a part of the new file, or all of it beside the old one. The old
+// one is then current, and the next change succeeds.
 #[test]
 fn stop_leaves_the_old_file(rt: HostRuntime) -> Result<(), Fail> {
     enter(&rt, "stops")?;
@@ -110,7 +110,8 @@ fn failed_change_ends_the_device(rt: HostRuntime) -> Result<(), Fail> {
     leave(&rt, "failed")
 }
 
-// What is no store is refused and left as it is: other bytes, too many, a folder, a link.
+// A file that isn't a store is refused and left unchanged: other bytes, too many bytes, a folder, a
+// symlink.
 #[test]
 fn what_is_no_store_is_refused(rt: HostRuntime) -> Result<(), Fail> {
     enter(&rt, "refused")?;

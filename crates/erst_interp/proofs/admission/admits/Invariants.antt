@@ -1,4 +1,4 @@
--- The lists before are admitted.
+-- The lists so far are admitted.
 use Rattle.std.proofs.Common.{ℕ, ◌<◌}
 use Rattle.erst_interp.specs.Admission.{IsAdmitted}
 use Rattle.erst_interp.specs.Table.{list_of}

@@ -1,4 +1,4 @@
--- What is left is walked as the whole list is.
+-- The rest is walked as the whole list is.
 use Rattle.std.proofs.Common.{◌≡◌, drop}
 use Rattle.erst_interp.specs.Walk.{first_awaited, walks}
 use Rattle.erst_interp.proofs.admission.walks.Given as goal

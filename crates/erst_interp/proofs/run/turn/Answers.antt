@@ -17,7 +17,7 @@ use Rattle.erst_interp.proofs.CallLemmas.{IsRead, one_cut, one_made}
 use Rattle.erst_interp.proofs.run.turn.Goals as goal
 use Rattle.erst_interp.proofs.run.turn.Goals.{in-Changes+in_ok-reg_read-in-Changes, in-Writes, then-entry+in_ok-reg_read, else-entry}
 
--- how the register is used
+-- How the register is used.
 used : (how this : Use) (work : Work) → how ≡ this → Work.TheVariants.Uses how ≡ work → Work.TheVariants.Uses this ≡ work
 used how this work is kind = subst (λ (h : Use). Work.TheVariants.Uses h ≡ work) is kind
 

@@ -1,4 +1,4 @@
--- So many lists, and nothing in any.
+-- There are this many lists, and all are empty.
 use Rattle.std.proofs.Common.{◌≡◌, ℕ, [], length, map}
 use Rattle.erst_interp.specs.Table.{list_of}
 use Rattle.erst_interp.proofs.table.empty_lists.Given as goal

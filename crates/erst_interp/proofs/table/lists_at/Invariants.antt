@@ -1,4 +1,4 @@
--- The lists hold the entries before, and the rest those that follow.
+-- The lists have the entries so far, and the rest has those that follow.
 use Rattle.std.proofs.Common.{◌-◌, ◌*◌, ◌≤◌, length, map}
 use Rattle.erst_interp.specs.declared.entries.TheConstants.{ENTRY_LENGTH}
 use Rattle.erst_interp.specs.Table.{instructions_at}

@@ -1,4 +1,4 @@
--- One class more, and in the end all.
+-- One more class, and in the end all classes.
 use Rattle.std.proofs.Common.{◌∙◌, ◌<◌, ◌≤◌, ◌++◌, ℕ, List, ap, get_or, min, length, arith}
 use Rattle.std.proofs.lemmas.List.{get_or_default}
 use Rattle.mca_status.specs.declared.classes.ItemClass.TheVariants.{Ce}

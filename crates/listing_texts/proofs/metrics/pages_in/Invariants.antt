@@ -1,4 +1,4 @@
--- The count so far is that of the pages so far.
+-- The count so far is the count of the pages so far.
 use Rattle.std.proofs.Common.{◌≡◌, take}
 use Rattle.std.specs.Prelude.{count_by}
 use Rattle.listing_texts.specs.Metrics.{is_page_in}

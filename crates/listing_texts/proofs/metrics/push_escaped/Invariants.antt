@@ -1,4 +1,4 @@
--- The text so far is that of the bytes so far.
+-- The text so far is the text of the bytes so far.
 use Rattle.std.proofs.Common.{◌≡◌, ◌++◌, take}
 use Rattle.std.specs.List.{flat_map}
 use Rattle.listing_texts.specs.Metrics.{escape}

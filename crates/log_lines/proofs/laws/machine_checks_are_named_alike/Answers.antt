@@ -7,7 +7,7 @@ use Rattle.log_lines.proofs.CheckLemmas.{log_named, trace_named}
 use Rattle.log_lines.proofs.laws.machine_checks_are_named_alike.Goals as goal
 
 pub returns-clause-trace : goal.returns-clause-trace
-returns-clause-trace c = λ boot cap began lines. trace_named (trace_begun boot cap began) lines
+returns-clause-trace c = λ boot cap began drivers lines. trace_named (trace_begun boot cap began drivers) lines
 
 pub returns-clause-log : goal.returns-clause-log
 returns-clause-log c = λ boot cap began borders lines never.

@@ -5,7 +5,7 @@ use Rattle.log_lines.proofs.LawLemmas.{log_short, trace_short}
 use Rattle.log_lines.proofs.laws.texts_are_short.Goals as goal
 
 pub returns-clause-trace : goal.returns-clause-trace
-returns-clause-trace c = λ boot cap began inputs few. trace_short (trace_begun boot cap began) inputs (omega (arith, few))
+returns-clause-trace c = λ boot cap began drivers inputs few. trace_short (trace_begun boot cap began drivers) inputs (omega (arith, few))
 
 pub returns-clause-log : goal.returns-clause-log
 returns-clause-log c = λ boot cap began borders inputs few. log_short (log_start boot cap began borders) inputs (omega (arith, few))

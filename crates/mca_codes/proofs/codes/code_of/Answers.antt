@@ -1,4 +1,4 @@
--- A code from 0401h to 07FFh fits its own row alone.
+-- A code from 0401h to 07FFh fits only its own row.
 use Rattle.std.proofs.Common.{arith}
 use Rattle.mca_codes.proofs.PatternLemmas.{internal_one_row}
 use Rattle.mca_codes.proofs.codes.code_of.Goals as goal

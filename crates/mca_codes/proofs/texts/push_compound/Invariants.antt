@@ -1,4 +1,4 @@
--- What is written, with the words that are left, is the whole text but for its ending.
+-- The text so far, with the words left, is the whole text without its ending.
 use Rattle.std.proofs.Common.{◌≡◌, ◌++◌, map, drop}
 use Rattle.mca_codes.specs.Texts.{with_colons}
 use Rattle.mca_codes.proofs.texts.push_compound.Given as goal

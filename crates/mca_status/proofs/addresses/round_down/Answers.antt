@@ -1,4 +1,4 @@
--- The mask rounds down, and what rounding keeps.
+-- The mask rounds down, and the properties that rounding keeps.
 use Rattle.std.proofs.Common.{◌-◌, arith}
 use Rattle.mca_status.proofs.RoundingLemmas.{masked, rounded-near, rounded-whole, rounded-page}
 use Rattle.mca_status.proofs.addresses.round_down.Goals as goal

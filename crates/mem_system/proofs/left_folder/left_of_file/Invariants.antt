@@ -1,4 +1,4 @@
--- What is left so far is what a stop may leave of the file with the writes so far.
+-- A crash may leave the bytes so far of the file with the writes so far.
 use Rattle.std.proofs.Common.{map, take}
 use Rattle.board_core.specs.DiskModel.{MayLeaveFile}
 use Rattle.mem_system.specs.Steps.MemFiles.{synced_or, range_of}

@@ -1,4 +1,4 @@
--- The first ones are copied.
+-- The first files are copied.
 use Rattle.std.proofs.Common.{◌≡◌, map, take}
 use Rattle.mem_system.specs.Steps.MemFiles.{other_seen}
 use Rattle.mem_system.proofs.mem_files.copy_others.Given as goal

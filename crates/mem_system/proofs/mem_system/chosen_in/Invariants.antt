@@ -1,4 +1,4 @@
--- None of the failures so far was chosen for this call.
+-- No failure so far was chosen for this call.
 use Rattle.std.proofs.Common.{◌≡◌, map, drop}
 use Rattle.mem_system.specs.MemSystem.{chosen_at}
 use Rattle.mem_system.specs.Steps.Calls.{choice_seen}

@@ -7,7 +7,7 @@ use Rattle.page_policy.proofs.PageLemmas.{row_for}
 use Rattle.page_policy.proofs.HistoryLemmas.{hard-order, lookup-rows_after, never_falls, order-history, page_rows_of-more, soft-order, state_in-after, state_in-before}
 use Rattle.page_policy.proofs.laws.report_laws.Goals as goal
 
--- the order is that between the states of the page's row before and after
+-- The order is the order between the states of the page's row before and after.
 order_of_rows : (rows : List (ℕ × PageRow)) (r : PageReport)
     → order_at r.page rows (rows_after rows r)
     ≡ order_between r.page (row_for rows r).state (row_after (row_for rows r) r).state

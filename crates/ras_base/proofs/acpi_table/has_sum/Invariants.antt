@@ -1,4 +1,4 @@
--- The sum of the bytes so far.
+-- The sum is the sum of the bytes so far.
 use Rattle.std.proofs.Common.{◌≡◌, ◌%◌, take}
 use Rattle.std.specs.Prelude.{sum}
 use Rattle.ras_base.proofs.acpi_table.has_sum.Given as goal

@@ -18,7 +18,7 @@ commands (Report Pages) = record { one = refl; same = refl }
 commands (Report Names) = record { one = refl; same = refl }
 commands (Report Modules) = record { one = refl; same = refl }
 commands (Report Metrics) = record { one = refl; same = refl }
-commands (TraceFeed boot cap began) = record { one = refl; same = refl }
+commands (TraceFeed boot cap began drivers) = record { one = refl; same = refl }
 commands (LogFeed boot cap began borders) = record { one = refl; same = refl }
 commands (TraceLines boot) = record { one = refl; same = refl }
 commands (KlogLines boot cap) = record { one = refl; same = refl }

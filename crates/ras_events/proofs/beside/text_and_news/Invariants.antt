@@ -1,4 +1,4 @@
--- The tally, the lines and the news are those of the pieces so far.
+-- The tally, the lines and the new entries are those of the pieces so far.
 use Rattle.std.specs.Vec.Iter.{into_iter_items, into_iter_len}
 use Rattle.ras_events.specs.Steps.Beside.{KeepsNews}
 use Rattle.ras_events.proofs.beside.text_and_news.Given as goal

@@ -1,4 +1,4 @@
--- What was taken so far and what is left come to the same as all.
+-- Counting the entries left gives the account and the orders that counting all of them gives.
 use Rattle.std.specs.Vec.Iter.{into_iter_items, into_iter_len}
 use Rattle.ras_events.specs.Steps.Beside.{IsTaking}
 use Rattle.ras_events.proofs.preparing.take_all.Given as goal

@@ -1,4 +1,4 @@
--- One entry more.
+-- One more entry.
 use Rattle.std.proofs.Common.{◌≡◌, ◌<◌, Ok, length, arith, ap, sym, ◌∙◌}
 use Rattle.apei_sources.specs.Blocks.{entry_at}
 use Rattle.apei_sources.specs.Entries.{entry_guid, entry_data}

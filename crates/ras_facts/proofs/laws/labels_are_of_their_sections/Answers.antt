@@ -1,4 +1,4 @@
--- The item at a place is that of the section there.
+-- The item at an index is the item of the section there.
 use Rattle.std.proofs.Common.{Some, ap, ◌∙◌, sym}
 use Rattle.ras_facts.specs.Reported.{section_label}
 use Rattle.ras_facts.proofs.ItemLemmas.{record_label}

@@ -1,4 +1,4 @@
--- One section more, and a fact that is valid.
+-- One more section, and a fact that is valid.
 use Rattle.std.proofs.Common.{ℕ, ◌≡◌, Ok, arith, ap, sym, ◌∙◌}
 use Rattle.cper_records.specs.Descriptors.{section_at}
 use Rattle.cper_sections.specs.Sections.{section_of}

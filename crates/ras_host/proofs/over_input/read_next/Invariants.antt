@@ -1,4 +1,4 @@
--- The reads that a signal interrupted took nothing, and none of them counts as failed.
+-- The interrupted reads took no bytes, and none of them counts as failed.
 use Rattle.std.proofs.Common.{◌≡◌}
 use Rattle.ras_host.proofs.over_input.read_next.Given as goal
 

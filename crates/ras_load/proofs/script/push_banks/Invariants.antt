@@ -1,4 +1,4 @@
--- The lines so far are those of the reports so far, and the number is that of the last one.
+-- The lines so far are those of the reports so far, and the number is the last report's.
 use Rattle.std.proofs.Common.{◌≡◌, ◌++◌, map, string_bytes}
 use Rattle.ras_load.specs.LoadScript.{bank_lines, generated}
 use Rattle.ras_script.specs.LineLaws.{line_text}

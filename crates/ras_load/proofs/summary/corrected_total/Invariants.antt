@@ -1,4 +1,4 @@
--- The sum so far is that of the modules so far.
+-- The sum so far is the sum of the modules so far.
 use Rattle.std.proofs.Common.{◌≡◌, take}
 use Rattle.mca_status.specs.declared.classes.ItemClass.TheVariants.{Ce}
 use Rattle.ras_load.specs.Summary.{class_total}

@@ -1,4 +1,4 @@
--- The count so far is that of the pages so far.
+-- The count so far is the count of the pages so far.
 use Rattle.std.proofs.Common.{◌≡◌, take}
 use Rattle.ras_load.specs.Summary.{pages_in}
 use Rattle.ras_load.proofs.summary.pages_in.Given as goal

@@ -1,4 +1,4 @@
--- What a record gives is what its sections hold.
+-- A record gives the report that its sections contain.
 use Rattle.ras_panic.proofs.HeldLemmas.{given_is_held, held_is_given, fact_of_held, fact_of_ordinary}
 use Rattle.ras_panic.proofs.laws.reports_are_held.Goals as goal
 

@@ -1,4 +1,4 @@
--- A panic record holds its report, so it gives that one.
+-- A panic record contains its report, so it gives this report.
 use Rattle.ras_panic.proofs.HeldLemmas.{fact_of_held, held_is_given}
 use Rattle.ras_panic.specs.Panics.{panic_bytes}
 use Rattle.ras_panic.proofs.RecordLemmas.{is_read, is_read_first, is_named, is_held}

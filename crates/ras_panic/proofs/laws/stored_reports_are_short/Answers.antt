@@ -1,4 +1,4 @@
--- A record has as many items as sections, and a panic record has one.
+-- A record has as many items as sections, and a panic record has one item.
 use Rattle.std.proofs.Common.{◌≤◌, ℕ, List, [], ◌∷◌, length, Option, Some, None, unwrap_or, arith}
 use Rattle.std.specs.Option.{option_map, option_and_then}
 use Rattle.std.proofs.lemmas.List.FromFn.{length-map-range_with_len}

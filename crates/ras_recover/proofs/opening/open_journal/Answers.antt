@@ -40,7 +40,7 @@ returns-in_err-journal-clause-refused g c =
     let p = err_from_is_err_and c.from_residual-in_err-journal.result c.from_residual-in_err-journal.ensures.1 in
     rw (p.1, p.2) (not_refused c.in_err-journal.field-0.0 _ c.in_err-journal.ensures.refuses)
 
--- a file stands
+-- A file is valid.
 
 pub returns-in-Some-clause-opened : goal.returns-in-Some-clause-opened
 returns-in-Some-clause-opened g c = λ t told.
@@ -57,7 +57,7 @@ returns-in-Some-clause-does g c = record {
   unopened = tt;
 }
 
--- none stands
+-- No file is valid.
 
 pub format_first-requires : goal.format_first-requires
 format_first-requires g c =

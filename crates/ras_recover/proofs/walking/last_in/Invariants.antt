@@ -6,7 +6,7 @@ use Rattle.ras_recover.specs.Steps.Windows.{Covers, end_of}
 use Rattle.ras_recover.proofs.HoldingLemmas.{GoesOn}
 use Rattle.ras_recover.proofs.walking.last_in.Given as goal
 
--- as many links were followed as steps were made
+-- The number of followed links is the number of steps.
 abbrev pub invariant-loop : goal.invariant-loop
 invariant-loop g l = record {
   links : l.place.links ≡ l.counter;

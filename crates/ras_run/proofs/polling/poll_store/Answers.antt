@@ -7,7 +7,7 @@ use Rattle.ras_run.proofs.PolledLemmas.{cleared, found, not_cleared, not_found, 
 use Rattle.ras_run.proofs.StandsLemmas.{ready_called, ready_print}
 use Rattle.ras_run.proofs.polling.poll_store.Goals as goal
 
--- ---- the look is refused
+-- ---- listing or reading the records is refused
 
 pub returns-in-Err-clause-polls : goal.returns-in-Err-clause-polls
 returns-in-Err-clause-polls g c = λ t is admitted.
@@ -15,7 +15,7 @@ returns-in-Err-clause-polls g c = λ t is admitted.
     rw c.driver_exit.ensures
     (not_found see c.args.driver.now c.args.topology.now c.args.seconds c.args.board.now c.look-found.new.board c.in-Err.ensures.device c.in-Err.refused c.in-Err.ensures.looked c.in-Err.ensures.does c.args.number c.args.ledger.now t is admitted)
 
--- ---- what was found is kept, and its text is printed
+-- ---- the new entries are appended, and their text is printed
 
 pub tell_made-requires-clause-ready : goal.tell_made-requires-clause-ready
 tell_made-requires-clause-ready g c =
@@ -29,7 +29,7 @@ returns-in_err-done-clause-polls g c = λ t is admitted.
     let f = found see c.args.driver.now c.args.topology.now c.args.seconds c.args.board.now c.look-found.new.board c.in-Ok.ensures.device c.in-Ok.looked c.in-Ok.ensures.looked c.in-Ok.ensures.bounded c.in-Ok.ensures.does t is admitted in
     rw (p.1, p.2) (not_told f c.args.number c.args.ledger.now c.in_err-done.field-0.0 c.tell_made.new.ledger c.tell_made.new.board c.in_err-done.ensures.counts c.in_err-done.ensures.does)
 
--- ---- its records are cleared
+-- ---- the readable records are cleared
 
 pub returns-in-Ok-clear_all-clause-polls : goal.returns-in-Ok-clear_all-clause-polls
 returns-in-Ok-clear_all-clause-polls g c = λ t is admitted.

@@ -2,7 +2,7 @@ use Rattle.std.proofs.Common.{◌-◌, ◌≤◌, length}
 use Rattle.ras_script.specs.Steps.Places.{StandsNowhere}
 use Rattle.ras_script.proofs.blocks.position_of.Given as goal
 
--- the byte stands nowhere before `at`
+-- The byte isn't in the text before `at`.
 abbrev pub invariant-loop-at : goal.invariant-loop-at
 invariant-loop-at l = record {
   within : l.at ≤ length l.text;

@@ -1,11 +1,11 @@
--- The table is held against the definition at each of the 256 bytes, by computing.
+-- The table is compared with the definition at each of the 256 bytes, by computing.
 use Rattle.std.proofs.Common.{◌≡◌, ℕ, zero, suc, ◌<◌, ◌&&◌, Bool, true, false, eqb, get_or, List, refl, ap, ◌∙◌, arith, inl, inr}
 use Rattle.std.proofs.lemmas.Bool.{cases_eq, eqb-true}
 use Rattle.std.specs.Char.{digit_value}
 use Rattle.ras_script.specs.declared.number.TheConstants.{DIGIT_VALUES}
 use Rattle.ras_script.proofs.number.value_of.Goals as goal
 
--- a table has the value of each digit below n
+-- Whether a table has the value of each digit below n.
 agrees_below : List ℕ → ℕ → Bool
 agrees_below table zero = true
 agrees_below table (suc n) = eqb (get_or table n 0) (digit_value n) && agrees_below table n

@@ -5,8 +5,7 @@ use Rattle.ras_script.specs.declared.splitting.TheConstants.{HELD_WORDS}
 use Rattle.ras_script.specs.declared.blocks.TheConstants.{BLOCK_BYTES}
 use Rattle.ras_script.proofs.splitting.hold_in_block.Given as goal
 
--- the words held and those from `start` on are the line's, and the bits tell the spaces from
--- `start` on
+-- The stored words and the words from `start` on are the line's, and the bits give the spaces from `start` on.
 abbrev pub invariant-loop-spaces : goal.invariant-loop-spaces
 invariant-loop-spaces l = record {
   ordered : l.start ≤ l.at + BLOCK_BYTES;

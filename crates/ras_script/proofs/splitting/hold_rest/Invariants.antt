@@ -4,8 +4,7 @@ use Rattle.ras_script.specs.Steps.Places.{StandsNowhere}
 use Rattle.ras_script.specs.declared.splitting.TheConstants.{HELD_WORDS}
 use Rattle.ras_script.proofs.splitting.hold_rest.Given as goal
 
--- the words held and those from `start` on are the line's, and no space stands from `start` to
--- `place`
+-- The stored words and the words from `start` on are the line's, and there is no space from `start` to `place`.
 abbrev pub invariant-loop-place : goal.invariant-loop-place
 invariant-loop-place l = record {
   inside : l.start ≤ l.place;

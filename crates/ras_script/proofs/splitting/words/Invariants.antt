@@ -4,7 +4,7 @@ use Rattle.ras_script.specs.Steps.Places.{StandsNowhere}
 use Rattle.ras_script.specs.declared.splitting.TheConstants.{HELD_WORDS}
 use Rattle.ras_script.proofs.splitting.words.Given as goal
 
--- the words held and those from `start` on are the line's, and no space stands from `start` to `at`
+-- The stored words and the words from `start` on are the line's, and there is no space from `start` to `at`.
 abbrev pub invariant-loop-at : goal.invariant-loop-at
 invariant-loop-at l = record {
   ordered : l.start ≤ l.at;

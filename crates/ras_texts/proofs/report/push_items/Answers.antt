@@ -1,4 +1,4 @@
--- One item more, and in the end all.
+-- One more item, and in the end all items.
 use Rattle.std.proofs.Common.{◌∙◌, ◌<◌, ◌≤◌, ◌++◌, min, length, get_or, List, ap, arith}
 use Rattle.ras_facts.specs.declared.items.Item.{Item}
 use Rattle.ras_texts.specs.Reports.{told_line}

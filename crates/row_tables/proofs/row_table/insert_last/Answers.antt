@@ -35,7 +35,7 @@ returns-in-Some-clause-ok g c =
 pub returns-in-Some-clause-fresh : goal.returns-in-Some-clause-fresh
 returns-in-Some-clause-fresh g c = ap not (sym (known g c))
 
--- what holds of a refusal
+-- What holds of a refusal.
 on_err : {T E P : Type 0} (r : Result T E) → P → OnErr r P
 on_err (Ok value) p = tt
 on_err (Err error) p = p

@@ -2,7 +2,7 @@ use Rattle.std.proofs.Common.{refl, rules}
 use Rattle.row_tables.proofs.HeldLemmas.{kept-RetainsPairs}
 use Rattle.row_tables.proofs.row_table.keep_passing.Goals as goal
 
--- the closure's captures are the count and the test
+-- The closure's captures are the count and the test.
 pub returns : goal.returns
 returns g c =
     kept-RetainsPairs _ (λ f. g.T.KeyTest.passes f.1.now) (λ f. f.0.now)

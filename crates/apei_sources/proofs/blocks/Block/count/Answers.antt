@@ -1,4 +1,4 @@
--- As many entries are cut as the block counts.
+-- The block has as many entries as it counts.
 use Rattle.std.proofs.Common.{◌∙◌, length, sym, ap}
 use Rattle.apei_sources.specs.Blocks.{BlockParts}
 use Rattle.apei_sources.proofs.CutLemmas.{length-cut}

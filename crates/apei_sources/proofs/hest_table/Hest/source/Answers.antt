@@ -1,4 +1,4 @@
--- A look-up finds the one source of an identifier.
+-- A look-up finds the only source with an identifier.
 use Rattle.std.proofs.Common.{◌∙◌, ap, nat_eq, subst}
 use Rattle.std.specs.List.{IsDistinct}
 use Rattle.std.specs.Map.{keys_of}

@@ -1,4 +1,4 @@
--- So many identifiers were listed and collected, and none was the end.
+-- This many identifiers were listed and collected, and none was the end.
 use Rattle.erst_driver.proofs.ListLemmas.{Collecting}
 use Rattle.erst_driver.proofs.driver.Driver.collect.Given as goal
 

@@ -1,4 +1,4 @@
--- So many identifiers were listed, and none was the end.
+-- This many identifiers were listed, and none was the end.
 use Rattle.erst_driver.proofs.ListLemmas.{Listing}
 use Rattle.erst_driver.specs.Steps.Operating.{Called}
 use Rattle.erst_driver.proofs.driver.Driver.list_to_end.Given as goal

@@ -1,4 +1,4 @@
--- So many checks were made, and the device was busy at each.
+-- This many checks were made, and the device was busy at each.
 use Rattle.erst_driver.proofs.WaitLemmas.{Waiting}
 use Rattle.erst_driver.specs.Steps.Operating.{Called}
 use Rattle.erst_driver.proofs.driver.Driver.wait.Given as goal

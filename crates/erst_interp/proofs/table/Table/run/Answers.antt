@@ -18,7 +18,7 @@ found [] i e inside is = absurd (omega (arith, inside))
 found (x ∷ xs) zero e inside is = ap (λ (y : InstructionEntry). Some y) (sym is)
 found (x ∷ xs) (suc i) e inside is = found xs i e (omega (arith, inside)) is
 
--- so many turns are left
+-- This many turns are left.
 left_as : (list : List InstructionEntry) (turns left input : ℕ) (v : Variables) (a b : Seen) → turns ≡ left → Way list turns input v a b → Way list left input v a b
 left_as list turns left input v a b is way = subst (λ (n : ℕ). Way list n input v a b) is way
 

@@ -1,4 +1,4 @@
--- The run is on its way, and if its entries come one after the other, so does it.
+-- The run is in progress; if the list's entries run one after the other, so do the rest.
 use Rattle.std.proofs.Common.{◌≡◌, ◌-◌}
 use Rattle.std.specs.Prelude.{IsTrue}
 use Rattle.std.specs.List.{list_all}

@@ -4,7 +4,7 @@ use Rattle.ras_script.specs.SplittingLaws.{Lacks}
 use Rattle.ras_script.specs.declared.reader.TheConstants.{LONGEST_LINE}
 use Rattle.ras_script.proofs.input.InputReader.read_to_end.Given as goal
 
--- bytes were read, and those held have no line feed
+-- Bytes were read, and the buffer has no line feed.
 abbrev pub invariant-loop-self : goal.invariant-loop-self
 invariant-loop-self g l = record {
   moves : MovesPast [] l.fn.self l.self (g.S.Source.left l.fn.source) (g.S.Source.left l.source);

@@ -4,7 +4,7 @@ use Rattle.ras_script.specs.SplittingLaws.{Lacks}
 use Rattle.ras_script.specs.declared.reader.TheConstants.{LONGEST_SCRIPT}
 use Rattle.ras_script.proofs.reader.LineReader.read_to_line_feed.Given as goal
 
--- bytes were read, and those held have no line feed
+-- Bytes were read, and the buffer has no line feed.
 abbrev pub invariant-loop-self : goal.invariant-loop-self
 invariant-loop-self g l = record {
   moves : Moves [] l.fn.self l.self (g.S.Source.left l.fn.source) (g.S.Source.left l.source);

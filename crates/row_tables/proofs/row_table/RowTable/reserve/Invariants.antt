@@ -3,7 +3,7 @@ use Rattle.std.specs.Map.{keys_of}
 use Rattle.row_tables.specs.Tables.{added_keys}
 use Rattle.row_tables.proofs.row_table.RowTable.reserve.Given as goal
 
--- the rows stay, and the keys so far wait
+-- The rows are unchanged, and the keys so far are reserved.
 abbrev pub invariant-loop-key : goal.invariant-loop-key
 invariant-loop-key g l = record {
   rows : l.self.rows ≡ l.initial.self.rows;

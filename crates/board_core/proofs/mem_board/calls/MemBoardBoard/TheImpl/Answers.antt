@@ -1,4 +1,4 @@
--- That each call gives what the trait says of it.
+-- Each call obeys the trait's clauses.
 use Rattle.std.proofs.Common.{length, inl, inr, refl}
 use Rattle.board_core.specs.declared.board.Access.TheVariants.{Write, RangeWrite}
 use Rattle.board_core.specs.declared.board.DiskCall.TheVariants.{WriteAt, Sync}

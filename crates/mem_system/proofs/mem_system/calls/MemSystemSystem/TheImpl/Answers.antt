@@ -1,4 +1,4 @@
--- That each call gives what `System` says of it.
+-- Each call obeys the clauses of `System`.
 use Rattle.std.proofs.Common.{rules, Some}
 use Rattle.mem_system.specs.SystemCall.{to_print}
 use Rattle.host_system.specs.FolderPast.{IfTold, MayPrint}

@@ -1,4 +1,4 @@
--- That each call gives what `Kernel` says of it.
+-- Each call obeys the clauses of `Kernel`.
 use Rattle.std.proofs.Common.{rules, Some}
 use Rattle.host_system.specs.FolderPast.{IfTold, MayPrint}
 use Rattle.mem_system.specs.SystemCall.{to_print}

@@ -1,0 +1,117 @@
+//! Finds the events that the kernel's EDAC drivers made, and reads the memory errors in them.
+
+ghost use Rattle.std.specs.Prelude.{◌≡◌};
+ghost use Rattle.event_lines.specs.Driver.{any_event_of, driver_behind, driver_error_of, driver_event, driver_place};
+ghost use Rattle.event_lines.specs.Driver.{event_or, has_any_event, named_or_absent};
+ghost use Rattle.ras_script.specs.Number.{decimal_of};
+
+use crate::memory_event::{controller_error, controller_of, place_of};
+use crate::traced::{
+    LineEvent, clock_event, clock_place, found_memory, has_name, line_event, named_text, stamp_at,
+};
+use bank_lines::{behind_name, cut, value_after, without_spaces};
+use block_lines::{ErrorLocation, MemoryError};
+use ras_script::decimal;
+
+// Returns which event a line has. `drivers` says whether every driver's event of a memory
+// controller is a memory error. Allocates nothing.
+pub(crate) fn any_event(line: &[u8], drivers: bool) -> LineEvent
+    ensures { result ≡ any_event_of drivers line.now }
+{
+    if !drivers {
+        return line_event(line);
+    }
+    let text = behind_name(line);
+    match clock_event(text) {
+        LineEvent::Absent => driver_or_named(text),
+        event => event,
+    }
+}
+
+// Returns the driver's event after the first clock of a text, or `Unread` if an event's name is
+// elsewhere.
+fn driver_or_named(text: &[u8]) -> LineEvent
+    ensures { result ≡ event_or (driver_event text.now) (named_or_absent text.now) }
+{
+    match driver_event(text) {
+        LineEvent::Absent => named_or_absent(text),
+        event => event,
+    }
+}
+
+// Returns `Unread` if a text has an event's name after a clock, wherever both are, else `Absent`.
+fn named_or_absent(text: &[u8]) -> LineEvent
+    ensures { result ≡ named_or_absent text.now }
+{
+    if has_any_event(text) {
+        LineEvent::Unread
+    } else {
+        LineEvent::Absent
+    }
+}
+
+// Returns whether a text has an event's name after a clock, wherever both are and whoever made the
+// event.
+fn has_any_event(text: &[u8]) -> bool
+    ensures { result ≡ has_any_event text.now }
+{
+    if place_of(b"_event:", text).is_none() {
+        return false;
+    }
+    has_name(true, text)
+}
+
+// Returns the driver's event after the first clock of a text.
+fn driver_event(text: &[u8]) -> LineEvent
+    ensures { result ≡ driver_event text.now }
+{
+    match clock_place(text) {
+        Some(place) => driver_behind(stamp_at(place, text), named_text(place, text)),
+        None => LineEvent::Absent,
+    }
+}
+
+// Returns the driver's event that a text after a clock has, from the event's name on.
+fn driver_behind(stamp: Option<u64>, text: &[u8]) -> LineEvent
+    ensures { result ≡ driver_behind stamp text.now }
+{
+    match value_after(b"mc_event: ", text) {
+        Some(told) => found_memory(stamp, driver_error(without_spaces(told))),
+        None => LineEvent::Absent,
+    }
+}
+
+// Returns the error of a driver's event with this text, if it can be read.
+fn driver_error(text: &[u8]) -> Option<MemoryError>
+    ensures { result ≡ driver_error_of text.now }
+{
+    let controller = controller_of(text)?;
+    let (number, rest) = cut(b' ', controller);
+    let (layers, _) = cut(b' ', rest);
+    let layers = value_after(b"location:", layers)?;
+    let error = controller_error(text, controller, b"")?;
+    Some(MemoryError {
+        location: driver_place(number, layers),
+        ..error
+    })
+}
+
+// Returns where an error is, by the memory controller's number and the numbers of its layers.
+fn driver_place(number: &[u8], layers: &[u8]) -> ErrorLocation
+    ensures { result ≡ driver_place number.now layers.now }
+{
+    let (top, rest) = cut(b':', layers);
+    let (middle, _) = cut(b':', rest);
+    ErrorLocation {
+        node: number_of(number),
+        card: number_of(top),
+        module: number_of(middle),
+    }
+}
+
+// Returns the value of a decimal number, if it fits into a field of a location.
+fn number_of(word: &[u8]) -> Option<u16>
+    ensures { result ≡ decimal_of 65535 word.now }
+{
+    Some(decimal(word, u64::from(u16::MAX))? as u16)
+}
