@@ -1,8 +1,9 @@
 //! Finds the events that the kernel's EDAC drivers made, and reads the memory errors in them.
 
 ghost use Rattle.std.specs.Prelude.{◌≡◌};
-ghost use Rattle.event_lines.specs.Driver.{any_event_of, driver_behind, driver_error_of, driver_event, driver_place};
-ghost use Rattle.event_lines.specs.Driver.{event_or, has_any_event, named_or_absent};
+ghost use Rattle.event_lines.specs.Driver.{any_event_of, before_on, driver_behind, driver_error_of, driver_event};
+ghost use Rattle.event_lines.specs.Driver.{driver_place, event_or, has_any_event, lacks_place, message_of};
+ghost use Rattle.event_lines.specs.Driver.{named_or_absent, place_told};
 ghost use Rattle.ras_script.specs.Number.{decimal_of};
 
 use crate::memory_event::{controller_error, controller_of, place_of};
@@ -91,9 +92,55 @@ fn driver_error(text: &[u8]) -> Option<MemoryError>
     let layers = value_after(b"location:", layers)?;
     let error = controller_error(text, controller, b"")?;
     Some(MemoryError {
-        location: driver_place(number, layers),
+        location: place_told(text, number, layers),
         ..error
     })
+}
+
+// Returns where the error of an event with this text is. Nothing is known of it if the message says
+// that the driver doesn't know it.
+fn place_told(text: &[u8], number: &[u8], layers: &[u8]) -> ErrorLocation
+    ensures { result ≡ place_told text.now number.now layers.now }
+{
+    if lacks_place(message_of(text)) {
+        ErrorLocation {
+            node: None,
+            card: None,
+            module: None,
+        }
+    } else {
+        driver_place(number, layers)
+    }
+}
+
+// Returns whether a driver says by this message that it doesn't know an error's place.
+fn lacks_place(message: &[u8]) -> bool
+    ensures { result ≡ lacks_place message.now }
+{
+    message.starts_with(b"Failed to map error addr to a node")
+        || message.starts_with(b"MCA_SYND not valid")
+}
+
+// Returns the driver's message in an event's text.
+fn message_of(text: &[u8]) -> &[u8]
+    ensures { result.now ≡ message_of text.now }
+{
+    let (_, told) = cut(b' ', text);
+    let (_, named) = cut(b' ', told);
+    match value_after(b"error: ", named) {
+        Some(message) => before_on(message),
+        None => b"",
+    }
+}
+
+// Returns a text's part before the first ` on `, or all of it if there is none.
+fn before_on(text: &[u8]) -> &[u8]
+    ensures { result.now ≡ before_on text.now }
+{
+    match place_of(b" on ", text) {
+        Some(place) => &text[..place],
+        None => text,
+    }
 }
 
 // Returns where an error is, by the memory controller's number and the numbers of its layers.
