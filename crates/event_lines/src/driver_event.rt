@@ -2,13 +2,13 @@
 
 ghost use Rattle.std.specs.Prelude.{◌≡◌};
 ghost use Rattle.event_lines.specs.Driver.{any_event_of, before_on, driver_behind, driver_error_of, driver_event};
-ghost use Rattle.event_lines.specs.Driver.{driver_place, event_or, has_any_event, lacks_place, message_of};
-ghost use Rattle.event_lines.specs.Driver.{named_or_absent, place_told};
+ghost use Rattle.event_lines.specs.Driver.{driver_place, lacks_place, message_of, place_told};
 ghost use Rattle.ras_script.specs.Number.{decimal_of};
 
 use crate::memory_event::{controller_error, controller_of, place_of};
 use crate::traced::{
-    LineEvent, clock_event, clock_place, found_memory, has_name, line_event, named_text, stamp_at,
+    LineEvent, clock_event, clock_place, found_memory, has_name, line_event, named_text,
+    names_event, stamp_at,
 };
 use bank_lines::{behind_name, cut, value_after, without_spaces};
 use block_lines::{ErrorLocation, MemoryError};
@@ -23,43 +23,22 @@ pub(crate) fn any_event(line: &[u8], drivers: bool) -> LineEvent
         return line_event(line);
     }
     let text = behind_name(line);
+    if !names_event(text) {
+        return LineEvent::Absent;
+    }
     match clock_event(text) {
-        LineEvent::Absent => driver_or_named(text),
+        LineEvent::Absent => match driver_event(text) {
+            LineEvent::Absent => {
+                if has_name(true, text) {
+                    LineEvent::Unread
+                } else {
+                    LineEvent::Absent
+                }
+            }
+            event => event,
+        },
         event => event,
     }
-}
-
-// Returns the driver's event after the first clock of a text, or `Unread` if an event's name is
-// elsewhere.
-fn driver_or_named(text: &[u8]) -> LineEvent
-    ensures { result ≡ event_or (driver_event text.now) (named_or_absent text.now) }
-{
-    match driver_event(text) {
-        LineEvent::Absent => named_or_absent(text),
-        event => event,
-    }
-}
-
-// Returns `Unread` if a text has an event's name after a clock, wherever both are, else `Absent`.
-fn named_or_absent(text: &[u8]) -> LineEvent
-    ensures { result ≡ named_or_absent text.now }
-{
-    if has_any_event(text) {
-        LineEvent::Unread
-    } else {
-        LineEvent::Absent
-    }
-}
-
-// Returns whether a text has an event's name after a clock, wherever both are and whoever made the
-// event.
-fn has_any_event(text: &[u8]) -> bool
-    ensures { result ≡ has_any_event text.now }
-{
-    if place_of(b"_event:", text).is_none() {
-        return false;
-    }
-    has_name(true, text)
 }
 
 // Returns the driver's event after the first clock of a text.
