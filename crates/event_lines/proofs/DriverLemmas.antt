@@ -18,7 +18,7 @@ use Rattle.bank_lines.proofs.LogTextLemmas.{after_is, up_to_is}
 use Rattle.bank_lines.proofs.NumeralLemmas.{decimal_lacks, lack_both, literal_lacks}
 use Rattle.block_lines.specs.declared.memory.ErrorLocation.{ErrorLocation}
 use Rattle.block_lines.specs.declared.memory.MemoryError.{MemoryError}
-use Rattle.event_lines.specs.Driver.{driver_error_of, driver_place, placed_at}
+use Rattle.event_lines.specs.Driver.{before_on, driver_error_of, driver_place, lacks_place, message_of, place_told, placed_at}
 use Rattle.event_lines.specs.DriverKernel.{IsDriver, PrintedDriver, driver_front, driver_inside, error_of_driver, layer_text, layers_text, printed_driver}
 use Rattle.event_lines.specs.Memory.{addresses_in, behind_controller, controller_error_of, controller_of, firmware_mark, kind_before, kind_named, type_severity}
 use Rattle.event_lines.specs.MemoryKernel.{before_more, grain_text, severity_name}
@@ -99,6 +99,22 @@ kind_is (b ∷ message) ending none =
     ap (λ (o : Option ℕ). option_map_or (λ place. kind_named (take place whole)) o None) (on_first (b ∷ message) ending none)
     ∙ ap kind_named (take-append_seam (b ∷ message) (on ++ ending))
 
+-- an empty message isn't one that lacks a place
+empty_placed : (place : ℕ) (ending : List ℕ) → lacks_place (take place (codes "on " ++ ending)) ≡ false
+empty_placed zero ending = refl
+empty_placed (suc n) ending = refl
+
+lacks_is : (message ending : List ℕ) → mark_place (codes " on") message ≡ None → lacks_place (before_on (message_rest message ending)) ≡ lacks_place message
+lacks_is [] ending none = by (mark_place on (codes "on " ++ ending))
+  where
+    by : (o : Option ℕ) → lacks_place (option_map_or (λ place. take place (codes "on " ++ ending)) o (codes "on " ++ ending)) ≡ false
+    by None = refl
+    by (Some place) = empty_placed place ending
+lacks_is (b ∷ message) ending none =
+    let whole : List ℕ = (b ∷ message) ++ (on ++ ending) in
+    ap (λ (o : Option ℕ). lacks_place (option_map_or (λ place. take place whole) o whole)) (on_first (b ∷ message) ending none)
+    ∙ ap lacks_place (take-append_seam (b ∷ message) (on ++ ending))
+
 message_is : (message ending : List ℕ) → value_after (codes "error: ") (codes "error:" ++ (before_more message ++ (on ++ ending))) ≡ Some (message_rest message ending)
 message_is [] ending = refl
 message_is (b ∷ message) ending = refl
@@ -163,7 +179,7 @@ grain_plain bits small = literal_lacks 80 (grain_text bits) (below 32 bits is_pl
 
 pub driver_so : (text controller layers : List ℕ) (error : MemoryError) (place : ErrorLocation) → controller_of text ≡ Some controller
     → value_after (codes "location:") (up_to 32 (after 32 controller)) ≡ Some layers → controller_error_of text controller [] ≡ Some error
-    → driver_place (up_to 32 controller) layers ≡ place → driver_error_of text ≡ Some (placed_at place error)
+    → place_told text (up_to 32 controller) layers ≡ place → driver_error_of text ≡ Some (placed_at place error)
 driver_so text controller layers error place f1 f2 f3 f4 = rw (f1, f2, f3) (λ i. Some (placed_at (f4 i) error))
 
 module _ (p : PrintedDriver) (is : IsDriver p) where
@@ -308,9 +324,12 @@ module _ (p : PrintedDriver) (is : IsDriver p) where
 
   -- ---- the error
 
+  abbrev nowhere : ErrorLocation
+  nowhere = record { node = None; card = None; «module» = None }
+
   -- the error, but for its place
   abbrev placeless : MemoryError
-  placeless = record (error_of_driver p) { location = record { node = None; card = None; «module» = None } }
+  placeless = record (error_of_driver p) { location = nowhere }
 
   fields_read : controller_error_of (printed_driver p) (driver_inside p) [] ≡ Some placeless
   fields_read =
@@ -330,8 +349,8 @@ module _ (p : PrintedDriver) (is : IsDriver p) where
       refl
       (kind_is p.message ending is.message)
 
-  place_is : driver_place (up_to 32 (driver_inside p)) numbers ≡ (error_of_driver p).location
-  place_is =
+  number_is : driver_place (up_to 32 (driver_inside p)) numbers ≡ record { node = Some p.controller; card = p.top; «module» = p.middle }
+  number_is =
       let rest : List ℕ = layer_text p.middle ++ 58 ∷ layer_text p.low in
       let top : Lacks 58 (layer_text p.top) = layer_small p.top is.top 58 (literal_lacks 58 (codes "-1") refl) (λ n few. decimal_lacks 58 n (omega arith) few) in
       let middle : Lacks 58 (layer_text p.middle) = layer_small p.middle is.middle 58 (literal_lacks 58 (codes "-1") refl) (λ n few. decimal_lacks 58 n (omega arith) few) in
@@ -343,6 +362,18 @@ module _ (p : PrintedDriver) (is : IsDriver p) where
       ap (λ (text : List ℕ). decimal_of 65535 (up_to 58 text)) (after_is 58 (layer_text p.top) rest top)
       ∙ ap (decimal_of 65535) (up_to_is 58 (layer_text p.middle) (layer_text p.low) middle) ∙ layer_read p.middle is.middle in
       λ i. record { node = node i; card = card i; «module» = number i }
+
+  message_told : lacks_place (message_of (printed_driver p)) ≡ lacks_place p.message
+  message_told =
+      ap (λ (text : List ℕ). lacks_place (option_map_or before_on (value_after (codes "error: ") (after 32 (after 32 text))) [])) text_is
+      ∙ ap (λ (text : List ℕ). lacks_place (option_map_or before_on (value_after (codes "error: ") text) [])) (after_is 32 name errors (severity_lacks p.severity is.severity))
+      ∙ ap (λ (o : Option (List ℕ)). lacks_place (option_map_or before_on o [])) (message_is p.message ending)
+      ∙ lacks_is p.message ending is.message
+
+  place_is : place_told (printed_driver p) (up_to 32 (driver_inside p)) numbers ≡ (error_of_driver p).location
+  place_is =
+      ap (λ (lacks : Bool). if lacks then nowhere else driver_place (up_to 32 (driver_inside p)) numbers) message_told
+      ∙ ap (λ (place : ErrorLocation). if lacks_place p.message then nowhere else place) number_is
 
   pub driver_error_read : driver_error_of (printed_driver p) ≡ Some (error_of_driver p)
   driver_error_read =

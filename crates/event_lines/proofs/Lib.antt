@@ -8,6 +8,7 @@ mod RawLemmas
 mod SectionEventLemmas
 mod PlaceLemmas
 mod PlacedLemmas
+mod UnnamedLemmas
 mod KindLemmas
 mod MemoryLemmas
 mod DriverLemmas

@@ -1,10 +1,11 @@
 -- The events of a memory controller that any of the kernel's EDAC drivers made, for a machine whose machine checks rasd
 -- doesn't read: there such an event is the only account of an error.
-use Rattle.std.specs.Prelude.{ℕ, ◌&&◌, Bool, true, false, List, [], codes, Option, is_some, if◌then◌else◌}
+use Rattle.std.specs.Prelude.{ℕ, ◌&&◌, Bool, true, false, List, [], ◌∷◌, codes, take, Option, None, is_some, if◌then◌else◌}
+use Rattle.std.specs.List.{list_any}
 use Rattle.std.specs.Option.{option_map, option_map_or}
 use Rattle.ras_klog.specs.Reading.{read_then}
 use Rattle.ras_script.specs.Number.{decimal_of}
-use Rattle.bank_lines.specs.LogHeads.{after, mark_place, up_to, without_spaces}
+use Rattle.bank_lines.specs.LogHeads.{after, begins, mark_place, up_to, without_spaces}
 use Rattle.bank_lines.specs.Parts.{cut_at, value_after}
 use Rattle.bank_lines.specs.Trace.{behind_name}
 use Rattle.block_lines.specs.declared.memory.ErrorLocation.{ErrorLocation}
@@ -25,6 +26,28 @@ driver_place number layers = record {
   «module» = decimal_of 65535 (up_to 58 (after 58 layers));
 }
 
+-- How the message of amd64_edac begins for an error whose place it doesn't know. It gives 0 for both layers then:
+-- drivers/edac/amd64_edac.c, lines 3192 to 3203 and 3282 to 3292 of version 6.1.192, 2824 to 2832 of 6.12.117.
+abbrev pub unplaced_messages : List (List ℕ)
+unplaced_messages = codes "Failed to map error addr to a node" ∷ codes "MCA_SYND not valid" ∷ []
+
+abbrev pub lacks_place : List ℕ → Bool
+lacks_place message = list_any (begins message) unplaced_messages
+
+-- a text's part before the first ` on `, or all of it if there is none
+abbrev pub before_on : List ℕ → List ℕ
+before_on text = option_map_or (λ place. take place text) (mark_place (codes " on ") text) text
+
+-- the message of `<n> <severity> error: <message> on <label>`
+abbrev pub message_of : List ℕ → List ℕ
+message_of text = option_map_or before_on (value_after (codes "error: ") (after 32 (after 32 text))) []
+
+-- the place of an event with this text, controller's number and layers
+abbrev pub place_told : List ℕ → List ℕ → List ℕ → ErrorLocation
+place_told text number layers =
+    if lacks_place (message_of text) then record { node = None; card = None; «module» = None }
+    else driver_place number layers
+
 abbrev pub placed_at : ErrorLocation → MemoryError → MemoryError
 placed_at location error = record error { location = location }
 
@@ -34,7 +57,7 @@ abbrev pub driver_error_of : List ℕ → Option MemoryError
 driver_error_of text =
     read_then (controller_of text) (λ controller.
     read_then (value_after (codes "location:") (up_to 32 (after 32 controller))) (λ layers.
-    option_map (placed_at (driver_place (up_to 32 controller) layers)) (controller_error_of text controller [])))
+    option_map (placed_at (place_told text (up_to 32 controller) layers)) (controller_error_of text controller [])))
 
 -- ---- a line
 

@@ -4,6 +4,7 @@ use Rattle.std.specs.Prelude.{◌≡◌, ℕ, ◌-◌, ◌^◌, ◌<◌, ◌==�
 use Rattle.bank_lines.specs.Kernel.{padded}
 use Rattle.bank_lines.specs.LogHeads.{mark_place}
 use Rattle.block_lines.specs.declared.memory.MemoryError.{MemoryError}
+use Rattle.event_lines.specs.Driver.{lacks_place}
 use Rattle.event_lines.specs.Memory.{behind_controller, firmware_mark, kind_named}
 use Rattle.event_lines.specs.MemoryKernel.{before_more, grain_text, severity_name}
 
@@ -23,13 +24,15 @@ pub record PrintedDriver : Type 0 where
   pub syndrome : ℕ
   pub detail : List ℕ
 
--- the error that is read
+-- the error that is read; it has no place if the message says that the driver doesn't know it
 abbrev pub error_of_driver : PrintedDriver → MemoryError
 error_of_driver p = record {
   severity = p.severity;
   physical = p.address;
   mask = if p.grain_bits == 0 then None else Some (2 ^ 64 - 2 ^ p.grain_bits);
-  location = record { node = Some p.controller; card = p.top; «module» = p.middle };
+  location =
+      if lacks_place p.message then record { node = None; card = None; «module» = None }
+      else record { node = Some p.controller; card = p.top; «module» = p.middle };
   kind = kind_named p.message;
 }
 

@@ -1,13 +1,14 @@
 //! Finds the events that the kernel's EDAC drivers made, and reads the memory errors in them.
 
 ghost use Rattle.std.specs.Prelude.{◌≡◌};
-ghost use Rattle.event_lines.specs.Driver.{any_event_of, driver_behind, driver_error_of, driver_event, driver_place};
-ghost use Rattle.event_lines.specs.Driver.{event_or, has_any_event, named_or_absent};
+ghost use Rattle.event_lines.specs.Driver.{any_event_of, before_on, driver_behind, driver_error_of, driver_event};
+ghost use Rattle.event_lines.specs.Driver.{driver_place, lacks_place, message_of, place_told};
 ghost use Rattle.ras_script.specs.Number.{decimal_of};
 
 use crate::memory_event::{controller_error, controller_of, place_of};
 use crate::traced::{
-    LineEvent, clock_event, clock_place, found_memory, has_name, line_event, named_text, stamp_at,
+    LineEvent, clock_event, clock_place, found_memory, has_name, line_event, named_text,
+    names_event, stamp_at,
 };
 use bank_lines::{behind_name, cut, value_after, without_spaces};
 use block_lines::{ErrorLocation, MemoryError};
@@ -22,43 +23,22 @@ pub(crate) fn any_event(line: &[u8], drivers: bool) -> LineEvent
         return line_event(line);
     }
     let text = behind_name(line);
+    if !names_event(text) {
+        return LineEvent::Absent;
+    }
     match clock_event(text) {
-        LineEvent::Absent => driver_or_named(text),
+        LineEvent::Absent => match driver_event(text) {
+            LineEvent::Absent => {
+                if has_name(true, text) {
+                    LineEvent::Unread
+                } else {
+                    LineEvent::Absent
+                }
+            }
+            event => event,
+        },
         event => event,
     }
-}
-
-// Returns the driver's event after the first clock of a text, or `Unread` if an event's name is
-// elsewhere.
-fn driver_or_named(text: &[u8]) -> LineEvent
-    ensures { result ≡ event_or (driver_event text.now) (named_or_absent text.now) }
-{
-    match driver_event(text) {
-        LineEvent::Absent => named_or_absent(text),
-        event => event,
-    }
-}
-
-// Returns `Unread` if a text has an event's name after a clock, wherever both are, else `Absent`.
-fn named_or_absent(text: &[u8]) -> LineEvent
-    ensures { result ≡ named_or_absent text.now }
-{
-    if has_any_event(text) {
-        LineEvent::Unread
-    } else {
-        LineEvent::Absent
-    }
-}
-
-// Returns whether a text has an event's name after a clock, wherever both are and whoever made the
-// event.
-fn has_any_event(text: &[u8]) -> bool
-    ensures { result ≡ has_any_event text.now }
-{
-    if place_of(b"_event:", text).is_none() {
-        return false;
-    }
-    has_name(true, text)
 }
 
 // Returns the driver's event after the first clock of a text.
@@ -91,9 +71,55 @@ fn driver_error(text: &[u8]) -> Option<MemoryError>
     let layers = value_after(b"location:", layers)?;
     let error = controller_error(text, controller, b"")?;
     Some(MemoryError {
-        location: driver_place(number, layers),
+        location: place_told(text, number, layers),
         ..error
     })
+}
+
+// Returns where the error of an event with this text is. Nothing is known of it if the message says
+// that the driver doesn't know it.
+fn place_told(text: &[u8], number: &[u8], layers: &[u8]) -> ErrorLocation
+    ensures { result ≡ place_told text.now number.now layers.now }
+{
+    if lacks_place(message_of(text)) {
+        ErrorLocation {
+            node: None,
+            card: None,
+            module: None,
+        }
+    } else {
+        driver_place(number, layers)
+    }
+}
+
+// Returns whether a driver says by this message that it doesn't know an error's place.
+fn lacks_place(message: &[u8]) -> bool
+    ensures { result ≡ lacks_place message.now }
+{
+    message.starts_with(b"Failed to map error addr to a node")
+        || message.starts_with(b"MCA_SYND not valid")
+}
+
+// Returns the driver's message in an event's text.
+fn message_of(text: &[u8]) -> &[u8]
+    ensures { result.now ≡ message_of text.now }
+{
+    let (_, told) = cut(b' ', text);
+    let (_, named) = cut(b' ', told);
+    match value_after(b"error: ", named) {
+        Some(message) => before_on(message),
+        None => b"",
+    }
+}
+
+// Returns a text's part before the first ` on `, or all of it if there is none.
+fn before_on(text: &[u8]) -> &[u8]
+    ensures { result.now ≡ before_on text.now }
+{
+    match place_of(b" on ", text) {
+        Some(place) => &text[..place],
+        None => text,
+    }
 }
 
 // Returns where an error is, by the memory controller's number and the numbers of its layers.

@@ -1,9 +1,10 @@
 //! Finds the event of a line, where tracers print it.
 
-ghost use Rattle.std.specs.Prelude.{◌≡◌, ◌+◌, ◌≤◌, false, length, IfSome};
+ghost use Rattle.std.specs.Prelude.{◌≡◌, ◌+◌, ◌≤◌, codes, false, is_some, length, IfSome};
+ghost use Rattle.bank_lines.specs.LogHeads.{mark_place};
 ghost use Rattle.bank_lines.specs.Parts.{cut_at};
 ghost use Rattle.event_lines.specs.Traced.{clock_event, clock_place, controller_event, event_behind, found_event};
-ghost use Rattle.event_lines.specs.Traced.{found_memory, found_section, has_event, has_name, shows_clock, is_event_name};
+ghost use Rattle.event_lines.specs.Traced.{found_memory, found_section, has_name, shows_clock, is_event_name};
 ghost use Rattle.event_lines.specs.Traced.{is_extlog, is_firmware, line_event_of, named_text, other_event, stamp_at};
 
 use crate::aer::{AerEvent, aer_event};
@@ -62,9 +63,12 @@ pub(crate) fn line_event(line: &[u8]) -> LineEvent
     ensures { result ≡ line_event_of line.now }
 {
     let text = behind_name(line);
+    if !names_event(text) {
+        return LineEvent::Absent;
+    }
     match clock_event(text) {
         LineEvent::Absent => {
-            if has_event(text) {
+            if has_name(is_firmware(text), text) {
                 LineEvent::Unread
             } else {
                 LineEvent::Absent
@@ -79,10 +83,21 @@ pub fn is_extlog(line: &[u8]) -> bool
     ensures { result ≡ is_extlog line.now }
 {
     let behind = behind_name(line);
+    if !names_event(behind) {
+        return false;
+    }
     match clock_place(behind) {
         Some(place) => named_text(place, behind).starts_with(EXTLOG_NAME),
         None => false,
     }
+}
+
+// Returns whether a text has the end of an event's name. Most lines of a trace lack it, and the
+// search for it is quicker than the search for a clock.
+pub(crate) fn names_event(text: &[u8]) -> bool
+    ensures { result ≡ is_some (mark_place (codes "_event:") text.now) }
+{
+    place_of(b"_event:", text).is_some()
 }
 
 // Returns the event after the first clock of a text.
@@ -93,16 +108,6 @@ pub(crate) fn clock_event(text: &[u8]) -> LineEvent
         Some(place) => event_behind(stamp_at(place, text), named_text(place, text)),
         None => LineEvent::Absent,
     }
-}
-
-// Returns whether a text has an event's name after a clock, wherever both are.
-fn has_event(text: &[u8]) -> bool
-    ensures { result ≡ has_event text.now }
-{
-    if place_of(b"_event:", text).is_none() {
-        return false;
-    }
-    has_name(is_firmware(text), text)
 }
 
 // Returns whether a text has the name of the firmware's detail after its last ` (mc:`, or no `

@@ -12,6 +12,8 @@ KINDS = (
     b"master abort", b"target abort", b"parity error", b"watchdog timeout", b"invalid address", b"mirror Broken",
     b"memory sparing", b"scrub corrected error", b"scrub uncorrected error", b"physical memory map-out event",
 )  # fmt: skip
+# How amd64_edac's message begins if it doesn't know the place, which it gives as 0.
+UNPLACED = (b"Failed to map error addr to a node", b"MCA_SYND not valid")
 HEX = rb"([0-9a-fA-F]{1,16})"
 # The name of the firmware's detail.
 FIRMWARE = b"APEI location: "
@@ -97,12 +99,15 @@ def of_controller(text):
 
 
 def of_driver(text):
-    """The severity, the type and the section of another driver's event: its place are the controller and two layers."""
+    """The severity, the type and the section of another driver's event: its place are the controller and two layers, if it is known."""
     found = DRIVER.fullmatch(in_parentheses(text))
     check(found)
     controller, layers, address, grain = found.groups()
     top, middle, *_ = *layers.split(b":"), b""
-    return error_of(text, address, grain, [*map(number_of, (controller, top, middle))])
+    front = FRONT.fullmatch(text)
+    is_placed = not (front and front[2].partition(b" on ")[0].startswith(UNPLACED))
+    place = [*map(number_of, (controller, top, middle))] if is_placed else [None] * 3
+    return error_of(text, address, grain, place)
 
 
 def of_log(text):
