@@ -1,0 +1,109 @@
+"""Which DIMM an error is of: lines `# slot` before the kernel's lines, and lines `range` where the kernel names a DIMM."""
+import re
+
+from reference.base import Unreadable
+from reference.events import named_in
+from reference.kernel import behind_name, is_own
+from reference.memory import UNPLACED, in_parentheses
+
+MOST_SLOTS, MOST_RANGES, MOST_HELD, MOST_AT_ONCE, SIZE = 1_024, 1_500, 512, 4_096, 64
+SLOT = re.compile(rb"# slot ([!-~]{1,32}) (.+)", re.S)
+MESSAGE = re.compile(rb"[^ ]* [^ ]* errors?:(?: (.*))?", re.S)
+HEX = rb"([0-9a-fA-F]{1,16})"
+ADDRESS = re.compile(rb"[^ ]* [^ ]* address:0x%s(?: .*)?" % HEX, re.S)
+# EDAC's line of an error, and where its page stands.
+EDAC = re.compile(rb"MC[0-9]+: [0-9]+ [CU]E (.*)", re.S)
+PAGE = re.compile(rb"%s offset:0x%s(?: .*)?" % (HEX, HEX), re.S)
+PAGE_SIZE = 4_096
+# A line of a firmware's report, and what of it matters here.
+REPORT = re.compile(rb"\{([0-9]{1,20})\}\[Hardware Error\]: (.*)", re.S)
+HANDLE = b"not present. "
+
+
+class Dimms:
+    """The rows `# slot`, the places that have a range, and the text that waits for the next line."""
+
+    def __init__(self):
+        self.slots, self.is_head, self.ranged, self.held = {}, True, set(), ""
+
+    def begin_line(self, line):
+        """Takes a line as a row, if only rows came before."""
+        row = SLOT.fullmatch(line) if self.is_head and line is not None else None
+        self.is_head = bool(row) and row[1] != b"-"
+        if self.is_head and len(self.slots) < MOST_SLOTS:
+            self.slots.setdefault(row[2], row[1].decode())
+
+    def passed(self, told, said, waits):
+        """What is printed at a line which tells of a DIMM, has a text, and may have a machine check that waits."""
+        place = told[0] // SIZE if told else None
+        name = self.slots.get(told[1]) if told else None
+        has_range = name and place not in self.ranged and len(self.ranged) < MOST_RANGES
+        text = f"range {name} {SIZE * place:x} {SIZE * place + SIZE - 1:x}\n" if has_range else ""
+        holds = waits and self.slots and len(said) <= MOST_HELD
+        text += self.held + ("" if holds else said)
+        if len(text) > MOST_AT_ONCE:
+            return said
+        if has_range:
+            self.ranged.add(place)
+        self.held = said if holds else ""
+        return text
+
+
+def is_held(text):
+    """Whether a machine check's text is of a whole one that has an address."""
+    return text.startswith("bank ") and int(text.split(" ")[8], 16) >> 58 & 1 == 1
+
+
+def told_in_trace(line):
+    """The address and the name of a DIMM in a line of a trace, or none."""
+    _, found = named_in(behind_name(line))
+    if not found or found[1] != b"mc":
+        return None
+    try:
+        address = ADDRESS.fullmatch(in_parentheses(found[2]))
+    except Unreadable:
+        return None
+    front, on, label = found[2].rpartition(b" (mc:")[0].partition(b" on ")
+    message = MESSAGE.fullmatch(front)
+    if not address or not on or not int(address[1], 16) or message and (message[1] or b"").startswith(UNPLACED):
+        return None
+    return int(address[1], 16), label
+
+
+class LogDimms:
+    """What a log says of DIMMs: EDAC's lines, and the lines of firmware's reports, of which the address stands before the name."""
+
+    def __init__(self):
+        self.number = self.address = None
+
+    def told(self, line):
+        """The address and the name of a DIMM in a line, or none."""
+        head, mark, text = line.partition(b"EDAC ")
+        if mark and (found := EDAC.fullmatch(text)) and is_own(head):
+            return self.of_edac(found[1])
+        head, brace, text = line.partition(b"{")
+        found = REPORT.fullmatch(brace + text.removesuffix(b"\r"))
+        return self.of_report(int(found[1]), found[2].lstrip(b" ")) if found and is_own(head) and int(found[1]) < 2**64 else None
+
+    def of_edac(self, text):
+        """What a line of EDAC's says, from its message on."""
+        front, mark, behind = text.rpartition(b" page:0x")
+        place = PAGE.fullmatch(behind)
+        _, on, label = front.rpartition(b" (")[0].partition(b" on ")
+        if text.startswith(b"on "):
+            on, label = b"on ", front.rpartition(b" (")[0][3:]
+        if not mark or not place or not on:
+            return None
+        address = int(place[1], 16) * PAGE_SIZE + int(place[2], 16)
+        return (address, label) if 0 < address < 2**64 and int(place[2], 16) < PAGE_SIZE else None
+
+    def of_report(self, number, text):
+        """What a line of the firmware's report of this number says."""
+        if text.startswith((b"section_type: ", b"Error ")) and number == self.number:
+            self.number = None
+        elif text.startswith(b"physical_address: 0x") and re.fullmatch(HEX, text[20:]):
+            self.number, self.address = number, int(text[20:], 16)
+        elif text.startswith(b"DIMM location: ") and number == self.number:
+            self.number = None
+            return self.address, text[15:].strip(b" ").removeprefix(HANDLE)
+        return None
