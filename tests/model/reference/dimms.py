@@ -24,13 +24,14 @@ class Dimms:
     """The rows `# slot`, the places that have a range, and the text that waits for the next line."""
 
     def __init__(self):
-        self.slots, self.is_head, self.ranged, self.held = {}, True, set(), ""
+        self.slots, self.rows, self.is_head, self.ranged, self.held = {}, 0, True, set(), ""
 
     def begin_line(self, line):
         """Takes a line as a row, if only rows came before."""
         row = SLOT.fullmatch(line) if self.is_head and line is not None else None
         self.is_head = bool(row) and row[1] != b"-"
-        if self.is_head and len(self.slots) < MOST_SLOTS:
+        self.rows += self.is_head
+        if self.is_head and self.rows <= MOST_SLOTS:
             self.slots.setdefault(row[2], row[1].decode())
 
     def passed(self, told, said, waits):
