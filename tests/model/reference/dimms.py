@@ -8,7 +8,6 @@ from reference.memory import UNPLACED, in_parentheses
 
 MOST_SLOTS, MOST_RANGES, MOST_HELD, MOST_AT_ONCE, SIZE = 1_024, 1_500, 512, 4_096, 64
 SLOT = re.compile(rb"# slot ([!-~]{1,32}) (.+)", re.S)
-MESSAGE = re.compile(rb"[^ ]* [^ ]* errors?:(?: (.*))?", re.S)
 HEX = rb"([0-9a-fA-F]{1,16})"
 ADDRESS = re.compile(rb"[^ ]* [^ ]* address:0x%s(?: .*)?" % HEX, re.S)
 # EDAC's line of an error, and where its page stands.
@@ -64,9 +63,10 @@ def told_in_trace(line):
         address = ADDRESS.fullmatch(in_parentheses(found[2]))
     except Unreadable:
         return None
-    front, on, label = found[2].rpartition(b" (mc:")[0].partition(b" on ")
-    message = MESSAGE.fullmatch(front)
-    if not address or not on or not int(address[1], 16) or message and (message[1] or b"").startswith(UNPLACED):
+    # The text is `<n> <severity> error:<message> on <label>`, and a message begins with a space.
+    said = found[2].rpartition(b" (mc:")[0].partition(b":")[2]
+    front, on, label = said.partition(b" on ")
+    if not address or not on or not int(address[1], 16) or front.partition(b" ")[2].startswith(UNPLACED):
         return None
     return int(address[1], 16), label
 
