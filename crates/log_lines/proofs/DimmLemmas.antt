@@ -5,7 +5,7 @@ use Rattle.std.specs.Option.{option_map}
 use Rattle.std.proofs.lemmas.Bool.Decides.{nat_tests}
 use Rattle.line_filters.specs.declared.feeding.TheConstants.{MOST_AT_ONCE}
 use Rattle.log_lines.specs.Comments.{exceeds_call}
-use Rattle.log_lines.specs.Dimms.{DimmsState, Part, after_part, block_of, dimms_last, holds, listens, part_of, part_text, range_told, ranged_with, slot_called, whole_part}
+use Rattle.log_lines.specs.Dimms.{DimmsState, Part, after_part, block_at, dimms_last, stays_held, listens, part_passed, part_text, range_told, ranged_with, slot_called, whole_part}
 use Rattle.log_lines.specs.Slots.{SlotLine}
 use Rattle.log_lines.specs.declared.dimms.ToldRange.{ToldRange}
 use Rattle.log_lines.specs.declared.dimms.TheConstants.{MOST_RANGES}
@@ -23,7 +23,7 @@ pub last_short : (dimms : DimmsState) (last : List ℕ) → length last ≤ MOST
 last_short dimms last short = fitting (dimms.held ++ last) last short
 
 pub part_short : (dimms : DimmsState) (told : Option (ℕ × List ℕ)) (said : List ℕ) (waits : Bool) → length said ≤ MOST_AT_ONCE
-    → length (part_text (part_of dimms told said waits)) ≤ MOST_AT_ONCE
+    → length (part_text (part_passed dimms told said waits)) ≤ MOST_AT_ONCE
 part_short dimms told said waits short = by (exceeds_call (part_text whole)) refl
   where
     whole : Part
@@ -50,20 +50,20 @@ told_to_listener dimms (Some told) = by (listens dimms) refl
     by : (listening : Bool) → listens dimms ≡ listening → range_told dimms (if listening then Some told else None) ≡ range_told dimms (Some told)
     by true is = refl
     by false is =
-        sym (ap (λ (listening : Bool). if listening && nat_lt (length dimms.ranged) MOST_RANGES && not (list_any (λ block. block == block_of told.0) dimms.ranged) then range else None) is)
+        sym (ap (λ (listening : Bool). if listening && nat_lt (length dimms.ranged) MOST_RANGES && not (list_any (λ block. block == block_at told.0) dimms.ranged) then range else None) is)
 
 -- ---- a call's values are those of the definition
 
 pub part_is : (d dimms : DimmsState) (t told : Option (ℕ × List ℕ)) (s said : List ℕ) (w waits : Bool)
-    → range_told d t ≡ range_told d told → d ≡ dimms → s ≡ said → w ≡ waits → part_of d t s w ≡ part_of dimms told said waits
+    → range_told d t ≡ range_told d told → d ≡ dimms → s ≡ said → w ≡ waits → part_passed d t s w ≡ part_passed dimms told said waits
 part_is d dimms t told s said w waits range same text wait =
     ap (λ (range : Option ToldRange). by range) range
-    ∙ ap (λ (x : DimmsState). part_of x told s w) same
-    ∙ ap (λ (x : List ℕ). part_of dimms told x w) text
-    ∙ ap (λ (x : Bool). part_of dimms told said x) wait
+    ∙ ap (λ (x : DimmsState). part_passed x told s w) same
+    ∙ ap (λ (x : List ℕ). part_passed dimms told x w) text
+    ∙ ap (λ (x : Bool). part_passed dimms told said x) wait
   where
     whole : Option ToldRange → Part
-    whole range = record { range = range; released = d.held; said = if holds d s w then [] else s }
+    whole range = record { range = range; released = d.held; said = if stays_held d s w then [] else s }
 
     by : Option ToldRange → Part
     by range = if exceeds_call (part_text (whole range)) then record { range = None; released = []; said = s } else whole range
@@ -77,9 +77,9 @@ after_is d dimms t told s said w waits range same text wait =
     ∙ ap (λ (x : Bool). after_part dimms told said x) wait
   where
     whole : Option ToldRange → Part
-    whole range = record { range = range; released = d.held; said = if holds d s w then [] else s }
+    whole range = record { range = range; released = d.held; said = if stays_held d s w then [] else s }
 
     by : Option ToldRange → DimmsState
     by range =
         if exceeds_call (part_text (whole range)) then d
-        else record { slots = d.slots; heading = d.heading; ranged = ranged_with d.ranged range; held = if holds d s w then s else [] }
+        else record { slots = d.slots; heading = d.heading; ranged = ranged_with d.ranged range; held = if stays_held d s w then s else [] }

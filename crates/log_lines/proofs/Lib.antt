@@ -2,6 +2,9 @@ pub mod JoinLemmas
 pub mod LimitLemmas
 pub mod TookLemmas
 pub mod DimmLemmas
+mod DimmTextLemmas
+mod DimmRangeLemmas
+mod SayingLemmas
 mod LawLemmas
 mod WholeLemmas
 mod CheckLemmas

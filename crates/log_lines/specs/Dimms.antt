@@ -59,14 +59,14 @@ abbrev pub slot_called : List SlotLine → List ℕ → Option SlotLine
 slot_called slots label = find (λ (slot : SlotLine). bytes_eq slot.label label) slots
 
 -- the block of 64 bytes that has this address
-abbrev pub block_of : ℕ → ℕ
-block_of address = address / 64
+abbrev pub block_at : ℕ → ℕ
+block_at address = address / 64
 
 -- whether an address may get a range: there are slots, there is room, and its block has no range
 abbrev pub takes_range : DimmsState → ℕ → Bool
 takes_range dimms address =
     listens dimms && nat_lt (length dimms.ranged) MOST_RANGES
-    && not (list_any (λ block. block == block_of address) dimms.ranged)
+    && not (list_any (λ block. block == block_at address) dimms.ranged)
 
 -- the range for an address and what the kernel calls the DIMM there
 abbrev pub range_told : DimmsState → Option (ℕ × List ℕ) → Option ToldRange
@@ -79,7 +79,7 @@ range_told dimms (Some told) =
 -- the line `range` of a module's name and the 64 bytes of the block
 abbrev pub range_line : ToldRange → List ℕ
 range_line range =
-    line_text (Row (Range range.name (block_of range.address * 64) (block_of range.address * 64 + 63)))
+    line_text (Row (Range range.name (block_at range.address * 64) (block_at range.address * 64 + 63)))
 
 abbrev pub range_text : Option ToldRange → List ℕ
 range_text None = []
@@ -87,7 +87,7 @@ range_text (Some range) = range_line range ++ 10 ∷ []
 
 abbrev pub ranged_with : List ℕ → Option ToldRange → List ℕ
 ranged_with ranged None = ranged
-ranged_with ranged (Some range) = ranged ++ block_of range.address ∷ []
+ranged_with ranged (Some range) = ranged ++ block_at range.address ∷ []
 
 -- ---- what is printed
 
@@ -101,31 +101,31 @@ abbrev pub part_text : Part → List ℕ
 part_text part = range_text part.range ++ part.released ++ part.said
 
 -- whether a text waits: its machine check may get a range, and it isn't too long
-abbrev pub holds : DimmsState → List ℕ → Bool → Bool
-holds dimms said waits = waits && listens dimms && not (nat_lt MOST_HELD (length said))
+abbrev pub stays_held : DimmsState → List ℕ → Bool → Bool
+stays_held dimms said waits = waits && listens dimms && not (nat_lt MOST_HELD (length said))
 
 abbrev pub whole_part : DimmsState → Option (ℕ × List ℕ) → List ℕ → Bool → Part
 whole_part dimms told said waits = record {
   range = range_told dimms told;
   released = dimms.held;
-  said = if holds dimms said waits then [] else said;
+  said = if stays_held dimms said waits then [] else said;
 }
 
 -- If one call can't print all of it, only the text of the input is printed, and what waits goes on waiting.
-abbrev pub part_of : DimmsState → Option (ℕ × List ℕ) → List ℕ → Bool → Part
-part_of dimms told said waits =
+abbrev pub part_passed : DimmsState → Option (ℕ × List ℕ) → List ℕ → Bool → Part
+part_passed dimms told said waits =
     if exceeds_call (part_text (whole_part dimms told said waits)) then record { range = None; released = []; said = said }
     else whole_part dimms told said waits
 
-abbrev pub with_part : DimmsState → Option (ℕ × List ℕ) → List ℕ → Bool → DimmsState
-with_part dimms told said waits = record dimms {
+abbrev pub with_whole : DimmsState → Option (ℕ × List ℕ) → List ℕ → Bool → DimmsState
+with_whole dimms told said waits = record dimms {
   ranged = ranged_with dimms.ranged (range_told dimms told);
-  held = if holds dimms said waits then said else [];
+  held = if stays_held dimms said waits then said else [];
 }
 
 abbrev pub after_part : DimmsState → Option (ℕ × List ℕ) → List ℕ → Bool → DimmsState
 after_part dimms told said waits =
-    if exceeds_call (part_text (whole_part dimms told said waits)) then dimms else with_part dimms told said waits
+    if exceeds_call (part_text (whole_part dimms told said waits)) then dimms else with_whole dimms told said waits
 
 -- ---- over inputs
 
@@ -138,7 +138,7 @@ pub record Saying : Type 0 where
   pub waits : Bool
 
 abbrev pub part_at : DimmsState → Saying → Part
-part_at dimms s = part_of (heard dimms s.slot) s.told s.said s.waits
+part_at dimms s = part_passed (heard dimms s.slot) s.told s.said s.waits
 
 abbrev pub dimms_after : DimmsState → Saying → DimmsState
 dimms_after dimms s = after_part (heard dimms s.slot) s.told s.said s.waits

@@ -9,3 +9,4 @@ pub mod Dimms
 pub mod TraceWithDimms
 pub mod LogDimm
 pub mod LogWithDimms
+pub mod DimmLaws

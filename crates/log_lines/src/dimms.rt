@@ -3,9 +3,9 @@
 ghost use Rattle.std.specs.Prelude.{◌≡◌, ◌++◌, ◌∷◌, [], IfOk, OnOk, length, nat_lt};
 ghost use Rattle.std.specs.Option.{option_copied, option_map};
 ghost use Rattle.std.specs.Str.{bytes_eq};
-ghost use Rattle.log_lines.specs.Dimms.{after_part, block_of, dimms_begun, dimms_last, heard, holds, in_heading, listens};
-ghost use Rattle.log_lines.specs.Dimms.{part_of, part_text, range_line, range_text, range_told, ranged_with, slot_called};
-ghost use Rattle.log_lines.specs.Dimms.{slot_in, slot_line, takes_range, whole_part, with_part, with_slot};
+ghost use Rattle.log_lines.specs.Dimms.{after_part, block_at, dimms_begun, dimms_last, heard, in_heading, stays_held, listens};
+ghost use Rattle.log_lines.specs.Dimms.{part_passed, part_text, range_line, range_text, range_told, ranged_with, slot_called};
+ghost use Rattle.log_lines.specs.Dimms.{slot_in, slot_line, takes_range, whole_part, with_whole, with_slot};
 ghost use Rattle.log_lines.specs.Slots.{SlotLine};
 
 use crate::comments::exceeds_call;
@@ -147,7 +147,7 @@ impl Dimms {
     {
         self.listens()
             && self.ranged.len() < MOST_RANGES
-            && !self.ranged.contains(&block_of(address))
+            && !self.ranged.contains(&block_at(address))
     }
 
     // Returns the range for an address and what the kernel calls the DIMM there.
@@ -163,8 +163,8 @@ impl Dimms {
     }
 
     // Returns whether a text waits.
-    fn holds(&self, said: &[u8], waits: bool) -> bool
-        ensures { result ≡ holds self.now said.now waits }
+    fn stays_held(&self, said: &[u8], waits: bool) -> bool
+        ensures { result ≡ stays_held self.now said.now waits }
     {
         waits && self.listens() && said.len() <= MOST_HELD
     }
@@ -180,13 +180,13 @@ impl Dimms {
         text: &mut Vec<u8>,
     ) -> Result<(), NoMemory>
         ensures text { OnOk result (text.new.items ≡ text.old.items
-            ++ part_text (part_of self.old (option_map (λ told. (told.0, told.1.now)) told.entry) said.now waits)) }
+            ++ part_text (part_passed self.old (option_map (λ told. (told.0, told.1.now)) told.entry) said.now waits)) }
         ensures after { OnOk result (self.new
             ≡ after_part self.old (option_map (λ told. (told.0, told.1.now)) told.entry) said.now waits) }
     {
         let range = self.range_told(told);
-        let holds = self.holds(said, waits);
-        let shown: &[u8] = if holds { &[] } else { said };
+        let held = self.stays_held(said, waits);
+        let shown: &[u8] = if held { &[] } else { said };
         let mut full = Vec::new(alloc);
         push_range(alloc, &mut full, &range)?;
         full.extend_from_slice(&self.held)?;
@@ -196,7 +196,7 @@ impl Dimms {
             return Ok(());
         }
         text.extend_from_slice(&full)?;
-        self.keep(range, if holds { said } else { &[] })
+        self.keep(range, if held { said } else { &[] })
     }
 
     // Remembers a range, and the text that waits.
@@ -205,7 +205,7 @@ impl Dimms {
             ≡ record self.old { ranged = ranged_with self.old.ranged range; held = held.now }) }
     {
         if let Some(range) = range {
-            self.ranged.push(block_of(range.address))?;
+            self.ranged.push(block_at(range.address))?;
         }
         self.held.clear();
         self.held.extend_from_slice(held)?;
@@ -264,8 +264,8 @@ fn slot_in(alloc: Global, text: &[u8]) -> Result<Option<Slot>, NoMemory>
 }
 
 // Returns the block of 64 bytes that has this address.
-fn block_of(address: u64) -> u64
-    ensures { result ≡ block_of address }
+fn block_at(address: u64) -> u64
+    ensures { result ≡ block_at address }
 {
     address / 64
 }
@@ -284,7 +284,7 @@ fn push_range(alloc: Global, text: &mut Vec<u8>, range: &Option<ToldRange>) -> R
 fn push_range_line(alloc: Global, text: &mut Vec<u8>, range: &ToldRange) -> Result<(), NoMemory>
     ensures { OnOk result (text.new.items ≡ text.old.items ++ range_line range.now ++ 10 ∷ []) }
 {
-    let first = block_of(range.address) * 64;
+    let first = block_at(range.address) * 64;
     let last = first + 63;
     text.extend_from_slice(b"range ")?;
     text.extend_from_slice(range.name.bytes())?;

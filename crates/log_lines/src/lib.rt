@@ -3,6 +3,7 @@
 
 mod borders;
 mod comments;
+mod dimm_laws;
 mod dimm_told;
 mod dimms;
 mod laws;
@@ -15,6 +16,10 @@ mod waits;
 
 pub use borders::{Borders, LEAST_MADE};
 pub use comments::{MOST_LAST, MOST_SHOWN};
+pub use dimm_laws::{
+    dimms_change_no_error, nothing_waits_after_an_empty_line, ranges_are_few, ranges_are_told,
+    without_slots_nothing_changes,
+};
 pub use dimms::{MOST_HELD, MOST_RANGES, MOST_SLOTS, ToldRange};
 pub use laws::{
     blocks_bring_their_tables, events_are_never_left_unsaid, machine_checks_are_named_alike,
