@@ -1,0 +1,148 @@
+-- The inputs of a filter as sayings: what holds of ranges and texts holds of the filters.
+use Rattle.std.proofs.Common.{◌≡◌, ℕ, ◌+◌, ◌<◌, ◌≤◌, Bool, true, false, List, [], ◌∷◌, ◌++◌, length, length-append, map, refl, ap, subst, ◌∙◌, arith, Option, None, if◌then◌else◌}
+use Rattle.std.specs.List.{AllByRecursion}
+use Rattle.line_filters.specs.declared.feeding.TheConstants.{MOST_INPUTS}
+use Rattle.ras_script.specs.Inputs.{Input, line, long}
+use Rattle.log_lines.specs.Comments.{exceeds_call}
+use Rattle.log_lines.specs.DimmLaws.{ChangesNoError, HasNoSlot, PrintsEach, plain_part}
+use Rattle.log_lines.specs.Dimms.{DimmsState, Saying, dimm_parts, dimms_after, dimms_begun, dimms_last, dimms_over, heard, part_text}
+use Rattle.log_lines.specs.LogDimm.{told_after}
+use Rattle.log_lines.specs.LogFeed.{LogFeedState, log_after_line, log_last, log_over, log_text, log_texts, log_waits}
+use Rattle.log_lines.specs.LogWithDimms.{LogDimmsState, log_dimms_after, log_saying, log_sayings}
+use Rattle.log_lines.specs.Slots.{SlotLine}
+use Rattle.log_lines.specs.TraceFeed.{TraceFeedState, trace_after_line, trace_last, trace_over, trace_text, trace_texts, trace_waits}
+use Rattle.log_lines.specs.TraceWithDimms.{TraceDimmsState, trace_dimms_after, trace_saying, trace_sayings, trace_told}
+use Rattle.log_lines.specs.declared.log_dimm.ToldInLog.{ToldInLog}
+use Rattle.log_lines.specs.declared.dimms.TheConstants.{MOST_HELD}
+use Rattle.log_lines.proofs.DimmTextLemmas.{held_after, held_short, is_long, heard_held, last_alone, last_is, prints_each, quiet_from_start, sum_is}
+use Rattle.log_lines.proofs.TookLemmas.{log_last_short, trace_last_short}
+
+-- ---- a trace
+
+pub trace_said_are : (state : TraceFeedState) (inputs : List Input) → map (λ (s : Saying). s.said) (trace_sayings state inputs) ≡ trace_texts state inputs
+trace_said_are state [] = refl
+trace_said_are state (line bytes ∷ inputs) = ap (λ (texts : List (List ℕ)). trace_text state (line bytes) ∷ texts) (trace_said_are (trace_after_line state bytes) inputs)
+trace_said_are state (long ∷ inputs) = ap (λ (texts : List (List ℕ)). trace_text state long ∷ texts) (trace_said_are (record state { taken = state.taken + 1 }) inputs)
+
+trace_taken : (state : TraceFeedState) (inputs : List Input) → (trace_over state inputs).taken ≡ state.taken + length inputs
+trace_taken state [] = omega arith
+trace_taken state (line bytes ∷ inputs) = omega (arith, trace_taken (trace_after_line state bytes) inputs)
+trace_taken state (long ∷ inputs) = omega (arith, trace_taken (record state { taken = state.taken + 1 }) inputs)
+
+trace_no_slots : (state : TraceFeedState) (inputs : List Input) → AllByRecursion HasNoSlot inputs → AllByRecursion (λ (s : Saying). s.slot ≡ None) (trace_sayings state inputs)
+trace_no_slots state [] none = tt
+trace_no_slots state (line bytes ∷ inputs) none = (none.0, trace_no_slots (trace_after_line state bytes) inputs none.1)
+trace_no_slots state (long ∷ inputs) none = (refl, trace_no_slots (record state { taken = state.taken + 1 }) inputs none.1)
+
+pub trace_changes : (state : TraceFeedState) (inputs : List Input) (cut : Bool) → state.taken + length inputs < MOST_INPUTS
+    → ChangesNoError (trace_texts state inputs) (trace_last (trace_over state inputs) cut) (dimm_parts dimms_begun (trace_sayings state inputs))
+    (map part_text (dimm_parts dimms_begun (trace_sayings state inputs))) (dimms_last (dimms_over dimms_begun (trace_sayings state inputs)) (trace_last (trace_over state inputs) cut))
+trace_changes state inputs cut few =
+    let sayings : List Saying = trace_sayings state inputs in
+    record {
+      rest = (dimms_over dimms_begun sayings).held;
+      parts_are = refl;
+      each = subst (λ (texts : List (List ℕ)). PrintsEach [] texts (map plain_part (dimm_parts dimms_begun sayings)) (dimms_over dimms_begun sayings).held) (trace_said_are state inputs) (prints_each sayings dimms_begun);
+      end_is = last_is (dimms_over dimms_begun sayings) (trace_last (trace_over state inputs) cut) (held_short sayings dimms_begun (omega arith))
+          (trace_last_short (trace_over state inputs) cut (omega (arith, trace_taken state inputs, few)));
+    }
+
+pub trace_unchanged : (state : TraceFeedState) (inputs : List Input) → AllByRecursion HasNoSlot inputs
+    → map part_text (dimm_parts dimms_begun (trace_sayings state inputs)) ≡ trace_texts state inputs
+trace_unchanged state inputs none =
+    (quiet_from_start (trace_sayings state inputs) (trace_no_slots state inputs none)).texts ∙ trace_said_are state inputs
+
+pub trace_end_unchanged : (state : TraceFeedState) (inputs : List Input) (cut : Bool) → AllByRecursion HasNoSlot inputs
+    → dimms_last (dimms_over dimms_begun (trace_sayings state inputs)) (trace_last (trace_over state inputs) cut) ≡ trace_last (trace_over state inputs) cut
+trace_end_unchanged state inputs cut none =
+    last_alone (dimms_over dimms_begun (trace_sayings state inputs)) (trace_last (trace_over state inputs) cut)
+    (quiet_from_start (trace_sayings state inputs) (trace_no_slots state inputs none)).held
+
+-- ---- a log
+
+pub log_said_are : (told : ToldInLog) (state : LogFeedState) (inputs : List Input) → map (λ (s : Saying). s.said) (log_sayings told state inputs) ≡ log_texts state inputs
+log_said_are told state [] = refl
+log_said_are told state (line bytes ∷ inputs) = ap (λ (texts : List (List ℕ)). log_text state (line bytes) ∷ texts) (log_said_are (told_after told bytes) (log_after_line state bytes) inputs)
+log_said_are told state (long ∷ inputs) = ap (λ (texts : List (List ℕ)). log_text state long ∷ texts) (log_said_are told (record state { taken = state.taken + 1 }) inputs)
+
+log_taken : (state : LogFeedState) (inputs : List Input) → (log_over state inputs).taken ≡ state.taken + length inputs
+log_taken state [] = omega arith
+log_taken state (line bytes ∷ inputs) = omega (arith, log_taken (log_after_line state bytes) inputs)
+log_taken state (long ∷ inputs) = omega (arith, log_taken (record state { taken = state.taken + 1 }) inputs)
+
+log_no_slots : (told : ToldInLog) (state : LogFeedState) (inputs : List Input) → AllByRecursion HasNoSlot inputs → AllByRecursion (λ (s : Saying). s.slot ≡ None) (log_sayings told state inputs)
+log_no_slots told state [] none = tt
+log_no_slots told state (line bytes ∷ inputs) none = (none.0, log_no_slots (told_after told bytes) (log_after_line state bytes) inputs none.1)
+log_no_slots told state (long ∷ inputs) none = (refl, log_no_slots told (record state { taken = state.taken + 1 }) inputs none.1)
+
+pub log_changes : (told : ToldInLog) (state : LogFeedState) (inputs : List Input) (cut : Bool) → state.taken + length inputs < MOST_INPUTS
+    → ChangesNoError (log_texts state inputs) (log_last (log_over state inputs) cut) (dimm_parts dimms_begun (log_sayings told state inputs))
+    (map part_text (dimm_parts dimms_begun (log_sayings told state inputs))) (dimms_last (dimms_over dimms_begun (log_sayings told state inputs)) (log_last (log_over state inputs) cut))
+log_changes told state inputs cut few =
+    let sayings : List Saying = log_sayings told state inputs in
+    record {
+      rest = (dimms_over dimms_begun sayings).held;
+      parts_are = refl;
+      each = subst (λ (texts : List (List ℕ)). PrintsEach [] texts (map plain_part (dimm_parts dimms_begun sayings)) (dimms_over dimms_begun sayings).held) (log_said_are told state inputs) (prints_each sayings dimms_begun);
+      end_is = last_is (dimms_over dimms_begun sayings) (log_last (log_over state inputs) cut) (held_short sayings dimms_begun (omega arith))
+          (log_last_short (log_over state inputs) cut (omega (arith, log_taken state inputs, few)));
+    }
+
+pub log_unchanged : (told : ToldInLog) (state : LogFeedState) (inputs : List Input) → AllByRecursion HasNoSlot inputs
+    → map part_text (dimm_parts dimms_begun (log_sayings told state inputs)) ≡ log_texts state inputs
+log_unchanged told state inputs none =
+    (quiet_from_start (log_sayings told state inputs) (log_no_slots told state inputs none)).texts ∙ log_said_are told state inputs
+
+pub log_end_unchanged : (told : ToldInLog) (state : LogFeedState) (inputs : List Input) (cut : Bool) → AllByRecursion HasNoSlot inputs
+    → dimms_last (dimms_over dimms_begun (log_sayings told state inputs)) (log_last (log_over state inputs) cut) ≡ log_last (log_over state inputs) cut
+log_end_unchanged told state inputs cut none =
+    last_alone (dimms_over dimms_begun (log_sayings told state inputs)) (log_last (log_over state inputs) cut)
+    (quiet_from_start (log_sayings told state inputs) (log_no_slots told state inputs none)).held
+
+-- ---- an empty line
+
+-- behind a line that tells nothing and has no text, nothing waits
+released : (d : DimmsState) (slot : Option SlotLine) → length d.held ≤ MOST_HELD
+    → (dimms_after d (record { slot = slot; told = None; said = []; waits = false })).held ≡ []
+released d slot few = by (heard d slot) (heard_held d slot)
+  where
+    by : (h : DimmsState) → h.held ≡ d.held → (if exceeds_call ([] ++ h.held ++ []) then h else record h { held = [] }).held ≡ []
+    by h same = fits (exceeds_call ([] ++ h.held ++ [])) refl
+      where
+        fits : (long : Bool) → exceeds_call ([] ++ h.held ++ []) ≡ long → (if long then h else record h { held = [] }).held ≡ []
+        fits false is = refl
+        fits true is = absurd (omega (arith, is_long ([] ++ h.held ++ []) is, sum_is [] h.held [], ap (λ (held : List ℕ). length held) same, few))
+
+released_by : (d : DimmsState) (s : Saying) → s.told ≡ None → s.said ≡ [] → s.waits ≡ false → length d.held ≤ MOST_HELD → (dimms_after d s).held ≡ []
+released_by d s told said waits few =
+    ap (λ (t : Option (ℕ × List ℕ)). (dimms_after d (record { slot = s.slot; told = t; said = s.said; waits = s.waits })).held) told
+    ∙ ap (λ (text : List ℕ). (dimms_after d (record { slot = s.slot; told = None; said = text; waits = s.waits })).held) said
+    ∙ ap (λ (w : Bool). (dimms_after d (record { slot = s.slot; told = None; said = []; waits = w })).held) waits
+    ∙ released d s.slot few
+
+empty_told : (state : TraceFeedState) → trace_told state [] ≡ None
+empty_told state = by state.drivers
+  where
+    by : (drivers : Bool) → (if drivers then None else None) ≡ None
+    by true = refl
+    by false = refl
+
+empty_trace_text : (state : TraceFeedState) → trace_text state (line []) ≡ []
+empty_trace_text state = refl
+
+empty_trace_waits : (state : TraceFeedState) → trace_waits state [] ≡ false
+empty_trace_waits state = refl
+
+empty_log_text : (state : LogFeedState) → log_text state (line []) ≡ []
+empty_log_text state = refl
+
+empty_log_waits : (state : LogFeedState) → log_waits state [] ≡ false
+empty_log_waits state = refl
+
+pub trace_released : (state : TraceDimmsState) → length state.dimms.held ≤ MOST_HELD → (trace_dimms_after state (line [])).dimms.held ≡ []
+trace_released state few =
+    released_by state.dimms (trace_saying state.feed (line [])) (empty_told state.feed) (empty_trace_text state.feed) (empty_trace_waits state.feed) few
+
+pub log_released : (state : LogDimmsState) → length state.dimms.held ≤ MOST_HELD → (log_dimms_after state (line [])).dimms.held ≡ []
+log_released state few =
+    released_by state.dimms (log_saying state.told state.feed (line [])) refl (empty_log_text state.feed) (empty_log_waits state.feed) few
