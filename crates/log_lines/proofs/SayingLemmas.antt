@@ -1,16 +1,28 @@
 -- The inputs of a filter as sayings: what holds of ranges and texts holds of the filters.
-use Rattle.std.proofs.Common.{◌≡◌, ℕ, ◌+◌, ◌<◌, ◌≤◌, Bool, true, false, List, [], ◌∷◌, ◌++◌, length, length-append, map, refl, ap, subst, ◌∙◌, arith, Option, None, if◌then◌else◌}
+use Rattle.std.proofs.Common.{◌≡◌, ℕ, ◌+◌, ◌<◌, ◌≤◌, Bool, true, false, List, [], ◌∷◌, ◌++◌, length, length-append, map, refl, ap, subst, ◌∙◌, arith, Option, None, Some, if◌then◌else◌}
+use Rattle.std.specs.Option.{option_map_or}
 use Rattle.std.specs.List.{AllByRecursion}
+use Rattle.bank_lines.specs.Counts.{named_found}
+use Rattle.bank_lines.specs.LogAlong.{error_in}
+use Rattle.bank_lines.specs.Texts.{found_text}
+use Rattle.block_lines.specs.LogLines.{report_log_line}
+use Rattle.block_lines.specs.Reports.{Reporting, after_report, is_ended_by, line_remark, without_sources}
+use Rattle.block_lines.specs.Texts.{blocks_text_at, blocks_text_beside, end_text, end_text_beside, remark_text}
+use Rattle.block_lines.specs.declared.report.OpenReport.{OpenReport}
+use Rattle.event_lines.specs.Driver.{any_event_of}
+use Rattle.event_lines.specs.Filter.{event_text_by}
+use Rattle.log_lines.specs.Borders.{check_said}
+use Rattle.log_lines.specs.DimmTold.{traced_dimm_of}
 use Rattle.line_filters.specs.declared.feeding.TheConstants.{MOST_INPUTS}
 use Rattle.ras_script.specs.Inputs.{Input, line, long}
-use Rattle.log_lines.specs.Comments.{exceeds_call}
+use Rattle.log_lines.specs.Comments.{exceeds_call, fitted}
 use Rattle.log_lines.specs.DimmLaws.{ChangesNoError, HasNoSlot, PrintsEach, plain_part}
 use Rattle.log_lines.specs.Dimms.{DimmsState, Saying, dimm_parts, dimms_after, dimms_begun, dimms_last, dimms_over, heard, part_text}
 use Rattle.log_lines.specs.LogDimm.{told_after}
 use Rattle.log_lines.specs.LogFeed.{LogFeedState, log_after_line, log_last, log_over, log_text, log_texts, log_waits}
 use Rattle.log_lines.specs.LogWithDimms.{LogDimmsState, log_dimms_after, log_saying, log_sayings}
 use Rattle.log_lines.specs.Slots.{SlotLine}
-use Rattle.log_lines.specs.TraceFeed.{TraceFeedState, trace_after_line, trace_last, trace_over, trace_text, trace_texts, trace_waits}
+use Rattle.log_lines.specs.TraceFeed.{TraceFeedState, before_line, found_with_cap, gap_said, trace_after_line, trace_last, trace_over, trace_text, trace_texts, trace_waits}
 use Rattle.log_lines.specs.TraceWithDimms.{TraceDimmsState, trace_dimms_after, trace_saying, trace_sayings, trace_told}
 use Rattle.log_lines.specs.declared.log_dimm.ToldInLog.{ToldInLog}
 use Rattle.log_lines.specs.declared.dimms.TheConstants.{MOST_HELD}
@@ -123,18 +135,41 @@ released_by d s told said waits few =
 empty_told : (state : TraceFeedState) → trace_told state [] ≡ None
 empty_told state = by state.drivers
   where
-    by : (drivers : Bool) → (if drivers then None else None) ≡ None
+    by : (drivers : Bool) → (if drivers then None else traced_dimm_of []) ≡ None
     by true = refl
     by false = refl
 
+-- an empty line ends no report
+no_end : (work : Option OpenReport) → option_map_or (λ report. is_ended_by report (report_log_line []).stamp (report_log_line []).marking) work false ≡ false
+no_end None = refl
+no_end (Some report) = refl
+
+no_blocks : (r : Reporting) (number : ℕ) → blocks_text_at r number (report_log_line []) ≡ []
+no_blocks r number =
+    ap (λ (ends : Bool). (if ends then end_text r else []) ++ remark_text number (line_remark (if ends then after_report r r.work else r) (report_log_line []))) (no_end r.work)
+
+no_blocks_beside : (border : Option ℕ) (r : Reporting) (number : ℕ) → blocks_text_beside border r number (report_log_line []) ≡ []
+no_blocks_beside border r number =
+    ap (λ (ends : Bool). (if ends then end_text_beside border r else []) ++ remark_text number (line_remark (if ends then after_report r r.work else r) (report_log_line []))) (no_end r.work)
+
 empty_trace_text : (state : TraceFeedState) → trace_text state (line []) ≡ []
-empty_trace_text state = refl
+empty_trace_text state =
+    by state.drivers
+  where
+    before : List ℕ
+    before = gap_said (state.taken + 1) [] ++ found_text (state.taken + 1) (named_found state.counts (found_with_cap state.boot state.cap []))
+
+    by : (drivers : Bool) → fitted (state.taken + 1) [] (before ++ event_text_by (before_line state.reports state.taken) [] (any_event_of drivers [])) ≡ []
+    by true = ap (λ (text : List ℕ). fitted (state.taken + 1) [] (before ++ text)) (no_blocks (without_sources state.reports) (state.taken + 1))
+    by false = ap (λ (text : List ℕ). fitted (state.taken + 1) [] (before ++ text)) (no_blocks (without_sources state.reports) (state.taken + 1))
 
 empty_trace_waits : (state : TraceFeedState) → trace_waits state [] ≡ false
 empty_trace_waits state = refl
 
 empty_log_text : (state : LogFeedState) → log_text state (line []) ≡ []
-empty_log_text state = refl
+empty_log_text state =
+    ap (λ (text : List ℕ). fitted (state.taken + 1) [] (check_said state.borders.checks (state.taken + 1) [] (error_in state.errors []) ++ text))
+    (no_blocks_beside state.borders.reports (without_sources state.reports) (state.taken + 1))
 
 empty_log_waits : (state : LogFeedState) → log_waits state [] ≡ false
 empty_log_waits state = refl
