@@ -1,5 +1,5 @@
 -- The inputs of a filter as sayings: what holds of ranges and texts holds of the filters.
-use Rattle.std.proofs.Common.{◌≡◌, ℕ, ◌+◌, ◌<◌, ◌≤◌, Bool, true, false, List, [], ◌∷◌, ◌++◌, length, length-append, map, refl, ap, subst, ◌∙◌, arith, Option, None, Some, if◌then◌else◌}
+use Rattle.std.proofs.Common.{◌≡◌, ℕ, ◌+◌, ◌<◌, ◌≤◌, Bool, true, false, List, [], ◌∷◌, ◌++◌, length, length-append, map, ◌^◌, refl, sym, ap, inl, subst, ◌∙◌, arith, Option, None, Some, if◌then◌else◌}
 use Rattle.std.specs.Option.{option_map_or}
 use Rattle.std.specs.List.{AllByRecursion}
 use Rattle.bank_lines.specs.Counts.{named_found}
@@ -13,6 +13,8 @@ use Rattle.event_lines.specs.Driver.{any_event_of}
 use Rattle.event_lines.specs.Filter.{event_text_by}
 use Rattle.log_lines.specs.Borders.{check_said}
 use Rattle.log_lines.specs.DimmTold.{traced_dimm_of}
+use Rattle.block_lines.specs.Whole.{AreWholeLines}
+use Rattle.line_filters.specs.Pieces.{AreShort}
 use Rattle.line_filters.specs.declared.feeding.TheConstants.{MOST_INPUTS}
 use Rattle.ras_script.specs.Inputs.{Input, line, long}
 use Rattle.log_lines.specs.Comments.{exceeds_call, fitted}
@@ -26,7 +28,9 @@ use Rattle.log_lines.specs.TraceFeed.{TraceFeedState, before_line, found_with_ca
 use Rattle.log_lines.specs.TraceWithDimms.{TraceDimmsState, trace_dimms_after, trace_saying, trace_sayings, trace_told}
 use Rattle.log_lines.specs.declared.log_dimm.ToldInLog.{ToldInLog}
 use Rattle.log_lines.specs.declared.dimms.TheConstants.{MOST_HELD}
-use Rattle.log_lines.proofs.DimmTextLemmas.{held_after, held_short, is_long, heard_held, last_alone, last_is, prints_each, quiet_from_start, sum_is}
+use Rattle.log_lines.proofs.DimmTextLemmas.{end_whole, held_after, held_short, is_long, heard_held, last_alone, last_is, parts_short, parts_whole, prints_each, quiet_from_start, sum_is}
+use Rattle.log_lines.proofs.LawLemmas.{log_short, trace_short}
+use Rattle.log_lines.proofs.WholeLemmas.{log_end_whole, log_whole, trace_end_whole, trace_whole}
 use Rattle.log_lines.proofs.TookLemmas.{log_last_short, trace_last_short}
 
 -- ---- a trace
@@ -110,6 +114,38 @@ pub log_end_unchanged : (told : ToldInLog) (state : LogFeedState) (inputs : List
 log_end_unchanged told state inputs cut none =
     last_alone (dimms_over dimms_begun (log_sayings told state inputs)) (log_last (log_over state inputs) cut)
     (quiet_from_start (log_sayings told state inputs) (log_no_slots told state inputs none)).held
+
+-- ---- short, and whole lines
+
+pub trace_dimms_short : (state : TraceFeedState) (inputs : List Input) → state.taken + length inputs < 2 ^ 64 → AreShort (map part_text (dimm_parts dimms_begun (trace_sayings state inputs)))
+trace_dimms_short state inputs few =
+    parts_short (trace_sayings state inputs) dimms_begun (subst (λ (texts : List (List ℕ)). AreShort texts) (sym (trace_said_are state inputs)) (trace_short state inputs few))
+
+trace_said_whole : (state : TraceFeedState) (inputs : List Input) → AllByRecursion AreWholeLines (map (λ (s : Saying). s.said) (trace_sayings state inputs))
+trace_said_whole state inputs = subst (λ (texts : List (List ℕ)). AllByRecursion AreWholeLines texts) (sym (trace_said_are state inputs)) (trace_whole state inputs)
+
+pub trace_dimms_whole : (state : TraceFeedState) (inputs : List Input) → AllByRecursion AreWholeLines (map part_text (dimm_parts dimms_begun (trace_sayings state inputs)))
+trace_dimms_whole state inputs = parts_whole (trace_sayings state inputs) dimms_begun (inl refl) (trace_said_whole state inputs)
+
+pub trace_dimms_end_whole : (state : TraceFeedState) (inputs : List Input) (cut : Bool)
+    → AreWholeLines (dimms_last (dimms_over dimms_begun (trace_sayings state inputs)) (trace_last (trace_over state inputs) cut))
+trace_dimms_end_whole state inputs cut =
+    end_whole (trace_sayings state inputs) dimms_begun (trace_last (trace_over state inputs) cut) (inl refl) (trace_said_whole state inputs) (trace_end_whole (trace_over state inputs) cut)
+
+pub log_dimms_short : (told : ToldInLog) (state : LogFeedState) (inputs : List Input) → state.taken + length inputs < 2 ^ 64 → AreShort (map part_text (dimm_parts dimms_begun (log_sayings told state inputs)))
+log_dimms_short told state inputs few =
+    parts_short (log_sayings told state inputs) dimms_begun (subst (λ (texts : List (List ℕ)). AreShort texts) (sym (log_said_are told state inputs)) (log_short state inputs few))
+
+log_said_whole : (told : ToldInLog) (state : LogFeedState) (inputs : List Input) → AllByRecursion AreWholeLines (map (λ (s : Saying). s.said) (log_sayings told state inputs))
+log_said_whole told state inputs = subst (λ (texts : List (List ℕ)). AllByRecursion AreWholeLines texts) (sym (log_said_are told state inputs)) (log_whole state inputs)
+
+pub log_dimms_whole : (told : ToldInLog) (state : LogFeedState) (inputs : List Input) → AllByRecursion AreWholeLines (map part_text (dimm_parts dimms_begun (log_sayings told state inputs)))
+log_dimms_whole told state inputs = parts_whole (log_sayings told state inputs) dimms_begun (inl refl) (log_said_whole told state inputs)
+
+pub log_dimms_end_whole : (told : ToldInLog) (state : LogFeedState) (inputs : List Input) (cut : Bool)
+    → AreWholeLines (dimms_last (dimms_over dimms_begun (log_sayings told state inputs)) (log_last (log_over state inputs) cut))
+log_dimms_end_whole told state inputs cut =
+    end_whole (log_sayings told state inputs) dimms_begun (log_last (log_over state inputs) cut) (inl refl) (log_said_whole told state inputs) (log_end_whole (log_over state inputs) cut)
 
 -- ---- an empty line
 
