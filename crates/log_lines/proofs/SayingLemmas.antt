@@ -1,5 +1,5 @@
 -- The inputs of a filter as sayings: what holds of ranges and texts holds of the filters.
-use Rattle.std.proofs.Common.{◌≡◌, ℕ, ◌+◌, ◌<◌, ◌≤◌, Bool, true, false, List, [], ◌∷◌, ◌++◌, length, length-append, map, ◌^◌, refl, sym, ap, inl, subst, ◌∙◌, arith, Option, None, Some, if◌then◌else◌}
+use Rattle.std.proofs.Common.{◌≡◌, ℕ, ◌+◌, ◌<◌, ◌≤◌, Bool, true, false, List, [], ◌∷◌, ◌++◌, length, map, ◌^◌, refl, sym, ap, inl, subst, ◌∙◌, arith, Option, None, Some, if◌then◌else◌}
 use Rattle.std.specs.Option.{option_map_or}
 use Rattle.std.specs.List.{AllByRecursion}
 use Rattle.bank_lines.specs.Counts.{named_found}
@@ -12,13 +12,13 @@ use Rattle.block_lines.specs.declared.report.OpenReport.{OpenReport}
 use Rattle.event_lines.specs.Driver.{any_event_of}
 use Rattle.event_lines.specs.Filter.{event_text_by}
 use Rattle.log_lines.specs.Borders.{check_said}
-use Rattle.log_lines.specs.DimmTold.{traced_dimm_of}
+use Rattle.event_lines.specs.DimmTold.{traced_dimm_of}
 use Rattle.block_lines.specs.Whole.{AreWholeLines}
 use Rattle.line_filters.specs.Pieces.{AreShort}
 use Rattle.line_filters.specs.declared.feeding.TheConstants.{MOST_INPUTS}
 use Rattle.ras_script.specs.Inputs.{Input, line, long}
 use Rattle.log_lines.specs.Comments.{exceeds_call, fitted}
-use Rattle.log_lines.specs.DimmLaws.{ChangesNoError, HasNoSlot, PrintsEach, plain_part}
+use Rattle.log_lines.specs.DimmLaws.{ChangesNoError, HasNoSlot, PrintsTexts, plain_part}
 use Rattle.log_lines.specs.Dimms.{DimmsState, Saying, dimm_parts, dimms_after, dimms_begun, dimms_last, dimms_over, heard, part_text}
 use Rattle.log_lines.specs.LogDimm.{told_after}
 use Rattle.log_lines.specs.LogFeed.{LogFeedState, log_after_line, log_last, log_over, log_text, log_texts, log_waits}
@@ -28,7 +28,7 @@ use Rattle.log_lines.specs.TraceFeed.{TraceFeedState, before_line, found_with_ca
 use Rattle.log_lines.specs.TraceWithDimms.{TraceDimmsState, trace_dimms_after, trace_saying, trace_sayings, trace_told}
 use Rattle.log_lines.specs.declared.log_dimm.ToldInLog.{ToldInLog}
 use Rattle.log_lines.specs.declared.dimms.TheConstants.{MOST_HELD}
-use Rattle.log_lines.proofs.DimmTextLemmas.{end_whole, held_after, held_short, is_long, heard_held, last_alone, last_is, parts_short, parts_whole, prints_each, quiet_from_start, sum_is}
+use Rattle.log_lines.proofs.DimmTextLemmas.{end_whole, held_short, is_long, heard_held, last_alone, last_is, parts_short, parts_whole, prints_each, quiet_from_start, sum_is}
 use Rattle.log_lines.proofs.LawLemmas.{log_short, trace_short}
 use Rattle.log_lines.proofs.WholeLemmas.{log_end_whole, log_whole, trace_end_whole, trace_whole}
 use Rattle.log_lines.proofs.TookLemmas.{log_last_short, trace_last_short}
@@ -58,7 +58,7 @@ trace_changes state inputs cut few =
     record {
       rest = (dimms_over dimms_begun sayings).held;
       parts_are = refl;
-      each = subst (λ (texts : List (List ℕ)). PrintsEach [] texts (map plain_part (dimm_parts dimms_begun sayings)) (dimms_over dimms_begun sayings).held) (trace_said_are state inputs) (prints_each sayings dimms_begun);
+      each = subst (λ (texts : List (List ℕ)). PrintsTexts [] texts (map plain_part (dimm_parts dimms_begun sayings)) (dimms_over dimms_begun sayings).held) (trace_said_are state inputs) (prints_each sayings dimms_begun);
       end_is = last_is (dimms_over dimms_begun sayings) (trace_last (trace_over state inputs) cut) (held_short sayings dimms_begun (omega arith))
           (trace_last_short (trace_over state inputs) cut (omega (arith, trace_taken state inputs, few)));
     }
@@ -99,7 +99,7 @@ log_changes told state inputs cut few =
     record {
       rest = (dimms_over dimms_begun sayings).held;
       parts_are = refl;
-      each = subst (λ (texts : List (List ℕ)). PrintsEach [] texts (map plain_part (dimm_parts dimms_begun sayings)) (dimms_over dimms_begun sayings).held) (log_said_are told state inputs) (prints_each sayings dimms_begun);
+      each = subst (λ (texts : List (List ℕ)). PrintsTexts [] texts (map plain_part (dimm_parts dimms_begun sayings)) (dimms_over dimms_begun sayings).held) (log_said_are told state inputs) (prints_each sayings dimms_begun);
       end_is = last_is (dimms_over dimms_begun sayings) (log_last (log_over state inputs) cut) (held_short sayings dimms_begun (omega arith))
           (log_last_short (log_over state inputs) cut (omega (arith, log_taken state inputs, few)));
     }

@@ -4,7 +4,6 @@
 mod borders;
 mod comments;
 mod dimm_laws;
-mod dimm_told;
 mod dimms;
 mod laws;
 mod log_dimm;
