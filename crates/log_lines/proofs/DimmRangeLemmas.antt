@@ -1,15 +1,15 @@
 -- Which ranges are printed: what lines told, each block once, and few.
-use Rattle.std.proofs.Common.{◌≡◌, ℕ, ◌+◌, ◌<◌, ◌≤◌, ◌==◌, ◌&&◌, ◌||◌, Bool, true, false, not, List, [], ◌∷◌, ◌++◌, length, length-append, refl, sym, ap, subst, ◌∙◌, arith, nat_lt, Option, None, Some, inl, inr, if◌then◌else◌}
+use Rattle.std.proofs.Common.{◌≡◌, ℕ, ◌+◌, ◌≤◌, ◌==◌, ◌&&◌, ◌||◌, Bool, true, false, not, List, [], ◌∷◌, ◌++◌, length, length-append, refl, sym, subst, ◌∙◌, arith, nat_lt, Option, None, Some, inl, inr, if◌then◌else◌}
 use Rattle.std.proofs.lemmas.Bool.Decides.{nat_tests}
 use Rattle.std.proofs.lemmas.List.Folds.{list_any-append}
 use Rattle.std.proofs.lemmas.Slice.Eq.{bytes_eq-Decides}
-use Rattle.std.specs.List.{AllByRecursion, find, list_any}
+use Rattle.std.specs.List.{AllByRecursion, list_any}
 use Rattle.std.specs.Option.{option_map}
 use Rattle.std.specs.Prelude.{⊤}
 use Rattle.std.specs.Str.{bytes_eq}
 use Rattle.log_lines.specs.Comments.{exceeds_call}
-use Rattle.log_lines.specs.DimmLaws.{AreApart, IsOfOne, IsToldRange, before_ranges, ranges_in}
-use Rattle.log_lines.specs.Dimms.{DimmsState, Part, Saying, block_at, dimm_parts, dimms_after, dimms_begun, heard, in_heading, listens, part_at, part_text, range_told, ranged_with, slot_called, stays_held, takes_range, whole_part}
+use Rattle.log_lines.specs.DimmLaws.{AreApart, IsOfOne, IsToldRange, before_ranges, told_ranges}
+use Rattle.log_lines.specs.Dimms.{DimmsState, Part, Saying, block_at, dimm_parts, dimms_begun, heard, in_heading, listens, part_text, range_told, ranged_with, slot_called, stays_held, takes_range, whole_part}
 use Rattle.log_lines.specs.Slots.{SlotLine}
 use Rattle.log_lines.specs.declared.dimms.ToldRange.{ToldRange}
 use Rattle.log_lines.specs.declared.dimms.TheConstants.{MOST_RANGES, MOST_SLOTS}
@@ -103,16 +103,16 @@ put_before P (Some range) ranges one all = (one, all)
 
 from_by : (S : SlotLine → Type 0) (T : ℕ × List ℕ → Type 0) (h : DimmsState) (s : Saying) (sayings : List Saying) (stays long : Bool)
     → AllByRecursion S h.slots → IfRange (IsFrom T S) (range_told h s.told)
-    → ((d : DimmsState) → AllByRecursion S d.slots → AllByRecursion (IsFrom T S) (ranges_in (dimm_parts d sayings)))
+    → ((d : DimmsState) → AllByRecursion S d.slots → AllByRecursion (IsFrom T S) (told_ranges (dimm_parts d sayings)))
     → AllByRecursion (IsFrom T S)
     (before_ranges (range_in (if long then record { range = None; released = []; said = s.said } else record { range = range_told h s.told; released = h.held; said = if stays then [] else s.said }))
-    (ranges_in (dimm_parts (if long then h else record h { ranged = ranged_with h.ranged (range_told h s.told); held = if stays then s.said else [] }) sayings)))
+    (told_ranges (dimm_parts (if long then h else record h { ranged = ranged_with h.ranged (range_told h s.told); held = if stays then s.said else [] }) sayings)))
 from_by S T h s sayings stays true all one rest = rest h all
 from_by S T h s sayings stays false all one rest =
     put_before (IsFrom T S) (range_told h s.told) _ one (rest (record h { ranged = ranged_with h.ranged (range_told h s.told); held = if stays then s.said else [] }) all)
 
 ranges_from : (S : SlotLine → Type 0) (T : ℕ × List ℕ → Type 0) (sayings : List Saying) (d : DimmsState) → AllByRecursion S d.slots → AllByRecursion (Gives S T) sayings
-    → AllByRecursion (IsFrom T S) (ranges_in (dimm_parts d sayings))
+    → AllByRecursion (IsFrom T S) (told_ranges (dimm_parts d sayings))
 ranges_from S T [] d all gives = tt
 ranges_from S T (s ∷ sayings) d all gives =
     let h : DimmsState = heard d s.slot in
@@ -137,15 +137,16 @@ ToldIn sayings t = IsOfOne (λ s. s.told ≡ Some t) sayings
 
 all_give : (sayings : List Saying) → AllByRecursion (Gives (SlotIn sayings) (ToldIn sayings)) sayings
 all_give [] = tt
-all_give (s ∷ sayings) =
-    ((λ x is. inl is, λ t is. inl is),
-    later (SlotIn sayings) (ToldIn sayings) (SlotIn (s ∷ sayings)) (ToldIn (s ∷ sayings)) (λ x one. inr one) (λ t one. inr one) sayings (all_give sayings))
+all_give (s ∷ sayings) = (
+  (λ x is. inl is, λ t is. inl is),
+  later (SlotIn sayings) (ToldIn sayings) (SlotIn (s ∷ sayings)) (ToldIn (s ∷ sayings)) (λ x one. inr one) (λ t one. inr one) sayings (all_give sayings),
+)
 
 told_by : (all : List Saying) (ranges : List ToldRange) → AllByRecursion (IsFrom (ToldIn all) (SlotIn all)) ranges → AllByRecursion (IsToldRange all) ranges
 told_by all [] from = tt
 told_by all (range ∷ ranges) from = (record { label = from.0.label; told = from.0.told; slot = from.0.slot }, told_by all ranges from.1)
 
-pub ranges_told : (sayings : List Saying) → AllByRecursion (IsToldRange sayings) (ranges_in (dimm_parts dimms_begun sayings))
+pub ranges_told : (sayings : List Saying) → AllByRecursion (IsToldRange sayings) (told_ranges (dimm_parts dimms_begun sayings))
 ranges_told sayings = told_by sayings _ (ranges_from (SlotIn sayings) (ToldIn sayings) sayings dimms_begun tt (all_give sayings))
 
 -- ---- no two ranges are of one block
@@ -237,25 +238,25 @@ range_room d (Some told) few = by (listens d) (nat_lt (length d.ranged) MOST_RAN
     by true true false is = some named is
 
 few_by : (h : DimmsState) (s : Saying) (sayings : List Saying) (stays long : Bool) → length h.ranged ≤ MOST_RANGES
-    → ((d : DimmsState) → length d.ranged ≤ MOST_RANGES → AreFew d.ranged (ranges_in (dimm_parts d sayings)))
+    → ((d : DimmsState) → length d.ranged ≤ MOST_RANGES → AreFew d.ranged (told_ranges (dimm_parts d sayings)))
     → AreFew h.ranged
     (before_ranges (range_in (if long then record { range = None; released = []; said = s.said } else record { range = range_told h s.told; released = h.held; said = if stays then [] else s.said }))
-    (ranges_in (dimm_parts (if long then h else record h { ranged = ranged_with h.ranged (range_told h s.told); held = if stays then s.said else [] }) sayings)))
+    (told_ranges (dimm_parts (if long then h else record h { ranged = ranged_with h.ranged (range_told h s.told); held = if stays then s.said else [] }) sayings)))
 few_by h s sayings stays true few rest = rest h few
 few_by h s sayings stays false few rest =
     few_with h.ranged (range_told h s.told) _ (range_fresh h s.told)
     (rest (record h { ranged = ranged_with h.ranged (range_told h s.told); held = if stays then s.said else [] }) (range_room h s.told few))
 
-ranges_few : (sayings : List Saying) (d : DimmsState) → length d.ranged ≤ MOST_RANGES → AreFew d.ranged (ranges_in (dimm_parts d sayings))
+ranges_few : (sayings : List Saying) (d : DimmsState) → length d.ranged ≤ MOST_RANGES → AreFew d.ranged (told_ranges (dimm_parts d sayings))
 ranges_few [] d few = record { fresh = tt; apart = tt; few = omega (arith, few) }
 ranges_few (s ∷ sayings) d few =
     let h : DimmsState = heard d s.slot in
-    subst (λ (ranged : List ℕ). AreFew ranged (ranges_in (dimm_parts d (s ∷ sayings)))) (heard_ranged d s.slot)
+    subst (λ (ranged : List ℕ). AreFew ranged (told_ranges (dimm_parts d (s ∷ sayings)))) (heard_ranged d s.slot)
     (few_by h s sayings (stays_held h s.said s.waits) (exceeds_call (part_text (whole_part h s.told s.said s.waits)))
     (subst (λ (ranged : List ℕ). length ranged ≤ MOST_RANGES) (sym (heard_ranged d s.slot)) few) (ranges_few sayings))
 
-pub ranges_apart : (sayings : List Saying) → AreApart (ranges_in (dimm_parts dimms_begun sayings))
+pub ranges_apart : (sayings : List Saying) → AreApart (told_ranges (dimm_parts dimms_begun sayings))
 ranges_apart sayings = (ranges_few sayings dimms_begun (omega arith)).apart
 
-pub few_ranges : (sayings : List Saying) → length (ranges_in (dimm_parts dimms_begun sayings)) ≤ MOST_RANGES
+pub few_ranges : (sayings : List Saying) → length (told_ranges (dimm_parts dimms_begun sayings)) ≤ MOST_RANGES
 few_ranges sayings = omega (arith, (ranges_few sayings dimms_begun (omega arith)).few)

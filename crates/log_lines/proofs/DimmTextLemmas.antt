@@ -1,12 +1,13 @@
 -- What is printed with ranges are the texts, each once.
-use Rattle.std.proofs.Common.{◌≡◌, ℕ, ◌+◌, ◌<◌, ◌≤◌, ◌==◌, ◌&&◌, Bool, true, false, not, List, [], ◌∷◌, ◌++◌, append-nil, length, length-append, map, refl, sym, ap, subst, ◌∙◌, arith, nat_lt, Option, None, Some, inl, inr, if◌then◌else◌}
+use Rattle.std.proofs.Common.{◌≡◌, ℕ, ◌+◌, ◌<◌, ◌≤◌, ◌&&◌, Bool, true, false, not, List, [], ◌∷◌, ◌++◌, append-nil, length, length-append, map, refl, sym, ap, subst, ◌∙◌, arith, nat_lt, Option, None, Some, inl, inr, if◌then◌else◌}
 use Rattle.std.proofs.lemmas.Bool.Decides.{nat_tests}
 use Rattle.std.specs.List.{AllByRecursion}
+use Rattle.block_lines.specs.Whole.{AreWholeLines}
+use Rattle.block_lines.proofs.WholeLemmas.{both, ends}
 use Rattle.line_filters.specs.Pieces.{AreShort}
-use Rattle.line_filters.specs.declared.feeding.TheConstants.{MOST_AT_ONCE}
 use Rattle.log_lines.specs.Comments.{exceeds_call}
-use Rattle.log_lines.specs.DimmLaws.{DoesNotFit, PrintsEach, plain_part}
-use Rattle.log_lines.specs.Dimms.{DimmsState, Part, Saying, after_part, dimm_parts, dimms_after, dimms_begun, dimms_last, dimms_over, heard, part_at, part_passed, part_text, in_heading, listens, range_told, range_text, ranged_with, stays_held, whole_part}
+use Rattle.log_lines.specs.DimmLaws.{DoesNotFit, PrintsTexts, plain_part}
+use Rattle.log_lines.specs.Dimms.{DimmsState, Part, Saying, after_part, dimm_parts, dimms_after, dimms_begun, dimms_last, dimms_over, heard, part_passed, part_text, in_heading, listens, range_line, range_told, range_text, ranged_with, stays_held, whole_part}
 use Rattle.log_lines.specs.Slots.{SlotLine}
 use Rattle.log_lines.specs.declared.dimms.ToldRange.{ToldRange}
 use Rattle.log_lines.specs.declared.dimms.TheConstants.{MOST_HELD, MOST_SLOTS}
@@ -50,9 +51,9 @@ shown_within true text = omega arith
 shown_within false text = omega arith
 
 each_by : (d : DimmsState) (range : Option ToldRange) (said : List ℕ) (sayings : List Saying)
-    → ((d : DimmsState) → PrintsEach d.held (map (λ (s : Saying). s.said) sayings) (map plain_part (dimm_parts d sayings)) (dimms_over d sayings).held)
+    → ((d : DimmsState) → PrintsTexts d.held (map (λ (s : Saying). s.said) sayings) (map plain_part (dimm_parts d sayings)) (dimms_over d sayings).held)
     → (stays long : Bool) → exceeds_call (range_text range ++ d.held ++ (if stays then [] else said)) ≡ long
-    → PrintsEach d.held (said ∷ map (λ (s : Saying). s.said) sayings)
+    → PrintsTexts d.held (said ∷ map (λ (s : Saying). s.said) sayings)
     (plain_part (if long then record { range = None; released = []; said = said } else record { range = range; released = d.held; said = if stays then [] else said })
     ∷ map plain_part (dimm_parts (if long then d else record d { ranged = ranged_with d.ranged range; held = if stays then said else [] }) sayings))
     (dimms_over (if long then d else record d { ranged = ranged_with d.ranged range; held = if stays then said else [] }) sayings).held
@@ -64,12 +65,12 @@ each_by d range said sayings rest false false is =
     inl (refl, rest (record d { ranged = ranged_with d.ranged range; held = [] }))
 
 pub prints_each : (sayings : List Saying) (d : DimmsState)
-    → PrintsEach d.held (map (λ (s : Saying). s.said) sayings) (map plain_part (dimm_parts d sayings)) (dimms_over d sayings).held
+    → PrintsTexts d.held (map (λ (s : Saying). s.said) sayings) (map plain_part (dimm_parts d sayings)) (dimms_over d sayings).held
 prints_each [] d = refl
 prints_each (s ∷ sayings) d =
     let h : DimmsState = heard d s.slot in
     let stays : Bool = stays_held h s.said s.waits in
-    subst (λ (held : List ℕ). PrintsEach held (s.said ∷ map (λ (s : Saying). s.said) sayings) (map plain_part (dimm_parts d (s ∷ sayings))) (dimms_over d (s ∷ sayings)).held)
+    subst (λ (held : List ℕ). PrintsTexts held (s.said ∷ map (λ (s : Saying). s.said) sayings) (map plain_part (dimm_parts d (s ∷ sayings))) (dimms_over d (s ∷ sayings)).held)
     (heard_held d s.slot)
     (each_by h (range_told h s.told) s.said sayings (prints_each sayings) stays (exceeds_call (range_text (range_told h s.told) ++ h.held ++ (if stays then [] else s.said))) refl)
 
@@ -125,11 +126,12 @@ quiet_stays ranged said false = refl
 
 quiet_part : (ranged : List ℕ) (told : Option (ℕ × List ℕ)) (said : List ℕ) (waits : Bool)
     → (part_text (part_passed (quiet ranged) told said waits) ≡ said) × (after_part (quiet ranged) told said waits ≡ quiet ranged)
-quiet_part ranged told said waits =
-    (ap (λ (range : Option ToldRange). text_by range (stays_held (quiet ranged) said waits)) (quiet_range ranged told)
-    ∙ ap (text_by None) (quiet_stays ranged said waits) ∙ plain (exceeds_call said),
-    ap (λ (range : Option ToldRange). state_by range (stays_held (quiet ranged) said waits)) (quiet_range ranged told)
-    ∙ ap (state_by None) (quiet_stays ranged said waits) ∙ same (exceeds_call said))
+quiet_part ranged told said waits = (
+  ap (λ (range : Option ToldRange). text_by range (stays_held (quiet ranged) said waits)) (quiet_range ranged told)
+      ∙ ap (text_by None) (quiet_stays ranged said waits) ∙ plain (exceeds_call said),
+  ap (λ (range : Option ToldRange). state_by range (stays_held (quiet ranged) said waits)) (quiet_range ranged told)
+      ∙ ap (state_by None) (quiet_stays ranged said waits) ∙ same (exceeds_call said),
+)
   where
     whole : Option ToldRange → Bool → Part
     whole range stays = record { range = range; released = []; said = if stays then [] else said }
@@ -187,3 +189,55 @@ last_alone d last none = ap (λ (held : List ℕ). if exceeds_call (held ++ last
     by : (long : Bool) → (if long then last else last) ≡ last
     by true = refl
     by false = refl
+
+-- ---- each is whole lines
+
+abbrev held_in : DimmsState → List ℕ
+held_in dimms = dimms.held
+
+range_whole : (range : Option ToldRange) → AreWholeLines (range_text range)
+range_whole None = inl refl
+range_whole (Some range) = ends (range_line range)
+
+whole_by : (h : DimmsState) (range : Option ToldRange) (said : List ℕ) (stays long : Bool) → AreWholeLines h.held → AreWholeLines said
+    → AreWholeLines (part_text (if long then record { range = None; released = []; said = said } else record { range = range; released = h.held; said = if stays then [] else said }))
+whole_by h range said stays true held whole = whole
+whole_by h range said true false held whole =
+    both (range_text range ++ h.held) [] (both (range_text range) h.held (range_whole range) held) (inl refl)
+whole_by h range said false false held whole =
+    both (range_text range ++ h.held) said (both (range_text range) h.held (range_whole range) held) whole
+
+held_whole_by : (h : DimmsState) (range : Option ToldRange) (said : List ℕ) (stays long : Bool) → AreWholeLines h.held → AreWholeLines said
+    → AreWholeLines (held_in (if long then h else record h { ranged = ranged_with h.ranged range; held = if stays then said else [] }))
+held_whole_by h range said stays true held whole = held
+held_whole_by h range said true false held whole = whole
+held_whole_by h range said false false held whole = inl refl
+
+heard_whole : (d : DimmsState) (slot : Option SlotLine) → AreWholeLines d.held → AreWholeLines (heard d slot).held
+heard_whole d slot held = subst (λ (text : List ℕ). AreWholeLines text) (sym (heard_held d slot)) held
+
+after_whole : (d : DimmsState) (s : Saying) → AreWholeLines d.held → AreWholeLines s.said → AreWholeLines (dimms_after d s).held
+after_whole d s held whole =
+    let h : DimmsState = heard d s.slot in
+    held_whole_by h (range_told h s.told) s.said (stays_held h s.said s.waits) (exceeds_call (part_text (whole_part h s.told s.said s.waits))) (heard_whole d s.slot held) whole
+
+pub parts_whole : (sayings : List Saying) (d : DimmsState) → AreWholeLines d.held → AllByRecursion AreWholeLines (map (λ (s : Saying). s.said) sayings)
+    → AllByRecursion AreWholeLines (map part_text (dimm_parts d sayings))
+parts_whole [] d held whole = tt
+parts_whole (s ∷ sayings) d held whole =
+    let h : DimmsState = heard d s.slot in (
+      whole_by h (range_told h s.told) s.said (stays_held h s.said s.waits) (exceeds_call (part_text (whole_part h s.told s.said s.waits))) (heard_whole d s.slot held) whole.0,
+      parts_whole sayings (dimms_after d s) (after_whole d s held whole.0) whole.1,
+    )
+
+held_whole : (sayings : List Saying) (d : DimmsState) → AreWholeLines d.held → AllByRecursion AreWholeLines (map (λ (s : Saying). s.said) sayings) → AreWholeLines (dimms_over d sayings).held
+held_whole [] d held whole = held
+held_whole (s ∷ sayings) d held whole = held_whole sayings (dimms_after d s) (after_whole d s held whole.0) whole.1
+
+pub end_whole : (sayings : List Saying) (d : DimmsState) (last : List ℕ) → AreWholeLines d.held → AllByRecursion AreWholeLines (map (λ (s : Saying). s.said) sayings) → AreWholeLines last
+    → AreWholeLines (dimms_last (dimms_over d sayings) last)
+end_whole sayings d last held whole ending = by (exceeds_call ((dimms_over d sayings).held ++ last))
+  where
+    by : (long : Bool) → AreWholeLines (if long then last else (dimms_over d sayings).held ++ last)
+    by true = ending
+    by false = both (dimms_over d sayings).held last (held_whole sayings d held whole) ending

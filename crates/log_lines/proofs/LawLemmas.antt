@@ -1,5 +1,5 @@
 -- What holds of all texts of the filters.
-use Rattle.std.proofs.Common.{◌≡◌, ℕ, ◌+◌, ◌^◌, ◌<◌, ◌≤◌, ◌==◌, ◌&&◌, Bool, true, false, List, [], ◌∷◌, ◌++◌, length, codes, decimal, refl, ap, arith, nat_lt, if◌then◌else◌}
+use Rattle.std.proofs.Common.{◌≡◌, ℕ, ◌+◌, ◌^◌, ◌<◌, ◌==◌, ◌&&◌, Bool, true, false, List, [], ◌∷◌, ◌++◌, length, codes, decimal, refl, ap, arith, nat_lt, if◌then◌else◌}
 use Rattle.block_lines.specs.Reports.{Reporting, has_error, without_sources}
 use Rattle.block_lines.specs.Texts.{block_text, ghes_line, hest_line, table_text}
 use Rattle.block_lines.specs.declared.report.OpenReport.{OpenReport}

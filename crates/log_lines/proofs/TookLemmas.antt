@@ -1,5 +1,5 @@
 -- A filter took an input, if the input's text is appended and the filter goes on after it.
-use Rattle.std.proofs.Common.{◌≡◌, ℕ, ◌+◌, ◌<◌, ◌≤◌, ◌^◌, Bool, false, List, [], ◌∷◌, ◌++◌, None, length, refl, arith}
+use Rattle.std.proofs.Common.{◌≡◌, ℕ, ◌+◌, ◌<◌, ◌≤◌, Bool, false, List, [], ◌++◌, None, length, refl, arith}
 use Rattle.line_filters.specs.Feed.{TookInput}
 use Rattle.line_filters.specs.declared.feeding.TheConstants.{MOST_AT_ONCE, MOST_INPUTS}
 use Rattle.ras_script.specs.Inputs.{Input, line, long}

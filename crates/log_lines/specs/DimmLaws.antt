@@ -17,7 +17,8 @@ abbrev pub said_in_trace : ℕ → ℕ → ℕ → Bool → List Input → List 
 said_in_trace boot cap began drivers inputs = trace_sayings (trace_begun boot cap began drivers) inputs
 
 abbrev pub said_in_log : ℕ → ℕ → ℕ → Borders → List Input → List Saying
-said_in_log boot cap began borders inputs = log_sayings (record { place = None }) (log_start boot cap began borders) inputs
+said_in_log boot cap began borders inputs =
+    log_sayings (record { place = None }) (log_start boot cap began borders) inputs
 
 -- the parts that are printed at the inputs of a trace, and of a log
 abbrev pub trace_parts : ℕ → ℕ → ℕ → Bool → List Input → List Part
@@ -38,23 +39,24 @@ DoesNotFit held text =
     (range : Option ToldRange) × (MOST_AT_ONCE < length (range_text range) + length held + length text)
 
 -- What is printed at each of these texts, if `held` waits before the first and `rest` behind the last: what waits and
--- the text; or what waits, while the text waits from now on; or only the text, if it doesn't fit, and what waits goes on
--- waiting.
-abbrev pub PrintsEach : List ℕ → List (List ℕ) → List (List ℕ) → List ℕ → Type 0
-PrintsEach held [] [] rest = rest ≡ held
-PrintsEach held [] (out ∷ outs) rest = ⊥
-PrintsEach held (text ∷ texts) [] rest = ⊥
-PrintsEach held (text ∷ texts) (out ∷ outs) rest =
-    ((out ≡ held ++ text) × PrintsEach [] texts outs rest)
-    ⊎ (((out ≡ held) × PrintsEach text texts outs rest)
-    ⊎ ((out ≡ text) × (DoesNotFit held text × PrintsEach held texts outs rest)))
+-- the text; or what waits, while the text waits from now on; or only the text, if it doesn't fit, and what waits goes
+-- on waiting.
+abbrev pub PrintsTexts : List ℕ → List (List ℕ) → List (List ℕ) → List ℕ → Type 0
+PrintsTexts held [] [] rest = rest ≡ held
+PrintsTexts held [] (out ∷ outs) rest = ⊥
+PrintsTexts held (text ∷ texts) [] rest = ⊥
+PrintsTexts held (text ∷ texts) (out ∷ outs) rest =
+    ((out ≡ held ++ text) × PrintsTexts [] texts outs rest)
+    ⊎ (((out ≡ held) × PrintsTexts text texts outs rest)
+    ⊎ ((out ≡ text) × (DoesNotFit held text × PrintsTexts held texts outs rest)))
 
 -- What is printed are the texts of a feed, each once, and ranges: each part is a range or nothing and then what the
 -- texts ask for, and at the end what still waits comes before the feed's last text.
-pub record ChangesNoError (texts : List (List ℕ)) (last : List ℕ) (parts : List Part) (printed : List (List ℕ)) (end : List ℕ) : Type 0 where
+pub record ChangesNoError (texts : List (List ℕ)) (last : List ℕ) (parts : List Part) (printed : List (List ℕ))
+    (end : List ℕ) : Type 0 where
   pub rest : List ℕ
   pub parts_are : printed ≡ map part_text parts
-  pub each : PrintsEach [] texts (map plain_part parts) rest
+  pub each : PrintsTexts [] texts (map plain_part parts) rest
   pub end_is : end ≡ rest ++ last
 
 -- ---- without slots
@@ -71,9 +73,9 @@ before_ranges None ranges = ranges
 before_ranges (Some range) ranges = range ∷ ranges
 
 -- the ranges of parts, in order
-abbrev pub ranges_in : List Part → List ToldRange
-ranges_in [] = []
-ranges_in (part ∷ parts) = before_ranges part.range (ranges_in parts)
+abbrev pub told_ranges : List Part → List ToldRange
+told_ranges [] = []
+told_ranges (part ∷ parts) = before_ranges part.range (told_ranges parts)
 
 -- this holds of one of the sayings
 abbrev pub IsOfOne : (Saying → Type 0) → List Saying → Type 0

@@ -73,7 +73,8 @@ abbrev pub range_told : DimmsState → Option (ℕ × List ℕ) → Option ToldR
 range_told dimms None = None
 range_told dimms (Some told) =
     if takes_range dimms told.0
-    then option_map (λ (slot : SlotLine). record { name = slot.name; address = told.0 }) (slot_called dimms.slots told.1)
+    then option_map (λ (slot : SlotLine). record { name = slot.name; address = told.0 })
+    (slot_called dimms.slots told.1)
     else None
 
 -- the line `range` of a module's name and the 64 bytes of the block
@@ -114,7 +115,8 @@ whole_part dimms told said waits = record {
 -- If one call can't print all of it, only the text of the input is printed, and what waits goes on waiting.
 abbrev pub part_passed : DimmsState → Option (ℕ × List ℕ) → List ℕ → Bool → Part
 part_passed dimms told said waits =
-    if exceeds_call (part_text (whole_part dimms told said waits)) then record { range = None; released = []; said = said }
+    if exceeds_call (part_text (whole_part dimms told said waits))
+    then record { range = None; released = []; said = said }
     else whole_part dimms told said waits
 
 abbrev pub with_whole : DimmsState → Option (ℕ × List ℕ) → List ℕ → Bool → DimmsState

@@ -4,7 +4,6 @@ pub mod TraceFeed
 pub mod LogFeed
 pub mod Waits
 pub mod Slots
-pub mod DimmTold
 pub mod Dimms
 pub mod TraceWithDimms
 pub mod LogDimm

@@ -42,7 +42,8 @@ log_dimms_after state input = record {
 
 abbrev pub log_dimms_last : LogDimmsState → List Input → Bool → List ℕ
 log_dimms_last state inputs cut =
-    dimms_last (dimms_over state.dimms (log_sayings state.told state.feed inputs)) (log_last (log_over state.feed inputs) cut)
+    dimms_last (dimms_over state.dimms (log_sayings state.told state.feed inputs))
+    (log_last (log_over state.feed inputs) cut)
 
 abbrev pub log_dimms_makes : LogDimmsState → Feed
 log_dimms_makes state = record {

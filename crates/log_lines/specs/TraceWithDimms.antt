@@ -1,8 +1,8 @@
 -- What `lines trace` prints: the texts of a trace, and before an error the range of the DIMM that the kernel names.
-use Rattle.std.specs.Prelude.{ℕ, ◌^◌, ◌/◌, ◌%◌, ◌==◌, Bool, false, List, [], ◌∷◌, map, Option, None, if◌then◌else◌}
+use Rattle.std.specs.Prelude.{ℕ, Bool, false, List, [], ◌∷◌, map, Option, None, if◌then◌else◌}
 use Rattle.ras_script.specs.Inputs.{Input, line, long}
 use Rattle.line_filters.specs.Feed.{Feed}
-use Rattle.log_lines.specs.DimmTold.{traced_dimm_of}
+use Rattle.event_lines.specs.DimmTold.{traced_dimm_of}
 use Rattle.log_lines.specs.Dimms.{DimmsState, Saying, dimm_parts, dimms_after, dimms_begun, dimms_last, dimms_over, part_text, slot_line}
 use Rattle.log_lines.specs.TraceFeed.{TraceFeedState, trace_after, trace_begun, trace_last, trace_over, trace_text, trace_waits}
 
@@ -37,7 +37,8 @@ trace_dimms_after state input = record {
 
 abbrev pub trace_dimms_last : TraceDimmsState → List Input → Bool → List ℕ
 trace_dimms_last state inputs cut =
-    dimms_last (dimms_over state.dimms (trace_sayings state.feed inputs)) (trace_last (trace_over state.feed inputs) cut)
+    dimms_last (dimms_over state.dimms (trace_sayings state.feed inputs))
+    (trace_last (trace_over state.feed inputs) cut)
 
 abbrev pub trace_dimms_makes : TraceDimmsState → Feed
 trace_dimms_makes state = record {

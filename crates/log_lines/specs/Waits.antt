@@ -1,5 +1,5 @@
 -- Which machine checks wait for the name of a DIMM.
-use Rattle.std.specs.Prelude.{ℕ, ◌^◌, ◌/◌, ◌%◌, ◌==◌, Bool, false}
+use Rattle.std.specs.Prelude.{◌^◌, ◌/◌, ◌%◌, ◌==◌, Bool, false}
 use Rattle.ras_facts.specs.declared.bank.BankReport.{BankReport}
 use Rattle.bank_lines.specs.declared.found.Finding.{Finding}
 use Rattle.bank_lines.specs.declared.found.Finding.TheVariants.{Whole}

@@ -5,7 +5,7 @@ ghost use Rattle.std.specs.List.{AllByRecursion};
 ghost use Rattle.line_filters.specs.declared.feeding.TheConstants.{MOST_INPUTS};
 ghost use Rattle.ras_script.specs.Inputs.{Input, line};
 ghost use Rattle.log_lines.specs.DimmLaws.{AreApart, ChangesNoError, HasNoSlot, IsToldRange, log_parts};
-ghost use Rattle.log_lines.specs.DimmLaws.{ranges_in, said_in_log, said_in_trace, trace_parts};
+ghost use Rattle.log_lines.specs.DimmLaws.{told_ranges, said_in_log, said_in_trace, trace_parts};
 ghost use Rattle.log_lines.specs.LogFeed.{log_feed};
 ghost use Rattle.log_lines.specs.LogWithDimms.{LogDimmsState, log_dimms_after, log_with_dimms};
 ghost use Rattle.log_lines.specs.TraceFeed.{trace_feed};
@@ -57,22 +57,22 @@ pub fn without_slots_nothing_changes()
 pub fn ranges_are_told()
     ensures trace { (boot cap began : ℕ) (drivers : Bool) (inputs : List Input)
         → AllByRecursion (IsToldRange (said_in_trace boot cap began drivers inputs))
-        (ranges_in (trace_parts boot cap began drivers inputs)) }
+        (told_ranges (trace_parts boot cap began drivers inputs)) }
     ensures log { (boot cap began : ℕ) (borders : Borders) (inputs : List Input)
         → AllByRecursion (IsToldRange (said_in_log boot cap began borders inputs))
-        (ranges_in (log_parts boot cap began borders inputs)) }
+        (told_ranges (log_parts boot cap began borders inputs)) }
 {}
 
 /// No two ranges of a filter have an address in common, and there are at most 1,500.
 pub fn ranges_are_few()
     ensures trace { (boot cap began : ℕ) (drivers : Bool) (inputs : List Input)
-        → AreApart (ranges_in (trace_parts boot cap began drivers inputs)) }
+        → AreApart (told_ranges (trace_parts boot cap began drivers inputs)) }
     ensures trace_count { (boot cap began : ℕ) (drivers : Bool) (inputs : List Input)
-        → length (ranges_in (trace_parts boot cap began drivers inputs)) ≤ 1500 }
+        → length (told_ranges (trace_parts boot cap began drivers inputs)) ≤ 1500 }
     ensures log { (boot cap began : ℕ) (borders : Borders) (inputs : List Input)
-        → AreApart (ranges_in (log_parts boot cap began borders inputs)) }
+        → AreApart (told_ranges (log_parts boot cap began borders inputs)) }
     ensures log_count { (boot cap began : ℕ) (borders : Borders) (inputs : List Input)
-        → length (ranges_in (log_parts boot cap began borders inputs)) ≤ 1500 }
+        → length (told_ranges (log_parts boot cap began borders inputs)) ≤ 1500 }
 {}
 
 /// After an empty line nothing waits. What waits has at most 512 bytes: that holds at the start, and

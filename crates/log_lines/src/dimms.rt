@@ -131,7 +131,8 @@ impl Dimms {
 
     // Returns the first slot that the kernel calls so.
     fn slot_called(&self, label: &[u8]) -> Option<Label>
-        ensures { result ≡ option_map (λ (slot : SlotLine). slot.name) (slot_called self.now.slots label.now) }
+        ensures { result ≡ option_map (λ (slot : SlotLine). slot.name)
+            (slot_called self.now.slots label.now) }
     {
         for slot in &self.slots {
             if slot.label.as_slice() == label {
@@ -152,7 +153,8 @@ impl Dimms {
 
     // Returns the range for an address and what the kernel calls the DIMM there.
     fn range_told(&self, told: Option<(u64, &[u8])>) -> Option<ToldRange>
-        ensures { result ≡ range_told self.now (option_map (λ told. (told.0, told.1.now)) told.entry) }
+        ensures { result
+            ≡ range_told self.now (option_map (λ told. (told.0, told.1.now)) told.entry) }
     {
         let (address, label) = told?;
         if !self.takes_range(address) {
@@ -180,9 +182,11 @@ impl Dimms {
         text: &mut Vec<u8>,
     ) -> Result<(), NoMemory>
         ensures text { OnOk result (text.new.items ≡ text.old.items
-            ++ part_text (part_passed self.old (option_map (λ told. (told.0, told.1.now)) told.entry) said.now waits)) }
+            ++ part_text (part_passed self.old
+            (option_map (λ told. (told.0, told.1.now)) told.entry) said.now waits)) }
         ensures after { OnOk result (self.new
-            ≡ after_part self.old (option_map (λ told. (told.0, told.1.now)) told.entry) said.now waits) }
+            ≡ after_part self.old (option_map (λ told. (told.0, told.1.now)) told.entry) said.now
+            waits) }
     {
         let range = self.range_told(told);
         let held = self.stays_held(said, waits);

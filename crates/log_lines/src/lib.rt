@@ -4,7 +4,6 @@
 mod borders;
 mod comments;
 mod dimm_laws;
-mod dimm_told;
 mod dimms;
 mod laws;
 mod log_dimm;
@@ -24,6 +23,7 @@ pub use dimms::{MOST_HELD, MOST_RANGES, MOST_SLOTS, ToldRange};
 pub use laws::{
     blocks_bring_their_tables, events_are_never_left_unsaid, machine_checks_are_named_alike,
     only_what_a_trace_has_is_left_out, texts_are_short, texts_are_whole,
+    texts_with_dimms_are_whole,
 };
 pub use log_feed::LogFeed;
 pub use log_with_dimms::LogWithDimms;

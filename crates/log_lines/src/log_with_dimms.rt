@@ -5,7 +5,7 @@ ghost use Rattle.bank_lines.specs.declared.log_line.TheConstants.{LAST_SECOND};
 ghost use Rattle.line_filters.specs.declared.feeding.TheConstants.{MOST_INPUTS};
 ghost use Rattle.ras_script.specs.Inputs.{line, long};
 ghost use Rattle.log_lines.specs.Dimms.{part_at, part_text};
-ghost use Rattle.log_lines.specs.LogWithDimms.{log_dimms_after, log_dimms_makes, log_saying};
+ghost use Rattle.log_lines.specs.LogWithDimms.{log_dimms_after, log_dimms_begun, log_dimms_makes, log_saying};
 ghost use Rattle.log_lines.specs.LogWithDimms.{log_with_dimms};
 
 use crate::dimms::Dimms;
@@ -45,6 +45,7 @@ impl LogWithDimms {
     pub fn new(alloc: Global, boot: u64, cap: u64, began: u64, borders: Borders) -> LogWithDimms
         requires { began ≤ LAST_SECOND }
         ensures makes { log_dimms_makes result ≡ log_with_dimms boot cap began borders }
+        ensures begins { result ≡ log_dimms_begun boot cap began borders }
     {
         LogWithDimms {
             feed: LogFeed::new(alloc, boot, cap, began, borders),

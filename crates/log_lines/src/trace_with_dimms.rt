@@ -6,12 +6,12 @@ ghost use Rattle.bank_lines.specs.declared.log_line.TheConstants.{LAST_SECOND};
 ghost use Rattle.line_filters.specs.declared.feeding.TheConstants.{MOST_INPUTS};
 ghost use Rattle.ras_script.specs.Inputs.{line, long};
 ghost use Rattle.log_lines.specs.Dimms.{listens, part_at, part_text};
-ghost use Rattle.log_lines.specs.TraceWithDimms.{trace_dimms_after, trace_dimms_makes, trace_saying};
+ghost use Rattle.log_lines.specs.TraceWithDimms.{trace_dimms_after, trace_dimms_begun, trace_dimms_makes, trace_saying};
 ghost use Rattle.log_lines.specs.TraceWithDimms.{trace_told, trace_with_dimms};
 
 use crate::TraceFeed;
-use crate::dimm_told::traced_dimm;
 use crate::dimms::Dimms;
+use event_lines::traced_dimm;
 use line_filters::{InputFilter, InputLine};
 use ras_base::NoMemory;
 use std::alloc::Global;
@@ -45,6 +45,7 @@ impl TraceWithDimms {
     pub fn new(alloc: Global, boot: u64, cap: u64, began: u64, drivers: bool) -> TraceWithDimms
         requires { began ≤ LAST_SECOND }
         ensures makes { trace_dimms_makes result ≡ trace_with_dimms boot cap began drivers }
+        ensures begins { result ≡ trace_dimms_begun boot cap began drivers }
     {
         TraceWithDimms {
             feed: TraceFeed::new(alloc, boot, cap, began, drivers),

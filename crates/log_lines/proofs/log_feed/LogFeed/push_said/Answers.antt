@@ -1,4 +1,4 @@
-use Rattle.std.proofs.Common.{◌≡◌, ℕ, ◌+◌, List, ◌++◌, ap, ◌∙◌}
+use Rattle.std.proofs.Common.{ℕ, ◌+◌, List, ◌++◌, ap, ◌∙◌}
 use Rattle.log_lines.specs.LogFeed.{LogFeedState, checks_said, reports_after_line, reports_said}
 use Rattle.log_lines.proofs.JoinLemmas.{joined_two}
 use Rattle.log_lines.proofs.log_feed.LogFeed.push_said.Goals as goal

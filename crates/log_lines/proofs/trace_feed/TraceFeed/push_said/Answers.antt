@@ -2,7 +2,7 @@ use Rattle.std.proofs.Common.{◌≡◌, ℕ, ◌+◌, List, ◌++◌, ap, subst
 use Rattle.bank_lines.specs.Counts.{named_found}
 use Rattle.bank_lines.specs.Texts.{found_text}
 use Rattle.bank_lines.specs.declared.found.Finding.{Finding}
-use Rattle.log_lines.specs.TraceFeed.{TraceFeedState, finding_with_cap, found_with_cap, gap_said, trace_said, traced_text}
+use Rattle.log_lines.specs.TraceFeed.{TraceFeedState, finding_with_cap, found_with_cap, gap_said, trace_said}
 use Rattle.log_lines.specs.Waits.{waits}
 use Rattle.log_lines.proofs.JoinLemmas.{joined_three}
 use Rattle.log_lines.proofs.trace_feed.TraceFeed.push_said.Goals as goal

@@ -1,4 +1,4 @@
-use Rattle.std.proofs.Common.{◌≡◌, ℕ, Bool, List, ◌++◌, Option, OnOk, ap, subst, ◌∙◌}
+use Rattle.std.proofs.Common.{◌≡◌, ℕ, List, ◌++◌, Option, OnOk, ap, subst, ◌∙◌}
 use Rattle.ras_script.specs.Inputs.{line}
 use Rattle.log_lines.specs.Dimms.{DimmsState, Part, heard, part_at, part_text, range_told, slot_line}
 use Rattle.log_lines.specs.TraceFeed.{TraceFeedState, trace_after, trace_text, trace_waits}
