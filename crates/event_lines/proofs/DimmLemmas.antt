@@ -41,6 +41,28 @@ chosen : (lacks : Bool) (label : List ℕ) (o : Option ℕ)
 chosen true label o = refl
 chosen false label o = refl
 
+-- what is read behind a message and ` on `
+module _ (told rest : List ℕ) (plain : mark_place (codes " on") (32 ∷ told) ≡ None) where
+  abbrev spaced : List ℕ
+  spaced = before_more told
+
+  abbrev whole : List ℕ
+  whole = spaced ++ (codes " on " ++ rest)
+
+  behind_on : drop (length spaced + 4) whole ≡ rest
+  behind_on =
+      let size : length spaced + 4 ≡ length (spaced ++ codes " on ") = omega (arith, length-append spaced (codes " on ")) in
+      ap (drop (length spaced + 4)) (sym (append_assoc spaced (codes " on ") rest))
+      ∙ drop_at (spaced ++ codes " on ") rest (length spaced + 4) (sym size)
+
+  pub behind_message : label_told whole ≡ (if lacks_place told then None else Some rest)
+  behind_message =
+      ap (λ (o : Option ℕ). read_then o (λ place. if lacks_place (after 32 (take place whole)) then None else Some (drop (place + 4) whole)))
+      (on_first spaced rest (none_before told plain))
+      ∙ ap (λ (text : List ℕ). if lacks_place (after 32 text) then None else Some (drop (length spaced + 4) whole)) (take-append_seam spaced (codes " on " ++ rest))
+      ∙ ap (λ (text : List ℕ). if lacks_place text then None else Some (drop (length spaced + 4) whole)) (behind_space told)
+      ∙ ap (λ (label : List ℕ). if lacks_place told then None else Some label) behind_on
+
 module _ (p : PrintedDriver) (is : IsDriver p) (plain : mark_place (codes " on") (spaced_message p) ≡ None) where
   abbrev inside : List ℕ
   inside = driver_inside p
@@ -69,26 +91,12 @@ module _ (p : PrintedDriver) (is : IsDriver p) (plain : mark_place (codes " on")
       ∙ ap (λ (rest : List ℕ). after 58 (codes "1 " ++ rest)) (sym (append_assoc (severity_name p.severity) (codes " error") (58 ∷ said)))
       ∙ after_is 58 (opening p.severity) said (opening_lacks p.severity is.severity)
 
-  behind_on : drop (length message + 4) said ≡ p.label
-  behind_on =
-      let size : length message + 4 ≡ length (message ++ codes " on ") = omega (arith, length-append message (codes " on ")) in
-      ap (drop (length message + 4)) (sym (append_assoc message (codes " on ") p.label))
-      ∙ drop_at (message ++ codes " on ") p.label (length message + 4) (sym size)
-
-  label_is : label_told said ≡ (if lacks_place p.message then None else Some p.label)
-  label_is =
-      ap (λ (o : Option ℕ). read_then o (λ place. if lacks_place (after 32 (take place said)) then None else Some (drop (place + 4) said)))
-      (on_first message p.label (none_before p.message plain))
-      ∙ ap (λ (text : List ℕ). if lacks_place (after 32 text) then None else Some (drop (length message + 4) said)) (take-append_seam message (codes " on " ++ p.label))
-      ∙ ap (λ (text : List ℕ). if lacks_place text then None else Some (drop (length message + 4) said)) (behind_space p.message)
-      ∙ ap (λ (label : List ℕ). if lacks_place p.message then None else Some label) behind_on
-
   pub dimm_is : dimm_told (printed_driver p) ≡ dimm_of_driver p
   dimm_is =
       ap (λ (o : Option (List ℕ)). read_then o (λ inside.
       read_then (label_told (after 58 (before_inside inside (printed_driver p)))) (λ label.
       option_map (λ address. (address, label)) (address_in inside)))) (controller_at front inside (no_mark p is))
       ∙ ap (λ (text : List ℕ). read_then (label_told text) (λ label. option_map (λ address. (address, label)) (address_in inside))) said_is
-      ∙ ap (λ (o : Option (List ℕ)). read_then o (λ label. option_map (λ address. (address, label)) (address_in inside))) label_is
+      ∙ ap (λ (o : Option (List ℕ)). read_then o (λ label. option_map (λ address. (address, label)) (address_in inside))) (behind_message p.message p.label plain)
       ∙ ap (λ (o : Option ℕ). read_then (if lacks_place p.message then None else Some p.label) (λ (label : List ℕ). option_map (λ address. (address, label)) o)) (address_is p is)
       ∙ chosen (lacks_place p.message) p.label p.address

@@ -12,7 +12,7 @@ mod UnnamedLemmas
 mod KindLemmas
 mod MemoryLemmas
 mod DriverLemmas
-mod DimmLemmas
+pub mod DimmLemmas
 mod ExtlogLemmas
 mod LineLemmas
 mod NameLemmas

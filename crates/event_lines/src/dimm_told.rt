@@ -67,8 +67,10 @@ fn before_inside<'a>(inside: &[u8], text: &'a [u8]) -> &'a [u8]
     &text[..text.len().saturating_sub(inside.len() + AROUND)]
 }
 
-// Returns the label behind a message, unless the driver says that it doesn't know the place.
-fn label_told(said: &[u8]) -> Option<&[u8]>
+/// Returns what follows ` on ` in a text that begins with a driver's message, or `None` if the driver
+/// says by its message that it doesn't know the place. The message has a space before it, and may be
+/// empty.
+pub fn label_told(said: &[u8]) -> Option<&[u8]>
     ensures { option_map (λ label. label.now) result ≡ label_told said.now }
 {
     let mark = b" on ";

@@ -19,7 +19,7 @@ mod section_event;
 mod traced;
 
 pub use aer::{AerDevice, AerEvent, AerSeverity, TlpHeader};
-pub use dimm_told::traced_dimm;
+pub use dimm_told::{label_told, traced_dimm};
 pub use driver_laws::{
     driver_events_are_never_passed_over, driver_events_are_read, printed_dimms_are_told,
 };
