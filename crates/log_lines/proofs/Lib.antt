@@ -9,3 +9,4 @@ mod LawLemmas
 mod WholeLemmas
 mod CheckLemmas
 mod BorderLemmas
+mod LogDimmLemmas
