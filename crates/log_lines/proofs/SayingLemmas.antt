@@ -20,7 +20,7 @@ use Rattle.ras_script.specs.Inputs.{Input, line, long}
 use Rattle.log_lines.specs.Comments.{exceeds_call, fitted}
 use Rattle.log_lines.specs.DimmLaws.{ChangesNoError, HasNoSlot, PrintsTexts, plain_part}
 use Rattle.log_lines.specs.Dimms.{DimmsState, Saying, dimm_parts, dimms_after, dimms_begun, dimms_last, dimms_over, heard, part_text}
-use Rattle.log_lines.specs.LogDimm.{told_after}
+use Rattle.log_lines.specs.LogDimm.{log_told_after}
 use Rattle.log_lines.specs.LogFeed.{LogFeedState, log_after_line, log_last, log_over, log_text, log_texts, log_waits}
 use Rattle.log_lines.specs.LogWithDimms.{LogDimmsState, log_dimms_after, log_saying, log_sayings}
 use Rattle.log_lines.specs.Slots.{SlotLine}
@@ -78,7 +78,7 @@ trace_end_unchanged state inputs cut none =
 
 pub log_said_are : (told : ToldInLog) (state : LogFeedState) (inputs : List Input) → map (λ (s : Saying). s.said) (log_sayings told state inputs) ≡ log_texts state inputs
 log_said_are told state [] = refl
-log_said_are told state (line bytes ∷ inputs) = ap (λ (texts : List (List ℕ)). log_text state (line bytes) ∷ texts) (log_said_are (told_after told bytes) (log_after_line state bytes) inputs)
+log_said_are told state (line bytes ∷ inputs) = ap (λ (texts : List (List ℕ)). log_text state (line bytes) ∷ texts) (log_said_are (log_told_after told bytes) (log_after_line state bytes) inputs)
 log_said_are told state (long ∷ inputs) = ap (λ (texts : List (List ℕ)). log_text state long ∷ texts) (log_said_are told (record state { taken = state.taken + 1 }) inputs)
 
 log_taken : (state : LogFeedState) (inputs : List Input) → (log_over state inputs).taken ≡ state.taken + length inputs
@@ -88,7 +88,7 @@ log_taken state (long ∷ inputs) = omega (arith, log_taken (record state { take
 
 log_no_slots : (told : ToldInLog) (state : LogFeedState) (inputs : List Input) → AllByRecursion HasNoSlot inputs → AllByRecursion (λ (s : Saying). s.slot ≡ None) (log_sayings told state inputs)
 log_no_slots told state [] none = tt
-log_no_slots told state (line bytes ∷ inputs) none = (none.0, log_no_slots (told_after told bytes) (log_after_line state bytes) inputs none.1)
+log_no_slots told state (line bytes ∷ inputs) none = (none.0, log_no_slots (log_told_after told bytes) (log_after_line state bytes) inputs none.1)
 log_no_slots told state (long ∷ inputs) none = (refl, log_no_slots told (record state { taken = state.taken + 1 }) inputs none.1)
 
 pub log_changes : (told : ToldInLog) (state : LogFeedState) (inputs : List Input) (cut : Bool) → state.taken + length inputs < MOST_INPUTS

@@ -64,8 +64,8 @@ edac_dimm head text =
 -- ---- a firmware's report
 
 -- the number of a report and what its line says, given the head before the first brace and the text behind it
-abbrev pub report_words : List ℕ → List ℕ → Option (ℕ × List ℕ)
-report_words head text =
+abbrev pub own_words : List ℕ → List ℕ → Option (ℕ × List ℕ)
+own_words head text =
     read_then (decimal_of (2 ^ 64 - 1) (up_to 125 text)) (λ number.
     read_then (value_after error_mark (after 125 text)) (λ words. provided (is_own head) (Some (number, words))))
 
@@ -119,10 +119,10 @@ abbrev pub edac_place : List ℕ → Option ℕ
 edac_place line = mark_place (codes "EDAC MC") (up_to 123 line)
 
 abbrev pub report_dimm : ToldInLog → List ℕ → List ℕ → Option (ℕ × List ℕ)
-report_dimm told head text = read_then (report_words head text) (λ said. words_dimm told.place said.0 said.1)
+report_dimm told head text = read_then (own_words head text) (λ said. words_dimm told.place said.0 said.1)
 
-abbrev pub report_after : ToldInLog → List ℕ → List ℕ → Option (ℕ × ℕ)
-report_after told head text = option_map_or (λ said. words_after told.place said.0 said.1) (report_words head text) told.place
+abbrev pub place_after : ToldInLog → List ℕ → List ℕ → Option (ℕ × ℕ)
+place_after told head text = option_map_or (λ said. words_after told.place said.0 said.1) (own_words head text) told.place
 
 abbrev pub whole_dimm : ToldInLog → List ℕ → Option (ℕ × List ℕ)
 whole_dimm told line =
@@ -131,11 +131,11 @@ whole_dimm told line =
 
 abbrev pub whole_after : ToldInLog → List ℕ → Option (ℕ × ℕ)
 whole_after told line =
-    option_map_or (λ place. told.place) (edac_place line) (report_after told (up_to 123 line) (after 123 line))
+    option_map_or (λ place. told.place) (edac_place line) (place_after told (up_to 123 line) (after 123 line))
 
 -- the address and the DIMM that a line tells, given what was told before, and what is told after it
 abbrev pub dimm_in_log : ToldInLog → List ℕ → Option (ℕ × List ℕ)
 dimm_in_log told line = whole_dimm told (without_return line)
 
-abbrev pub told_after : ToldInLog → List ℕ → ToldInLog
-told_after told line = record { place = whole_after told (without_return line) }
+abbrev pub log_told_after : ToldInLog → List ℕ → ToldInLog
+log_told_after told line = record { place = whole_after told (without_return line) }

@@ -3,7 +3,7 @@ use Rattle.std.specs.Prelude.{ℕ, Bool, false, List, [], ◌∷◌, map, None}
 use Rattle.ras_script.specs.Inputs.{Input, line, long}
 use Rattle.line_filters.specs.Feed.{Feed}
 use Rattle.log_lines.specs.Dimms.{DimmsState, Saying, dimm_parts, dimms_after, dimms_begun, dimms_last, dimms_over, part_text, slot_line}
-use Rattle.log_lines.specs.LogDimm.{dimm_in_log, told_after}
+use Rattle.log_lines.specs.LogDimm.{dimm_in_log, log_told_after}
 use Rattle.log_lines.specs.LogFeed.{LogFeedState, log_after, log_last, log_over, log_start, log_text, log_waits}
 use Rattle.log_lines.specs.declared.borders.Borders.{Borders}
 use Rattle.log_lines.specs.declared.log_dimm.ToldInLog.{ToldInLog}
@@ -25,7 +25,7 @@ log_saying told state (line bytes) = record {
 log_saying told state long = record { slot = None; told = None; said = log_text state long; waits = false }
 
 abbrev pub told_after_input : ToldInLog → Input → ToldInLog
-told_after_input told (line bytes) = told_after told bytes
+told_after_input told (line bytes) = log_told_after told bytes
 told_after_input told long = told
 
 abbrev pub log_sayings : ToldInLog → LogFeedState → List Input → List Saying

@@ -5,8 +5,8 @@ ghost use Rattle.std.specs.Option.{option_map};
 ghost use Rattle.block_lines.specs.LogLines.{without_return};
 ghost use Rattle.log_lines.specs.LogDimm.{address_at, some_address, said_dimm, begins_error, counted_text, dimm_in_log, edac_dimm};
 ghost use Rattle.log_lines.specs.LogDimm.{kept_address, last_place, page_address, paged_dimm};
-ghost use Rattle.log_lines.specs.LogDimm.{report_after, report_dimm, report_words, slot_named};
-ghost use Rattle.log_lines.specs.LogDimm.{told_after, placed, trimmed, unless_over, whole_after, whole_dimm, words_after, words_dimm};
+ghost use Rattle.log_lines.specs.LogDimm.{place_after, report_dimm, own_words, slot_named};
+ghost use Rattle.log_lines.specs.LogDimm.{log_told_after, placed, trimmed, unless_over, whole_after, whole_dimm, words_after, words_dimm};
 
 use bank_lines::{cut, is_own, mark_place, value_after, without_spaces};
 use event_lines::label_told;
@@ -38,9 +38,9 @@ impl ToldInLog {
     pub(crate) fn take<'a>(&mut self, line: &'a [u8]) -> Option<(u64, &'a [u8])>
         ensures told { option_map (λ told. (told.0, told.1.now)) result
             ≡ dimm_in_log self.old line.now }
-        ensures after { self.new ≡ told_after self.old line.now }
+        ensures after { self.new ≡ log_told_after self.old line.now }
     {
-        self.take_whole(without_return(line))
+        self.take_whole(whole_line(line))
     }
 
     // Takes a line without its carriage return.
@@ -61,9 +61,9 @@ impl ToldInLog {
     fn take_report<'a>(&mut self, head: &[u8], text: &'a [u8]) -> Option<(u64, &'a [u8])>
         ensures told { option_map (λ told. (told.0, told.1.now)) result
             ≡ report_dimm self.old head.now text.now }
-        ensures after { self.new.place ≡ report_after self.old head.now text.now }
+        ensures after { self.new.place ≡ place_after self.old head.now text.now }
     {
-        match report_words(head, text) {
+        match own_words(head, text) {
             Some((report, words)) => self.take_words(report, words),
             None => None,
         }
@@ -82,7 +82,7 @@ impl ToldInLog {
 }
 
 // Returns a line without the carriage return at its end.
-fn without_return(line: &[u8]) -> &[u8]
+fn whole_line(line: &[u8]) -> &[u8]
     ensures { result.now ≡ without_return line.now }
 {
     match line.strip_suffix(b"\r") {
@@ -201,8 +201,8 @@ fn some_address(address: u64) -> Option<u64>
 
 // Returns the number of a report and what its line says, given the head before the line's first
 // brace and the text behind it.
-fn report_words<'a>(head: &[u8], text: &'a [u8]) -> Option<(u64, &'a [u8])>
-    ensures { option_map (λ said. (said.0, said.1.now)) result ≡ report_words head.now text.now }
+fn own_words<'a>(head: &[u8], text: &'a [u8]) -> Option<(u64, &'a [u8])>
+    ensures { option_map (λ said. (said.0, said.1.now)) result ≡ own_words head.now text.now }
 {
     let (number, marked) = cut(b'}', text);
     let report = decimal(number, u64::MAX)?;

@@ -1,7 +1,7 @@
 use Rattle.std.proofs.Common.{◌≡◌, ℕ, List, ◌++◌, Option, OnOk, ap, subst, ◌∙◌}
 use Rattle.ras_script.specs.Inputs.{line}
 use Rattle.log_lines.specs.Dimms.{DimmsState, Part, heard, part_at, part_text, range_told, slot_line}
-use Rattle.log_lines.specs.LogDimm.{dimm_in_log, told_after}
+use Rattle.log_lines.specs.LogDimm.{dimm_in_log, log_told_after}
 use Rattle.log_lines.specs.LogFeed.{LogFeedState, log_after, log_text, log_waits}
 use Rattle.log_lines.specs.LogWithDimms.{LogDimmsState, log_dimms_after, log_saying}
 use Rattle.log_lines.specs.declared.log_dimm.ToldInLog.{ToldInLog}
@@ -34,6 +34,6 @@ returns-clause-after c =
     subst (λ (state : LogDimmsState). state_of c.take_line.new.self c.take-told.new.self c.pass.new.self ≡ log_dimms_after state (line bytes)) c.self.view_is
     (ap (λ (x : LogFeedState). state_of x c.take-told.new.self c.pass.new.self) c.in_ok-waits.ensures.after
     ∙ ap (λ (x : ToldInLog). state_of (log_after feed (line bytes)) x c.pass.new.self) c.take-told.ensures.after
-    ∙ ap (state_of (log_after feed (line bytes)) (told_after c.self.inside.told bytes)) (after
+    ∙ ap (state_of (log_after feed (line bytes)) (log_told_after c.self.inside.told bytes)) (after
     ∙ after_is c.hear.new.self (heard c.self.inside.dimms (slot_line bytes)) _ told c.deref.result.now (log_text feed (line bytes)) c.in_ok-waits.waits (log_waits feed bytes)
     (ap (range_told c.hear.new.self) c.take-told.ensures.told) c.in_ok-hear.ensures said c.in_ok-waits.ensures.waits)))
