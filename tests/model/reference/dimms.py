@@ -11,11 +11,11 @@ SLOT = re.compile(rb"# slot ([!-~]{1,32}) (.+)", re.S)
 HEX = rb"([0-9a-fA-F]{1,16})"
 ADDRESS = re.compile(rb"[^ ]* [^ ]* address:0x%s(?: .*)?" % HEX, re.S)
 # EDAC's line of an error, and where its page stands.
-EDAC = re.compile(rb"MC[0-9]+: [0-9]+ [CU]E (.*)", re.S)
-PAGE = re.compile(rb"%s offset:0x%s(?: .*)?" % (HEX, HEX), re.S)
+EDAC = re.compile(rb"([0-9]{1,20}): ([0-9]{1,20}) [CU]E(.*)", re.S)
+PAGE = re.compile(rb"%s offset:0x%s grain:.*" % (HEX, HEX), re.S)
 PAGE_SIZE = 4_096
 # A line of a firmware's report, and what of it matters here.
-REPORT = re.compile(rb"\{([0-9]{1,20})\}\[Hardware Error\]: (.*)", re.S)
+REPORT = re.compile(rb"([0-9]{1,20})\}\[Hardware Error\]: (.*)", re.S)
 HANDLE = b"not present. "
 
 
@@ -79,32 +79,35 @@ class LogDimms:
 
     def told(self, line):
         """The address and the name of a DIMM in a line, or none."""
-        head, mark, text = line.partition(b"EDAC ")
-        if mark and (found := EDAC.fullmatch(text)) and is_own(head):
-            return self.of_edac(found[1])
-        head, brace, text = line.partition(b"{")
-        found = REPORT.fullmatch(brace + text.removesuffix(b"\r"))
-        return self.of_report(int(found[1]), found[2].lstrip(b" ")) if found and is_own(head) and int(found[1]) < 2**64 else None
+        head, _, behind = line.removesuffix(b"\r").partition(b"{")
+        front, mark, _ = head.partition(b"EDAC MC")
+        if mark:
+            found = EDAC.fullmatch(line.removesuffix(b"\r")[len(front + mark) :])
+            is_told = found and is_own(front) and all(int(it) < 2**64 for it in found.groups()[:2])
+            return self.of_edac(found[3]) if is_told else None
+        found = REPORT.fullmatch(behind)
+        is_told = found and is_own(head) and int(found[1]) < 2**64
+        return self.of_report(int(found[1]), found[2]) if is_told else None
 
     def of_edac(self, text):
         """What a line of EDAC's says, from its message on."""
-        front, mark, behind = text.rpartition(b" page:0x")
+        message, on, rest = text.partition(b" on ")
+        label, mark, behind = rest.rpartition(b" page:0x")
+        label, bracket, _ = label.rpartition(b" (")
         place = PAGE.fullmatch(behind)
-        _, on, label = front.rpartition(b" (")[0].partition(b" on ")
-        if text.startswith(b"on "):
-            on, label = b"on ", front.rpartition(b" (")[0][3:]
-        if not mark or not place or not on:
+        if not on or not mark or not bracket or not place or message.partition(b" ")[2].startswith(UNPLACED):
             return None
-        address = int(place[1], 16) * PAGE_SIZE + int(place[2], 16)
-        return (address, label) if 0 < address < 2**64 and int(place[2], 16) < PAGE_SIZE else None
+        page, offset = int(place[1], 16), int(place[2], 16)
+        return (page * PAGE_SIZE + offset, label) if page < 2**52 and offset < PAGE_SIZE and page + offset else None
 
     def of_report(self, number, text):
         """What a line of the firmware's report of this number says."""
-        if text.startswith((b"section_type: ", b"Error ")) and number == self.number:
+        last, address = self.number, self.address
+        if text.startswith((b"  section_type: ", b" Error ", b"  DIMM location: ")):
             self.number = None
-        elif text.startswith(b"physical_address: 0x") and re.fullmatch(HEX, text[20:]):
-            self.number, self.address = number, int(text[20:], 16)
-        elif text.startswith(b"DIMM location: ") and number == self.number:
-            self.number = None
-            return self.address, text[15:].strip(b" ").removeprefix(HANDLE)
+        elif text.startswith(b"  physical_address: 0x"):
+            is_read = re.fullmatch(HEX, text[22:])
+            self.number, self.address = (number, int(text[22:], 16)) if is_read else (None, None)
+        if text.startswith(b"  DIMM location: ") and number == last:
+            return address, text[17:].strip(b" ").removeprefix(HANDLE)
         return None
