@@ -77,11 +77,11 @@ find_last() {
 give_until() {
     local cursor=${ready%/*}/cursor until=$1 filter=("$program" lines log "$boot" "$cap" "$began" "$checks" "$reports") lines
     rm -f -- "$cursor" || fail "$cursor can't be removed"
-    { "${perl_script[@]}" "$here/kernel-log" --settled "$cursor" --until "$until" -b "${boot_id//-/}" ${place:+"--after-cursor=$place"} &&
+    { printf '%s' "$slots" && "${perl_script[@]}" "$here/kernel-log" --settled "$cursor" --until "$until" -b "${boot_id//-/}" ${place:+"--after-cursor=$place"} &&
         echo "$log_end"; } | counted "${filter[@]}" || fail "the log can't be read"
     if [[ -n $trace ]]; then
         echo '# feed: trace' || fail "the lines can't be printed"
-        trace_lines | awk -v until="$until" -f "$here/stamp.awk" -f "$here/before.awk" |
+        { printf '%s' "$slots" && trace_lines | awk -v until="$until" -f "$here/stamp.awk" -f "$here/before.awk"; } |
             "$program" lines trace "$boot" "$cap" "$began" "${drivers[@]}" || fail "$trace can't be read"
         lines=$(trace_lines | awk -v until="$until" -f "$here/stamp.awk" -f "$here/before.awk" | wc -l) || lines=''
         [[ -n $lines ]] || fail "$trace can't be read"

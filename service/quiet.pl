@@ -31,7 +31,8 @@ sub new {
         KeptFile::say_words("QUIET_SECONDS is no number, so it is 60: $seconds");
         $seconds = 60;
     }
-    # By label: until when its lines are held, and those that are, by the hour of the errors. What passes is in `out`.
+    # `until` has for each label the time until which its lines are held, `held` the held lines by label and hour of the error,
+    # `out` the lines that pass.
     my $self = bless { seconds => $seconds, file => $file, until => {}, held => {}, groups => 0, out => '' }, $class;
     $self->begin if $seconds;
     return $self;

@@ -1,4 +1,5 @@
-# Passes on so many bytes of the errors of earlier boots, and says so once if there are more: usage: awk -v most=BYTES -f room.awk
+# Passes on at most BYTES bytes of the errors of earlier boots, and says once that there are more.
+# usage: awk -v most=BYTES -f room.awk
 {
     size += length($0) + 1
     if (size <= most) print

@@ -2,7 +2,7 @@
 #   cpu, module, place                lines for rasd
 #   # dimm LABEL NAME SERIAL SIZE PART PLACE   with tabs between: what is known of a DIMM, `-` for nothing; SIZE in MB
 #   # slot LABEL TEXT                 the label of the DIMM that the kernel calls TEXT: EDAC's label; what the firmware's reports
-#                                     have after `DIMM location: `; or `DMI handle: 0x1107`
+#                                     have after `DIMM location: `; or `DMI handle: 0x1107`. The filters of log and trace read them
 BEGIN {
     FS = "\t"
     for (code = 33; code < 127; code++) VISIBLE = VISIBLE sprintf("%c", code)

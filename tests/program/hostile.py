@@ -6,7 +6,7 @@ import uuid
 
 import lines
 import model
-from lines import KINDS, PCIE, PCIE_KINDS, STATUSES, log, record_of, script, trace
+from lines import KINDS, PCIE, PCIE_KINDS, STATUSES, log, record_of, script, trace, with_dimms
 from reference import reports, store, store_rows
 
 NUMBERS = (
@@ -292,8 +292,12 @@ def of_kernel(chance, change):
         ([b"lines", b"log", boot, cap, b"60", chance.choice(BORDERS), chance.choice(BORDERS)], log),
         ([b"lines", b"trace", boot], trace),
         ([b"lines", b"trace", boot, cap, b"60"], trace),
+        ([b"lines", b"trace", boot, cap, b"60", b"edac"], trace),
     ))  # fmt: skip
-    text = change(chance, made(chance))
+    text = made(chance)
+    if len(words) > 4 and chance.random() < 0.7:
+        text = with_dimms(chance, text)
+    text = change(chance, text)
     if words[0] == b"klog":
         yield Step(words, text)
         return

@@ -218,3 +218,43 @@ def trace(chance):
     others = ("# tracer: nop", "", "CPU:0 [LOST 5 EVENTS]", "x-1 [000] ..... 1.000000: sched_wakeup: comm=y", "mce_record: ")
     lines = [event(chance) if chance.random() < 0.9 else chance.choice(others) for _ in range(chance.randint(0, 20))]
     return "\n".join(lines).encode() + chance.choice((b"\n", b""))
+
+
+# What the kernel calls a DIMM, or nearly.
+DIMMS = (
+    "CPU_SrcID#0_MC#0_Chan#0_DIMM#0", "CPU_SrcID#0_MC#0_Chan#0_DIMM#1", "P1 DIMM_B3", "DMI handle: 0x1107", "A (mc:0 x", "on A", "A ( page:0x1", "A",
+)  # fmt: skip
+# Lines that name a DIMM, or nearly: {0} is a head, {1} the DIMM, {2} an address, {3} and {4} its page and the offset there.
+NAMING = (
+    "x-1 [003] ..... 12.500001: mc_event: 1 Corrected error: memory read error on {1} (mc:0 location:0:1:-1 address:0x{2:08x} grain:32 syndrome:0x0)",
+    "x-1 [003] ..... 12.500001: mc_event: 2 Corrected errors: on {1} (mc:0 location:0:1:-1 address:0x{2:08x} grain:32 syndrome:0x0  on y)",
+    "x-1 [003] ..... 12.500001: mc_event: 1 Corrected error: MCA_SYND not valid on {1} (mc:0 location:0:0:-1 address:0x{2:08x} grain:32 syndrome:0x0)",
+    "x-1 [003] ..... 12.500001: mc_event: 1 Corrected error: single-bit ECC on {1} (mc:0 location:0:1:-1 address:0x{2:08x} grain:32 syndrome:0x0 APEI location: node:0)",
+    "x-1 [003] ..... 12.500001: mc_event: 1 Corrected error on {1} (mc:0 location:0:1:-1 address:0x{2:08x} grain:32)",
+    "{0}EDAC MC0: 1 CE memory read error on {1} (channel:0 slot:1 page:0x{3:x} offset:0x{4:x} grain:32 syndrome:0x0 - on x ( page:0x1)",
+    "{0}EDAC MC1: 4 UE on {1} (channel:0 slot:1 page:0x{3:x} offset:0x{4:x} grain:32)", "{0}EDAC MC1: x CE on {1} (x page:0x{3:x} offset:0x{4:x} grain:32)",
+    "{0}EDAC MC1: 1 CE x on {1} (x page:0x{3:x} offset:0x{4:x})", "{0}EDAC MC1: 1 CE Failed to map error addr to a node on {1} (x page:0x{3:x} offset:0x{4:x} grain:1)",
+    "{0}{{1}}[Hardware Error]:  Error 0, type: corrected", "{0}{{1}}[Hardware Error]:   section_type: memory error", "", "x",
+    *["{0}{{1}}[Hardware Error]:   physical_address: 0x{2:016x}"] * 3, "{0}{{2}}[Hardware Error]:   physical_address: 0x{2:016x}",
+    *["{0}{{1}}[Hardware Error]:   DIMM location: {1} "] * 3, "{0}{{1}}[Hardware Error]:   DIMM location:  {1}  ",
+    "{0}{{1}}[Hardware Error]:   DIMM location: not present. {1} ",
+)  # fmt: skip
+
+
+def naming(chance):
+    """A line that names a DIMM, or nearly."""
+    page, offset = chance.choice((0, 0x12345, 0x12345, 2, 2**52 - 1)), chance.choice((0, 0x40, 0x7F, 0xFC0, 4096))
+    head = chance.choice(("[   12.500001] ",) * 3 + ("", "[   12.500002] node7 kernel: ", "x ", "Nov 29 13:35:57 node7 kernel: "))
+    return chance.choice(NAMING).format(head, chance.choice(DIMMS), 4096 * page + offset, page, offset) + chance.choice(("",) * 9 + ("\r",))
+
+
+def with_dimms(chance, text):
+    """A log or a trace behind rows of DIMMs, and with lines that name some."""
+    names = ("A", "B", "B#1", "D" * 32, "-", "", "D" * 33)
+    rows = [f"# slot {chance.choice(names[:4] * 8 + names)} {chance.choice(DIMMS * 6 + ('', ' A'))}" for _ in range(chance.randint(0, 12))]
+    lines = []
+    for line in text.split(b"\n"):
+        lines.append(line)
+        while chance.random() < 0.4:
+            lines.append(naming(chance).encode())
+    return "".join(f"{row}\n" for row in rows).encode() + b"\n".join(lines)

@@ -162,6 +162,27 @@ class Server:
         return ran.stdout, ran.stderr, ran.returncode
 
 
+# What the kernel prints of a memory error on a processor of Intel's, in forms of tests/program/kernel.txt: in its trace, where EDAC's
+# event comes behind the machine check, and in its log, where EDAC's driver prints both.
+INTEL_TRACE = (
+    "    kworker/3:1-77      [003] .....   100.{n:06d}: mce_record: CPU: {cpu}, MCGc/s: 1000c1c/0, MC{bank}: {status:016x}, IPID: "
+    "{zero:016x}, ADDR/MISC/SYND: {address:016x}/{misc:016x}/{zero:016x}, RIP: 00:<{zero:016x}>, TSC: {n:x}, PROCESSOR: 0:50654, "
+    "TIME: 100, SOCKET: 0, APIC: 0\n"
+    "    kworker/3:1-77      [003] .....   100.{n:06d}: mc_event: 1 Corrected error: memory read error on {label} (mc:{mc} "
+    "location:{c}:{d}:-1 address:0x{address:08x} grain:32 syndrome:0x00000000  err_code:0x0000:0x0090)\n"
+)
+INTEL_LOG = (
+    "[  100.{n:06d}] host kernel: EDAC skx MC{mc}: HANDLING MCE MEMORY ERROR\n"
+    "[  100.{n:06d}] host kernel: EDAC skx MC{mc}: CPU {cpu}: Machine Check Event: 0x0 Bank {bank}: 0x{status:x}\n"
+    "[  100.{n:06d}] host kernel: EDAC skx MC{mc}: TSC 0x{n:x} \n"
+    "[  100.{n:06d}] host kernel: EDAC skx MC{mc}: ADDR 0x{address:x} \n"
+    "[  100.{n:06d}] host kernel: EDAC skx MC{mc}: MISC 0x{misc:x} \n"
+    "[  100.{n:06d}] host kernel: EDAC skx MC{mc}: PROCESSOR 0:0x50654 TIME 100 SOCKET 0 APIC 0x0\n"
+    "[  100.{n:06d}] host kernel: EDAC MC{mc}: 1 CE memory read error on {label} (channel:{c} slot:{d} page:0x{page:x} "
+    "offset:0x{offset:x} grain:32 syndrome:0x0 -  err_code:0x0000:0x0090)\n"
+)
+
+
 # An event of amd64_edac in a trace, behind the machine check of which it tells: 1, a message and a label, a controller and layers.
 CHECK = (
     "    kworker/3:1-77      [003] .....   {0:d}.{1:06d}: mce_record: CPU: 3, MCGc/s: 120/0, MC17: 9c2040000000011b, IPID: "

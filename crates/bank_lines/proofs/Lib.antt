@@ -8,6 +8,8 @@ pub mod NumeralLemmas
 mod ReadBackLemmas
 mod PartsLemmas
 mod MarkLemmas
+mod NameLemmas
+mod WordLemmas
 mod TextLemmas
 mod RangeLemmas
 pub mod TraceLawLemmas

@@ -2,3 +2,4 @@
 pub mod Marks
 pub mod Times
 pub mod Reading
+pub mod Names

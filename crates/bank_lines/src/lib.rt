@@ -37,7 +37,7 @@ pub use log_filter::LogFilter;
 pub use log_heads::{cut, is_own, mark_place, without_spaces};
 pub use log_kernel_laws::{printed_logs_are_read, twice_printed_errors_have_one_name};
 pub use log_laws::logs_are_made_lines;
-pub use log_line::{LAST_SECOND, MICROSECONDS, log_stamp_of, marked_stamp};
+pub use log_line::{LAST_SECOND, MICROSECONDS, console_stamp, log_stamp_of, marked_stamp};
 pub use naming::{AlikeCounts, CHECKS, MOST_ALIKE, MOST_KEYS, named_first};
 pub use naming_laws::errors_have_one_name;
 pub use output_laws::lines_laws;

@@ -92,9 +92,9 @@ fn is_kernels(head: &[u8]) -> bool
     }
 }
 
-// Returns the microseconds in a head as the console and dmesg print it: brackets and a space. Such
-// a head shows its line to be the kernel's own.
-fn console_stamp(head: &[u8]) -> Option<u64>
+/// Returns the microseconds in a head as the console and dmesg print it: brackets and a space. Such
+/// a head shows its line to be the kernel's own.
+pub fn console_stamp(head: &[u8]) -> Option<u64>
     ensures { IfSome result
         (λ stamp. (is_own head.now ≡ true) × (log_stamp_of head.now ≡ Some stamp)) }
 {

@@ -1,19 +1,22 @@
 //! Finds the machine check in a line of the kernel's trace.
 
-ghost use Rattle.std.specs.Prelude.{◌≡◌, ◌+◌, ◌≤◌, [], length, IfSome};
+ghost use Rattle.std.specs.Prelude.{◌≡◌, ◌+◌, ◌<◌, ◌≤◌, [], length, IfSome};
 ghost use Rattle.bank_lines.specs.Parts.{cut_at};
+ghost use Rattle.bank_lines.specs.Steps.Names.{LastBelow};
 ghost use Rattle.bank_lines.specs.Trace.{are_count_signs, behind_name, event_found, event_report};
 ghost use Rattle.bank_lines.specs.Trace.{is_count, is_system, is_traced, last_mark, last_word, trace_found};
 
 use crate::Finding;
 use crate::event::{TraceEvent, event_in};
-use crate::log_heads::{has_digit, mark_place, without_spaces};
-use crate::parts::Parts;
-use memchr::memmem;
+use crate::log_heads::{has_digit, mark_place, stands_round, without_spaces};
 use ras_facts::BankReport;
+use ras_script::position_of;
 
 // The event name, which comes before the text of an event.
 const MARK: &[u8] = b"mce_record: ";
+
+// The index of the byte `_` in the event name.
+const PIVOT: usize = 3;
 
 /// Returns what is found in a line of the kernel's trace in this boot. Allocates nothing.
 ///
@@ -34,12 +37,35 @@ pub fn trace_found(boot: u64, line: &[u8]) -> Finding
     }
 }
 
-// Returns the index of a line's last event name.
+// Returns the index of a line's last event name. Searches for one byte of the name, because a
+// search for the whole name costs more to set up than to look through a line.
 fn last_mark(line: &[u8]) -> Option<usize>
     ensures place { result ≡ last_mark line.now }
     ensures within { IfSome result (λ place. place + 12 ≤ length line.now) }
 {
-    memmem::rfind(line, MARK)
+    let mut last = None;
+    let mut from = 0;
+    while let Some(passed) = position_of(b'_', &line[from..]) {
+        let place = from + passed;
+        last = last_here(last, place, line);
+        from = place + 1;
+    }
+    last
+}
+
+// Returns the index of the last event name up to an index, if `before` is the last one before this
+// index.
+#[tactic(auto, using(crate::proofs::NameLemmas::last_here))]
+fn last_here(before: Option<usize>, place: usize, line: &[u8]) -> Option<usize>
+    requires inside { place < length line.now }
+    requires last { LastBelow line.now place before }
+    ensures { LastBelow line.now (place + 1) result }
+{
+    if stands_round(place, PIVOT, MARK, line) {
+        Some(place - PIVOT)
+    } else {
+        before
+    }
 }
 
 // Returns whether tracers print this text before an event's name.
@@ -65,16 +91,19 @@ pub fn behind_name(line: &[u8]) -> &[u8]
     }
 }
 
-/// Returns the last word of a text. Words are between spaces.
+/// Returns the last word of a text. Words are between spaces. The search begins at the end, because
+/// most last words are short.
 pub fn last_word(text: &[u8]) -> &[u8]
     ensures { result.now ≡ last_word [] (cut_at 32 text.now) }
 {
-    let mut last: &[u8] = &[];
-    let mut words = Parts::new(b' ', text);
-    while let Some(word) = words.next() {
-        last = word;
+    let mut start = text.len();
+    while start > 0 {
+        if text[start - 1] == b' ' {
+            return &text[start..];
+        }
+        start -= 1;
     }
-    last
+    text
 }
 
 /// Returns whether a word is what a tracer's clock shows.

@@ -1,3 +1,4 @@
+mod HeadLemmas
 mod KernelLemmas
 pub mod LineLemmas
 pub mod MarkLemmas

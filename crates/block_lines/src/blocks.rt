@@ -17,6 +17,9 @@ use ras_base::little_endian::{push_u16, push_u32, push_u64};
 /// the block's other bytes, in hexadecimal.
 pub const LONGEST_SECTION: usize = 19_800;
 
+// The bytes of a block of one memory error. Most blocks have no more, so they are allocated at once.
+pub(crate) const ONE_ERROR_BYTES: usize = 172;
+
 // The type of memory sections, as a block has it.
 const MEMORY_TYPE: [u8; 16] = [
     0x14, 0x11, 0xbc, 0xa5, 0x64, 0x6f, 0xde, 0x4e, 0xb8, 0x63, 0x3e, 0x83, 0xed, 0x7c, 0x83, 0xb1,

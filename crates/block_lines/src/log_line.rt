@@ -1,13 +1,15 @@
 //! Reads the lines of a kernel log that belong to a firmware's report.
 
-ghost use Rattle.std.specs.Prelude.{◌≡◌};
+ghost use Rattle.std.specs.Prelude.{◌≡◌, ℕ, List, true};
 ghost use Rattle.std.specs.Option.{option_map};
+ghost use Rattle.bank_lines.specs.LogHeads.{is_own};
+ghost use Rattle.bank_lines.specs.LogLines.{log_stamp_of};
 ghost use Rattle.bank_lines.specs.Parts.{value_after};
 ghost use Rattle.block_lines.specs.LogLines.{error_mark, has_mark, marked_line_of, own_after};
 ghost use Rattle.block_lines.specs.LogLines.{own_line_of, report_log_line, without_return};
 
 use crate::report_line::{ReportLine, report_line};
-use bank_lines::{cut, is_own, log_stamp_of};
+use bank_lines::{console_stamp, cut, is_own, log_stamp_of};
 use ras_script::decimal;
 
 /// What is read of a line of a kernel log.
@@ -41,6 +43,17 @@ pub(crate) struct OwnLine {
 pub(crate) fn log_line(line: &[u8]) -> ReportLogLine
     ensures { result ≡ report_log_line line.now }
 {
+    if line.ends_with(b"\r") {
+        return returned_line(line);
+    }
+    let (head, text) = cut(b'{', line);
+    line_of(head, text)
+}
+
+// Returns what a line says, which may have a carriage return at its end.
+fn returned_line(line: &[u8]) -> ReportLogLine
+    ensures { result ≡ report_log_line line.now }
+{
     let (head, _) = cut(b'{', line);
     ReportLogLine {
         stamp: log_stamp_of(head),
@@ -55,6 +68,35 @@ fn without_return(line: &[u8]) -> &[u8]
     match line.strip_suffix(b"\r") {
         Some(front) => front,
         None => line,
+    }
+}
+
+// Returns what a line says, from its head and what follows the brace after the head. Most heads
+// have a time in brackets, which also shows the line to be the kernel's own.
+fn line_of(head: &[u8], text: &[u8]) -> ReportLogLine
+    ensures stamp { result.stamp ≡ log_stamp_of head.now }
+    ensures marking { result.marking ≡ own_after head.now text.now }
+{
+    match console_stamp(head) {
+        Some(stamp) => ReportLogLine {
+            stamp: Some(stamp),
+            marking: kernels_text(text),
+        },
+        None => ReportLogLine {
+            stamp: log_stamp_of(head),
+            marking: own_after(head, text),
+        },
+    }
+}
+
+// Returns what a line of the kernel's own is, from what follows the brace after its head.
+fn kernels_text(text: &[u8]) -> Marking
+    ensures { (head : List ℕ) → is_own head ≡ true → result ≡ own_after head text.now }
+{
+    match marked_line(text) {
+        Some(line) => Marking::Own(line),
+        None if has_mark(text) => Marking::Foreign,
+        None => Marking::Unmarked,
     }
 }
 

@@ -11,7 +11,7 @@ ghost use Rattle.block_lines.specs.Texts.{block_text, blocks_text_beside, cut_re
 ghost use Rattle.block_lines.specs.Texts.{end_text_beside, ghes_line, report_text_beside, rest_text};
 ghost use Rattle.block_lines.specs.Texts.{source_block_text, table_text};
 
-use crate::blocks::push_block;
+use crate::blocks::{ONE_ERROR_BYTES, push_block};
 use crate::log_line::{Marking, ReportLogLine};
 use crate::memory::MemoryError;
 use crate::report::{OpenReport, OpenSection, Remark};
@@ -322,7 +322,7 @@ impl Reports {
         ensures { OnOk result (text.new.items
             ≡ text.old.items ++ ghes_line self.now report.now ++ 10 ∷ []) }
     {
-        let mut block = Vec::new(alloc);
+        let mut block = Vec::with_capacity(alloc, ONE_ERROR_BYTES)?;
         push_block(&mut block, report.severity, &self.errors, report.section)?;
         push_ghes(
             alloc,

@@ -8,7 +8,8 @@ use Rattle.std.specs.Option.{option_map, option_map_or}
 use Rattle.std.proofs.Math.Seq.{take-append_seam}
 use Rattle.std.proofs.lemmas.Bool.Decides.{nat_tests}
 use Rattle.ras_script.proofs.WrittenNumberLemmas.{decimal_read}
-use Rattle.ras_script.specs.Number.{decimal_of}
+use Rattle.ras_klog.specs.Reading.{read_then}
+use Rattle.ras_script.specs.Number.{decimal_of, hexadecimal_of}
 use Rattle.ras_script.specs.SplittingLaws.{Lacks}
 use Rattle.bank_lines.specs.Kernel.{padded}
 use Rattle.bank_lines.specs.LogHeads.{after, mark_place, up_to}
@@ -18,9 +19,10 @@ use Rattle.bank_lines.proofs.LogTextLemmas.{after_is, up_to_is}
 use Rattle.bank_lines.proofs.NumeralLemmas.{decimal_lacks, lack_both, literal_lacks}
 use Rattle.block_lines.specs.declared.memory.ErrorLocation.{ErrorLocation}
 use Rattle.block_lines.specs.declared.memory.MemoryError.{MemoryError}
+use Rattle.event_lines.specs.DimmTold.{address_in}
 use Rattle.event_lines.specs.Driver.{before_on, driver_error_of, driver_place, lacks_place, message_of, place_told, placed_at}
 use Rattle.event_lines.specs.DriverKernel.{IsDriver, PrintedDriver, driver_front, driver_inside, error_of_driver, layer_text, layers_text, printed_driver}
-use Rattle.event_lines.specs.Memory.{addresses_in, behind_controller, controller_error_of, controller_of, firmware_mark, kind_before, kind_named, type_severity}
+use Rattle.event_lines.specs.Memory.{address_told, addresses_in, behind_controller, controller_error_of, controller_of, firmware_mark, kind_before, kind_named, type_severity}
 use Rattle.event_lines.specs.MemoryKernel.{before_more, grain_text, severity_name}
 use Rattle.event_lines.specs.Traced.{controller_event}
 use Rattle.event_lines.specs.declared.traced.LineEvent.TheVariants.{Absent}
@@ -69,7 +71,7 @@ not_here b (c ∷ []) rest none = no_more (nat_eq 32 b) (nat_eq 111 c)
 not_here b (c ∷ d ∷ message) rest none =
     and_more (nat_eq 32 b) (nat_eq 111 c) (nat_eq 110 d) (pointwise nat_eq (32 ∷ []) (take 1 (message ++ (on ++ rest)))) none
 
-on_first : (message rest : List ℕ) → mark_place (codes " on") message ≡ None → mark_place on (message ++ (on ++ rest)) ≡ Some (length message)
+pub on_first : (message rest : List ℕ) → mark_place (codes " on") message ≡ None → mark_place on (message ++ (on ++ rest)) ≡ Some (length message)
 on_first [] rest none = refl
 on_first (b ∷ message) rest none =
     let parts : OnNone b message = on_none b message none in
@@ -263,12 +265,20 @@ module _ (p : PrintedDriver) (is : IsDriver p) where
   addresses_are : addresses_in (driver_inside p) ≡ addresses
   addresses_are = ap (after 32) layers_are ∙ after_is 32 (codes "location:" ++ numbers) addresses layers_lack
 
+  pub address_is : address_in (driver_inside p) ≡ p.address
+  address_is =
+      ap (λ (text : List ℕ). read_then (value_after (codes "address:0x") (up_to 32 text)) (λ digits. read_then (hexadecimal_of digits) address_told)) addresses_are
+      ∙ ap (λ (word : List ℕ). read_then (value_after (codes "address:0x") word) (λ digits. read_then (hexadecimal_of digits) address_told))
+      (up_to_is 32 (codes "address:0x" ++ address_digits) grains address_lacks)
+      ∙ ap (λ (o : Option ℕ). read_then o address_told) (padded_read 8 address (omega arith) small)
+      ∙ address_read p.address is.address
+
   grains_are : after 32 (addresses_in (driver_inside p)) ≡ grains
   grains_are = ap (after 32) addresses_are ∙ after_is 32 (codes "address:0x" ++ address_digits) grains address_lacks
 
   -- ---- no mark in what is in the parentheses
 
-  no_mark : behind_controller (driver_inside p) ≡ None
+  pub no_mark : behind_controller (driver_inside p) ≡ None
   no_mark =
       none_behind_space (driver_inside p)
       (none_before number (32 ∷ layers) (decimal_lacks 40 p.controller (omega arith) number_small)

@@ -12,6 +12,7 @@ mod UnnamedLemmas
 mod KindLemmas
 mod MemoryLemmas
 mod DriverLemmas
+pub mod DimmLemmas
 mod ExtlogLemmas
 mod LineLemmas
 mod NameLemmas

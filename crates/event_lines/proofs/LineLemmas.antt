@@ -1,5 +1,5 @@
 -- A line that has an event, as tracers print it, is found.
-use Rattle.std.proofs.Common.{◌≡◌, ℕ, zero, suc, ◌+◌, ◌*◌, ◌==◌, Bool, true, not, List, [], ◌∷◌, ◌++◌, codes, decimal, take, drop, length, ◌<◌, ◌≤◌, refl, sym, subst, ap, ◌∙◌, arith, append_assoc, length-append, Option, Some}
+use Rattle.std.proofs.Common.{◌≡◌, ℕ, zero, suc, ◌+◌, ◌*◌, ◌==◌, Bool, true, not, List, [], ◌∷◌, ◌++◌, codes, decimal, take, drop, length, ◌<◌, ◌≤◌, refl, sym, subst, ap, ◌∙◌, arith, append_assoc, length-append, Option, None, Some}
 use Rattle.std.specs.Prelude.{replicate, unwrap_or}
 use Rattle.std.proofs.Math.Seq.{take-append_seam}
 use Rattle.std.proofs.lemmas.List.{drop_at}
@@ -19,6 +19,7 @@ use Rattle.bank_lines.specs.declared.stamp.TheConstants.{MOST_SECONDS}
 use Rattle.bank_lines.proofs.NumeralLemmas.{lack_both, literal_lacks}
 use Rattle.bank_lines.proofs.TraceHeadLemmas.{NoDash, clock_lacks, clock_reaches, counts, front_plain, last_behind, last_is, named_front, none_in_timed, stamp_read}
 use Rattle.event_lines.specs.Aer.{aer_event_of}
+use Rattle.event_lines.specs.DimmTold.{clocked_dimm, dimm_behind, dimm_of_driver, dimm_told, spaced_message, traced_dimm_of}
 use Rattle.event_lines.specs.Driver.{any_event_of, driver_behind, driver_error_of, driver_event, event_or, named_or_absent}
 use Rattle.event_lines.specs.DriverKernel.{IsDriver, PrintedDriver, driver_line, error_of_driver, printed_driver}
 use Rattle.event_lines.specs.Kernel.{IsEvent, PrintedAer, aer_line, aer_text, device_text, event_head, event_of, flags_text, header_text, ras_before, severity_text}
@@ -31,6 +32,7 @@ use Rattle.event_lines.specs.declared.traced.FoundMemory.{FoundMemory}
 use Rattle.event_lines.specs.declared.traced.LineEvent.{LineEvent}
 use Rattle.event_lines.specs.declared.traced.LineEvent.TheVariants.{Absent, Found, Memory, Section}
 use Rattle.event_lines.proofs.AerLemmas.{device_lacks_space, text_read}
+use Rattle.event_lines.proofs.DimmLemmas.{dimm_is}
 use Rattle.event_lines.proofs.DriverLemmas.{driver_error_read, not_firmware}
 use Rattle.event_lines.proofs.ExtlogLemmas.{extlog_text_read}
 use Rattle.event_lines.proofs.MemoryLemmas.{controller_read}
@@ -216,6 +218,13 @@ module _ (tracer : Tracer) (front : List ℕ) (seconds micros spaces : ℕ) (is 
       ∙ ap (λ (event : LineEvent). event_or event (event_or (driver_event line) (named_or_absent line))) (clocked ∙ none)
       ∙ ap (λ (event : LineEvent). event_or event (named_or_absent line)) (driven ∙ read)
 
+  -- what an event tells of its DIMM is read from its text
+  pub dimm_at : traced_dimm_of whole ≡ dimm_behind text
+  dimm_at =
+      ap clocked_dimm unnamed_is
+      ∙ ap (λ (o : Option ℕ). read_then o (λ place. dimm_behind (named_text place line))) place_is
+      ∙ ap dimm_behind named_is
+
 -- ---- PCI Express errors
 
 module _ (tracer : Tracer) (front : List ℕ) (seconds micros spaces more : ℕ) (p : PrintedAer)
@@ -336,3 +345,11 @@ module _ (tracer : Tracer) (front : List ℕ) (seconds micros spaces more : ℕ)
       (ap (controller_event stamp) (all_passed more (printed_driver p)) ∙ not_firmware p within stamp)
       (ap (λ (text : List ℕ). found_memory stamp (driver_error_of text)) (all_passed more (printed_driver p))
       ∙ ap (found_memory stamp) (driver_error_read p within))
+
+  pub dimm_read : mark_place (codes " on") (spaced_message p) ≡ None
+      → traced_dimm_of (driver_line (event_head tracer front seconds micros spaces) more p) ≡ dimm_of_driver p
+  dimm_read plain =
+      dimm_at tracer front seconds micros spaces is (codes "mc_event: ") (replicate more 32 ++ printed_driver p)
+      (literal_lacks 45 (codes "mc_event: ") refl) (omega arith) driver_begins
+      ∙ ap dimm_told (all_passed more (printed_driver p))
+      ∙ dimm_is p within plain

@@ -6,9 +6,11 @@ use Rattle.std.specs.Option.{option_map, option_map_or}
 use Rattle.std.specs.Str.{bytes_eq}
 use Rattle.std.proofs.lemmas.List.{take-append-drop}
 use Rattle.std.proofs.lemmas.Slice.Eq.{bytes_eq-Decides}
+use Rattle.ras_klog.specs.Reading.{read_then}
 use Rattle.bank_lines.specs.LogHeads.{begins, mark_place, without_spaces}
 use Rattle.bank_lines.specs.Parts.{cut_at, value_after}
 use Rattle.bank_lines.specs.Trace.{behind_name}
+use Rattle.event_lines.specs.DimmTold.{clocked_dimm, dimm_behind, traced_dimm_of}
 use Rattle.event_lines.specs.Driver.{any_event_of, driver_behind, driver_event, event_or, named_or_absent}
 use Rattle.event_lines.specs.Traced.{clock_event, clock_place, event_behind, event_or_unread, has_name, is_extlog, is_firmware, line_event_of, named_text, stamp_at}
 use Rattle.event_lines.specs.declared.traced.LineEvent.{LineEvent}
@@ -98,6 +100,9 @@ module _ (text : List ℕ) (none : IsUnnamed text) where
   no_driver_behind : (stamp : Option ℕ) → driver_behind stamp text ≡ Absent
   no_driver_behind stamp = rw (no_controller) refl
 
+  no_dimm_behind : dimm_behind text ≡ None
+  no_dimm_behind = rw (no_controller) refl
+
 -- ---- a line
 
 module _ (text : List ℕ) (none : IsUnnamed text) where
@@ -114,6 +119,13 @@ module _ (text : List ℕ) (none : IsUnnamed text) where
       by : (o : Option ℕ) → option_map_or (λ place. driver_behind (stamp_at place text) (named_text place text)) o Absent ≡ Absent
       by None = refl
       by (Some place) = no_driver_behind (named_text place text) (unnamed_text place text none) (stamp_at place text)
+
+  no_clocked_dimm : clocked_dimm text ≡ None
+  no_clocked_dimm = by (clock_place text)
+    where
+      by : (o : Option ℕ) → read_then o (λ place. dimm_behind (named_text place text)) ≡ None
+      by None = refl
+      by (Some place) = no_dimm_behind (named_text place text) (unnamed_text place text none)
 
   no_extlog_at : option_map_or (λ place. begins (named_text place text) (codes "extlog_mem_event: ")) (clock_place text) false ≡ false
   no_extlog_at = by (clock_place text)
@@ -152,3 +164,6 @@ pub no_extlog_line : (line text : List ℕ) → text ≡ behind_name line → Is
 no_extlog_line line text is none =
     sym (no_extlog_at text none)
     ∙ ap (λ (text : List ℕ). option_map_or (λ place. begins (named_text place text) (codes "extlog_mem_event: ")) (clock_place text) false) is
+
+pub no_dimm_line : (line text : List ℕ) → text ≡ behind_name line → IsUnnamed text → None ≡ traced_dimm_of line
+no_dimm_line line text is none = sym (no_clocked_dimm text none) ∙ ap clocked_dimm is

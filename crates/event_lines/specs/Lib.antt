@@ -10,5 +10,6 @@ pub mod Kernel
 pub mod SectionKernel
 pub mod MemoryKernel
 pub mod DriverKernel
+pub mod DimmTold
 pub mod ReadBack
 pub mod Events

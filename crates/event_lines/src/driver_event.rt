@@ -93,7 +93,7 @@ fn place_told(text: &[u8], number: &[u8], layers: &[u8]) -> ErrorLocation
 }
 
 // Returns whether a driver says by this message that it doesn't know an error's place.
-fn lacks_place(message: &[u8]) -> bool
+pub(crate) fn lacks_place(message: &[u8]) -> bool
     ensures { result ≡ lacks_place message.now }
 {
     message.starts_with(b"Failed to map error addr to a node")

@@ -1,9 +1,11 @@
 //! Laws on the events that the kernel's EDAC drivers made.
 
-ghost use Rattle.std.specs.Prelude.{◌≡◌, ◌+◌, ◌*◌, ◌<◌, ◌≤◌, ℕ, Bool, List, ◌∷◌, ◌++◌, codes, length, slice_index, true};
+ghost use Rattle.std.specs.Prelude.{◌≡◌, ◌+◌, ◌*◌, ◌<◌, ◌≤◌, ℕ, Bool, List, ◌∷◌, ◌++◌, codes, length, slice_index, true, None};
 ghost use Rattle.std.specs.Char.{is_digit};
+ghost use Rattle.bank_lines.specs.LogHeads.{mark_place};
 ghost use Rattle.bank_lines.specs.TraceHeads.{IsFront, Tracer};
 ghost use Rattle.bank_lines.specs.declared.stamp.TheConstants.{MOST_SECONDS};
+ghost use Rattle.event_lines.specs.DimmTold.{dimm_of_driver, spaced_message, traced_dimm_of};
 ghost use Rattle.event_lines.specs.Driver.{any_event_of};
 ghost use Rattle.event_lines.specs.DriverKernel.{IsDriver, PrintedDriver, driver_line, error_of_driver};
 ghost use Rattle.event_lines.specs.Kernel.{event_head};
@@ -37,4 +39,16 @@ pub fn driver_events_are_never_passed_over()
     ensures names { (drivers : Bool) (name other rest : List ℕ) → length name ≡ 16
         → length other ≡ 16 → is_digit (slice_index rest 0) 10 ≡ true
         → any_event_of drivers (name ++ 45 ∷ rest) ≡ any_event_of drivers (other ++ 45 ∷ rest) }
+{}
+
+/// The address and the label of the DIMM in a driver's event, as the kernel prints it, are read,
+/// whatever the label is. Nothing is read if the event has no address, or if the driver says by its
+/// message that it doesn't know the place. The message mustn't begin with `on`: the kernel prints
+/// such a message and a label just as it prints an empty message and a longer label.
+pub fn printed_dimms_are_told()
+    ensures { (tracer : Tracer) (front : List ℕ) (seconds micros spaces more : ℕ)
+        (p : PrintedDriver) → IsFront front seconds micros → IsDriver p
+        → mark_place (codes " on") (spaced_message p) ≡ None
+        → traced_dimm_of (driver_line (event_head tracer front seconds micros spaces) more p)
+        ≡ dimm_of_driver p }
 {}

@@ -6,6 +6,7 @@
 #![tactic(auto)]
 
 mod aer;
+mod dimm_told;
 mod driver_event;
 mod driver_laws;
 mod filter;
@@ -18,7 +19,10 @@ mod section_event;
 mod traced;
 
 pub use aer::{AerDevice, AerEvent, AerSeverity, TlpHeader};
-pub use driver_laws::{driver_events_are_never_passed_over, driver_events_are_read};
+pub use dimm_told::{label_told, traced_dimm};
+pub use driver_laws::{
+    driver_events_are_never_passed_over, driver_events_are_read, printed_dimms_are_told,
+};
 pub use filter::{ReportFilter, TRACE_SOURCE};
 pub use laws::{
     events_are_never_passed_over, logs_are_filtered_as_before, made_memory_blocks_are_read_back,

@@ -51,7 +51,7 @@ fn behind_first(text: &[u8]) -> Option<&[u8]>
 }
 
 // Returns the text in an event's parentheses, from the address on.
-fn addresses_in(controller: &[u8]) -> &[u8]
+pub(crate) fn addresses_in(controller: &[u8]) -> &[u8]
     ensures { result.now ≡ addresses_in controller.now }
 {
     let (_, layers) = cut(b' ', controller);

@@ -12,7 +12,7 @@ use Rattle.block_lines.specs.Reports.{Reporting, ended_at, is_end, left_to_trace
 use Rattle.block_lines.specs.Texts.{block_text, blocks_text_at, blocks_text_beside, cut_text, end_text, end_text_beside, remark_text, report_text, report_text_beside}
 use Rattle.block_lines.specs.declared.report.OpenReport.{OpenReport}
 use Rattle.log_lines.specs.declared.borders.Borders.{Borders}
-use Rattle.log_lines.specs.Borders.{LeavesCheck, LeavesReport, check_said, has_made_counter, is_behind, leaves_check, no_borders, torn_comment}
+use Rattle.log_lines.specs.Borders.{LeavesCheck, LeavesReport, check_said, has_made_counter, is_behind, no_borders, torn_comment}
 use Rattle.log_lines.specs.LogFeed.{LogFeedState, log_found, log_said}
 use Rattle.log_lines.proofs.CheckLemmas.{all_said}
 

@@ -1,12 +1,12 @@
 -- Machine checks are named as the commands over a part of a trace or a log name them.
-use Rattle.std.proofs.Common.{◌≡◌, ℕ, ◌+◌, Bool, true, false, List, [], ◌∷◌, ◌++◌, map, refl, sym, ap, ◌∙◌, Option, None, Result, Ok}
+use Rattle.std.proofs.Common.{◌≡◌, ℕ, ◌+◌, List, [], ◌∷◌, ◌++◌, map, refl, sym, ap, ◌∙◌, Option, None, Result, Ok}
 use Rattle.std.specs.List.{flat_map}
 use Rattle.std.proofs.lemmas.List.{map-append}
 use Rattle.ras_facts.specs.declared.bank.BankReport.{BankReport}
 use Rattle.ras_script.specs.declared.line.LineRefused.{LineRefused}
 use Rattle.bank_lines.proofs.CountLemmas.{is_full, names_on}
 use Rattle.bank_lines.proofs.TraceLawLemmas.{never_full}
-use Rattle.bank_lines.specs.Counts.{counts_after, named_after, named_found}
+use Rattle.bank_lines.specs.Counts.{named_after, named_found}
 use Rattle.bank_lines.specs.EdacReports.{told_lines}
 use Rattle.bank_lines.specs.Filter.{traced_reports}
 use Rattle.bank_lines.specs.Finding.{report_in}

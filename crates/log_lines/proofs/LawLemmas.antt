@@ -1,5 +1,5 @@
 -- What holds of all texts of the filters.
-use Rattle.std.proofs.Common.{◌≡◌, ℕ, ◌+◌, ◌^◌, ◌<◌, ◌≤◌, ◌==◌, ◌&&◌, Bool, true, false, List, [], ◌∷◌, ◌++◌, length, codes, decimal, refl, ap, arith, if◌then◌else◌}
+use Rattle.std.proofs.Common.{◌≡◌, ℕ, ◌+◌, ◌^◌, ◌<◌, ◌==◌, ◌&&◌, Bool, true, false, List, [], ◌∷◌, ◌++◌, length, codes, decimal, refl, ap, arith, nat_lt, if◌then◌else◌}
 use Rattle.block_lines.specs.Reports.{Reporting, has_error, without_sources}
 use Rattle.block_lines.specs.Texts.{block_text, ghes_line, hest_line, table_text}
 use Rattle.block_lines.specs.declared.report.OpenReport.{OpenReport}
@@ -8,6 +8,7 @@ use Rattle.event_lines.specs.Events.{tells_any, tells_event}
 use Rattle.event_lines.specs.Filter.{event_text_by}
 use Rattle.event_lines.specs.Traced.{is_extlog}
 use Rattle.event_lines.proofs.EventTextLemmas.{IsSaid, event_said, said_after, said_left, said_right, told_any}
+use Rattle.line_filters.specs.declared.feeding.TheConstants.{MOST_AT_ONCE}
 use Rattle.line_filters.specs.Pieces.{AreShort}
 use Rattle.bank_lines.specs.Counts.{named_found}
 use Rattle.bank_lines.specs.Texts.{found_text}
@@ -51,8 +52,8 @@ shown_said shown [] said = absurd (said refl)
 shown_said shown (b ∷ text) said =
     said_after (if b == 10 && (b == 35) then 32 ∷ shown else []) b (commented shown (b == 10) (b == 35) text)
 
-limited_said : (number : ℕ) (shown text : List ℕ) → IsSaid text → IsSaid (limited number shown text)
-limited_said number shown text said = by (exceeds_call text)
+limited_said : (most number : ℕ) (shown text : List ℕ) → IsSaid text → IsSaid (limited most number shown text)
+limited_said most number shown text said = by (nat_lt most (length text))
   where
     by : (long : Bool) → IsSaid (if long then left_out_comment number shown else text)
     by true = said_after (codes "# left out " ++ decimal number ++ 32 ∷ shown) 10 []
@@ -61,8 +62,8 @@ limited_said number shown text said = by (exceeds_call text)
 fitted_said : (number : ℕ) (bytes text : List ℕ) → IsSaid text → IsSaid (fitted number bytes text)
 fitted_said number bytes text said = by (exceeds_call (with_shown (shown_of bytes) text))
   where
-    by : (long : Bool) → IsSaid (if long then limited number (shown_of bytes) text else with_shown (shown_of bytes) text)
-    by true = limited_said number (shown_of bytes) text said
+    by : (long : Bool) → IsSaid (if long then limited MOST_AT_ONCE number (shown_of bytes) text else with_shown (shown_of bytes) text)
+    by true = limited_said MOST_AT_ONCE number (shown_of bytes) text said
     by false = shown_said (shown_of bytes) text said
 
 pub any_is_said : (state : TraceFeedState) (bytes : List ℕ) → tells_any state.drivers bytes ≡ true → IsSaid (trace_text state (line bytes))

@@ -1,5 +1,5 @@
 -- One call can print each text.
-use Rattle.std.proofs.Common.{◌≡◌, ℕ, ◌+◌, ◌^◌, ◌<◌, ◌≤◌, ◌==◌, ◌&&◌, ◌||◌, Bool, true, false, List, [], ◌∷◌, ◌++◌, length, map, take, codes, decimal, refl, ap, ◌∙◌, not, Result, Ok, Err, OnOk, arith, length-append, length-take, if◌then◌else◌}
+use Rattle.std.proofs.Common.{◌≡◌, ℕ, ◌+◌, ◌^◌, ◌<◌, ◌≤◌, ◌==◌, ◌&&◌, ◌||◌, Bool, true, false, List, [], ◌∷◌, ◌++◌, length, take, codes, decimal, refl, ap, ◌∙◌, not, nat_lt, arith, length-append, length-take, if◌then◌else◌}
 use Rattle.std.proofs.lemmas.Bool.Decides.{nat_tests}
 use Rattle.std.proofs.lemmas.Fmt.{length-decimal-le}
 use Rattle.std.proofs.lemmas.List.{length-map}
@@ -17,16 +17,16 @@ comment_short name number small =
 pub too_long_short : (number : ℕ) → number < 2 ^ 64 → length (too_long_comment number) ≤ MOST_AT_ONCE
 too_long_short number small = omega (arith, comment_short (codes "# too long ") number small)
 
-left_out_short : (number : ℕ) (shown : List ℕ) → number < 2 ^ 64 → length shown ≤ MOST_SHOWN → length (left_out_comment number shown) ≤ MOST_AT_ONCE
+left_out_short : (number : ℕ) (shown : List ℕ) → number < 2 ^ 64 → length shown ≤ MOST_SHOWN → length (left_out_comment number shown) ≤ 142
 left_out_short number shown small few =
     let head : List ℕ = codes "# left out " ++ decimal number in
     omega (arith, length-append (head ++ 32 ∷ shown) (10 ∷ []), length-append head (32 ∷ shown), length-append (codes "# left out ") (decimal number), decimal_short number small, few)
 
-pub limited_short : (number : ℕ) (shown text : List ℕ) → number < 2 ^ 64 → length shown ≤ MOST_SHOWN → length (limited number shown text) ≤ MOST_AT_ONCE
-limited_short number shown text small few = by (exceeds_call text) refl
+pub limited_short : (most number : ℕ) (shown text : List ℕ) → 142 ≤ most → number < 2 ^ 64 → length shown ≤ MOST_SHOWN → length (limited most number shown text) ≤ most
+limited_short most number shown text room small few = by (nat_lt most (length text)) refl
   where
-    by : (long : Bool) → exceeds_call text ≡ long → length (if long then left_out_comment number shown else text) ≤ MOST_AT_ONCE
-    by true is = left_out_short number shown small few
+    by : (long : Bool) → nat_lt most (length text) ≡ long → length (if long then left_out_comment number shown else text) ≤ most
+    by true is = omega (arith, left_out_short number shown small few, room)
     by false is = grind (arith, nat_tests, is)
 
 -- ---- without a comment
@@ -54,8 +54,8 @@ plain_same shown begins (b ∷ text) none =
 same_if : (number : ℕ) (line text : List ℕ) → has_comment text ≡ false → exceeds_call text ≡ false → fitted number line text ≡ text
 same_if number line text none short =
     let shown : List ℕ = shown_of line in
-    ap (λ (full : List ℕ). if exceeds_call full then limited number shown text else full) (plain_same shown true text none)
-    ∙ ap (λ (long : Bool). if long then limited number shown text else text) short
+    ap (λ (full : List ℕ). if exceeds_call full then limited MOST_AT_ONCE number shown text else full) (plain_same shown true text none)
+    ∙ ap (λ (long : Bool). if long then limited MOST_AT_ONCE number shown text else text) short
 
 both_none : (x y : Bool) → (not x && not y) ≡ true → (x ≡ false) × (y ≡ false)
 both_none true y is = absurd cc
@@ -77,6 +77,6 @@ fitted_short number line text small = by (exceeds_call full) refl
     full : List ℕ
     full = with_shown (shown_of line) text
 
-    by : (long : Bool) → exceeds_call full ≡ long → length (if long then limited number (shown_of line) text else full) ≤ MOST_AT_ONCE
-    by true is = limited_short number (shown_of line) text small (shown_short line)
+    by : (long : Bool) → exceeds_call full ≡ long → length (if long then limited MOST_AT_ONCE number (shown_of line) text else full) ≤ MOST_AT_ONCE
+    by true is = limited_short MOST_AT_ONCE number (shown_of line) text (omega arith) small (shown_short line)
     by false is = grind (arith, nat_tests, is)

@@ -1,6 +1,8 @@
 -- Each text is whole lines.
-use Rattle.std.proofs.Common.{◌≡◌, ℕ, ◌+◌, ◌==◌, ◌&&◌, Bool, true, false, List, [], ◌∷◌, ◌++◌, codes, decimal, refl, sym, ap, ◌∙◌, append_assoc, inl, inr, Option, None, Some, if◌then◌else◌}
+use Rattle.std.proofs.Common.{◌≡◌, ℕ, ◌+◌, ◌==◌, ◌&&◌, Bool, true, false, List, [], ◌∷◌, ◌++◌, codes, decimal, refl, sym, ap, ◌∙◌, append_assoc, inl, inr, length, nat_lt, Option, if◌then◌else◌}
 use Rattle.std.specs.List.{AllByRecursion}
+use Rattle.line_filters.specs.declared.feeding.TheConstants.{MOST_AT_ONCE}
+use Rattle.log_lines.specs.declared.comments.TheConstants.{MOST_LAST}
 use Rattle.ras_script.specs.Inputs.{Input, line, long}
 use Rattle.ras_script.specs.SplittingLaws.{script_of}
 use Rattle.bank_lines.specs.Counts.{named_found}
@@ -43,8 +45,8 @@ shown_whole shown text (inl none) = inl (ap (with_shown shown) none)
 shown_whole shown text (inr (front, is)) =
     let made = shown_ends shown true false front in inr (made.0, ap (with_shown shown) is ∙ made.1)
 
-limited_whole : (number : ℕ) (shown text : List ℕ) → AreWholeLines text → AreWholeLines (limited number shown text)
-limited_whole number shown text whole = by (exceeds_call text)
+limited_whole : (most number : ℕ) (shown text : List ℕ) → AreWholeLines text → AreWholeLines (limited most number shown text)
+limited_whole most number shown text whole = by (nat_lt most (length text))
   where
     by : (long : Bool) → AreWholeLines (if long then left_out_comment number shown else text)
     by true = ends (codes "# left out " ++ decimal number ++ 32 ∷ shown)
@@ -53,8 +55,8 @@ limited_whole number shown text whole = by (exceeds_call text)
 fitted_whole : (number : ℕ) (bytes text : List ℕ) → AreWholeLines text → AreWholeLines (fitted number bytes text)
 fitted_whole number bytes text whole = by (exceeds_call (with_shown (shown_of bytes) text))
   where
-    by : (long : Bool) → AreWholeLines (if long then limited number (shown_of bytes) text else with_shown (shown_of bytes) text)
-    by true = limited_whole number (shown_of bytes) text whole
+    by : (long : Bool) → AreWholeLines (if long then limited MOST_AT_ONCE number (shown_of bytes) text else with_shown (shown_of bytes) text)
+    by true = limited_whole MOST_AT_ONCE number (shown_of bytes) text whole
     by false = shown_whole (shown_of bytes) text whole
 
 -- ---- a trace
@@ -93,7 +95,7 @@ cut_whole_said number false = inl refl
 
 pub trace_end_whole : (state : TraceFeedState) (cut : Bool) → AreWholeLines (trace_last state cut)
 trace_end_whole state cut =
-    limited_whole (state.taken + 1) [] _ (both (rest_text state.reports) _ (rest_whole state.reports) (cut_whole_said (state.taken + 1) cut))
+    limited_whole MOST_LAST (state.taken + 1) [] _ (both (rest_text state.reports) _ (rest_whole state.reports) (cut_whole_said (state.taken + 1) cut))
 
 -- ---- a log
 
@@ -118,6 +120,6 @@ log_whole state (long ∷ inputs) = (comment_whole (codes "# too long ") (state.
 
 pub log_end_whole : (state : LogFeedState) (cut : Bool) → AreWholeLines (log_last state cut)
 log_end_whole state cut =
-    limited_whole (state.taken + 1) [] _ (both (found_text 0 (found_at_end state.errors.state) ++ rest_text state.reports) _
+    limited_whole MOST_LAST (state.taken + 1) [] _ (both (found_text 0 (found_at_end state.errors.state) ++ rest_text state.reports) _
     (both (found_text 0 (found_at_end state.errors.state)) (rest_text state.reports) (found_whole 0 (found_at_end state.errors.state)) (rest_whole state.reports))
     (cut_whole_said (state.taken + 1) cut))

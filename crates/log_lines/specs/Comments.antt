@@ -61,12 +61,13 @@ exceeds_call text = nat_lt MOST_AT_ONCE (length text)
 abbrev pub is_plain : List ℕ → Bool
 is_plain text = not (has_comment text) && not (exceeds_call text)
 
-abbrev pub limited : ℕ → List ℕ → List ℕ → List ℕ
-limited number shown text = if exceeds_call text then left_out_comment number shown else text
+-- a text of at most this many bytes
+abbrev pub limited : ℕ → ℕ → List ℕ → List ℕ → List ℕ
+limited most number shown text = if nat_lt most (length text) then left_out_comment number shown else text
 
 -- The text about a line: its comments show the line's beginning, unless the text would be too long with it.
 abbrev pub fitted : ℕ → List ℕ → List ℕ → List ℕ
 fitted number line text =
     let shown = shown_of line in
     let full = with_shown shown text in
-    if exceeds_call full then limited number shown text else full
+    if exceeds_call full then limited MOST_AT_ONCE number shown text else full

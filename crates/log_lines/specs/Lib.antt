@@ -2,3 +2,10 @@ pub mod Comments
 pub mod Borders
 pub mod TraceFeed
 pub mod LogFeed
+pub mod Waits
+pub mod Slots
+pub mod Dimms
+pub mod TraceWithDimms
+pub mod LogDimm
+pub mod LogWithDimms
+pub mod DimmLaws

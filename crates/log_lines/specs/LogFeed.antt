@@ -1,5 +1,5 @@
 -- What `lines log` makes of all that a kernel log has.
-use Rattle.std.specs.Prelude.{ℕ, ◌+◌, Bool, List, [], ◌∷◌, ◌++◌, Result, Ok, if◌then◌else◌}
+use Rattle.std.specs.Prelude.{ℕ, ◌+◌, Bool, List, [], ◌∷◌, ◌++◌, Result, Ok}
 use Rattle.ras_script.specs.declared.line.LineRefused.{LineRefused}
 use Rattle.ras_script.specs.Inputs.{Input, line, long}
 use Rattle.line_filters.specs.Feed.{Feed}
@@ -12,6 +12,8 @@ use Rattle.block_lines.specs.Texts.{blocks_text_at, blocks_text_beside, rest_tex
 use Rattle.log_lines.specs.declared.borders.Borders.{Borders}
 use Rattle.log_lines.specs.Borders.{check_said}
 use Rattle.log_lines.specs.Comments.{cut_said, fitted, limited, too_long_comment}
+use Rattle.log_lines.specs.Waits.{waits}
+use Rattle.log_lines.specs.declared.comments.TheConstants.{MOST_LAST}
 
 -- how far a filter has come in a log: the machine check and the report in work, from when on a trace has them too, and
 -- how many inputs it took
@@ -41,6 +43,10 @@ reports_said state bytes =
 
 abbrev pub log_said : LogFeedState → List ℕ → List ℕ
 log_said state bytes = checks_said state bytes ++ reports_said state bytes
+
+-- whether a line's machine check waits for the name of a DIMM
+abbrev pub log_waits : LogFeedState → List ℕ → Bool
+log_waits state bytes = waits (error_in state.errors bytes)
 
 -- the report in work after a line
 abbrev pub reports_after_line : Reporting → List ℕ → Reporting
@@ -87,7 +93,7 @@ log_over state (input ∷ inputs) = log_over (log_after state input) inputs
 -- the text at the end: of a machine check and of a report that aren't whole, and of bytes after the last line feed
 abbrev pub log_last : LogFeedState → Bool → List ℕ
 log_last state cut =
-    limited (state.taken + 1) [] (found_text 0 (found_at_end state.errors.state)
+    limited MOST_LAST (state.taken + 1) [] (found_text 0 (found_at_end state.errors.state)
     ++ rest_text state.reports ++ cut_said (state.taken + 1) cut)
 
 abbrev pub log_feed_makes : LogFeedState → Feed

@@ -18,6 +18,8 @@ use Rattle.event_lines.specs.Driver.{any_event_of}
 use Rattle.event_lines.specs.Filter.{after_by, event_text_by}
 use Rattle.event_lines.specs.Traced.{is_extlog}
 use Rattle.log_lines.specs.Comments.{cut_said, extlog_comment, fitted, gap_comment, limited, too_long_comment}
+use Rattle.log_lines.specs.Waits.{waits}
+use Rattle.log_lines.specs.declared.comments.TheConstants.{MOST_LAST}
 
 -- how far a filter has come in a trace: whether every driver's event of a memory controller is a memory error, the
 -- errors without a counter so far, and how many inputs it took
@@ -84,6 +86,10 @@ trace_said state bytes =
     ++ found_text (state.taken + 1) (named_found state.counts (found_with_cap state.boot state.cap bytes))
     ++ traced_text state bytes
 
+-- whether a line's machine check waits for the name of a DIMM
+abbrev pub trace_waits : TraceFeedState → List ℕ → Bool
+trace_waits state bytes = waits (named_found state.counts (found_with_cap state.boot state.cap bytes))
+
 abbrev pub trace_after_line : TraceFeedState → List ℕ → TraceFeedState
 trace_after_line state bytes = record {
   boot = state.boot;
@@ -123,7 +129,7 @@ trace_over state (input ∷ inputs) = trace_over (trace_after state input) input
 -- the text at the end: of a report that is open, and of bytes after the last line feed
 abbrev pub trace_last : TraceFeedState → Bool → List ℕ
 trace_last state cut =
-    limited (state.taken + 1) [] (rest_text state.reports ++ cut_said (state.taken + 1) cut)
+    limited MOST_LAST (state.taken + 1) [] (rest_text state.reports ++ cut_said (state.taken + 1) cut)
 
 abbrev pub trace_feed_makes : TraceFeedState → Feed
 trace_feed_makes state = record {

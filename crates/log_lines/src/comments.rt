@@ -11,6 +11,9 @@ use std::alloc::Global;
 /// The most bytes of a line that a comment shows.
 pub const MOST_SHOWN: usize = 100;
 
+/// The most bytes of a filter's last text, so that one call prints it behind a text that waits.
+pub const MOST_LAST: usize = 3_000;
+
 // Appends a comment about the input of this number.
 pub(crate) fn push_about(text: &mut Vec<u8>, name: &[u8], number: u64) -> Result<(), NoMemory>
     ensures { OnOk result (text.new.items ≡ text.old.items ++ comment name.now number) }
@@ -54,24 +57,26 @@ pub(crate) fn push_fitted(
     let mut full = Vec::new(alloc);
     push_commented(&mut full, said, &shown)?;
     if exceeds_call(&full) {
-        push_limited(text, said, number, &shown)
+        push_limited(text, said, MOST_AT_ONCE, number, &shown)
     } else {
         text.extend_from_slice(&full)?;
         Ok(())
     }
 }
 
-// Appends a text, or if it is too long a comment with the number of its line and this behind it.
+// Appends a text, or if it has more bytes than this a comment with the number of its line and this
+// behind it.
 pub(crate) fn push_limited(
     text: &mut Vec<u8>,
     said: &[u8],
+    most: usize,
     number: u64,
     shown: &[u8],
 ) -> Result<(), NoMemory>
     ensures { OnOk result
-        (text.new.items ≡ text.old.items ++ limited number shown.now said.now) }
+        (text.new.items ≡ text.old.items ++ limited most number shown.now said.now) }
 {
-    if !exceeds_call(said) {
+    if said.len() <= most {
         text.extend_from_slice(said)?;
         return Ok(());
     }
@@ -98,7 +103,7 @@ fn has_comment(text: &[u8]) -> bool
 }
 
 // Whether one call can't print a text.
-fn exceeds_call(text: &[u8]) -> bool
+pub(crate) fn exceeds_call(text: &[u8]) -> bool
     ensures { result ≡ exceeds_call text.now }
 {
     MOST_AT_ONCE < text.len()

@@ -23,9 +23,11 @@ ghost use Rattle.ras_script.specs.declared.line.Line.TheVariants.{Report};
 ghost use Rattle.log_lines.specs.Borders.{LeavesCheck, LeavesReport, check_said, no_borders};
 ghost use Rattle.log_lines.specs.LogFeed.{LogFeedState, answer, log_checks, log_feed, log_found};
 ghost use Rattle.log_lines.specs.LogFeed.{log_said, log_start};
+ghost use Rattle.log_lines.specs.LogWithDimms.{log_with_dimms};
 ghost use Rattle.log_lines.specs.declared.borders.Borders.{Borders};
 ghost use Rattle.log_lines.specs.TraceFeed.{TraceFeedState, is_gap, trace_begun, trace_checks, trace_feed};
 ghost use Rattle.log_lines.specs.TraceFeed.{trace_text, with_cap};
+ghost use Rattle.log_lines.specs.TraceWithDimms.{trace_with_dimms};
 
 /// One call can print the text of each of the first inputs, of which there are 2^64.
 pub fn texts_are_short()
@@ -33,6 +35,12 @@ pub fn texts_are_short()
         → length inputs < 2 ^ 64 → AreShort ((trace_feed boot cap began drivers).texts inputs) }
     ensures log { (boot cap began : ℕ) (borders : Borders) (inputs : List Input)
         → length inputs < 2 ^ 64 → AreShort ((log_feed boot cap began borders).texts inputs) }
+    ensures trace_dimms { (boot cap began : ℕ) (drivers : Bool) (inputs : List Input)
+        → length inputs < 2 ^ 64
+        → AreShort ((trace_with_dimms boot cap began drivers).texts inputs) }
+    ensures log_dimms { (boot cap began : ℕ) (borders : Borders) (inputs : List Input)
+        → length inputs < 2 ^ 64
+        → AreShort ((log_with_dimms boot cap began borders).texts inputs) }
 {}
 
 /// Each text is whole lines or nothing, and so is the text at the end.
@@ -45,6 +53,18 @@ pub fn texts_are_whole()
         → AllByRecursion AreWholeLines ((log_feed boot cap began borders).texts inputs) }
     ensures log_end { (boot cap began : ℕ) (borders : Borders) (inputs : List Input) (cut : Bool)
         → AreWholeLines ((log_feed boot cap began borders).last inputs cut) }
+{}
+
+/// With ranges between them, each text is whole lines or nothing, and so is the text at the end.
+pub fn texts_with_dimms_are_whole()
+    ensures trace { (boot cap began : ℕ) (drivers : Bool) (inputs : List Input)
+        → AllByRecursion AreWholeLines ((trace_with_dimms boot cap began drivers).texts inputs) }
+    ensures trace_end { (boot cap began : ℕ) (drivers : Bool) (inputs : List Input) (cut : Bool)
+        → AreWholeLines ((trace_with_dimms boot cap began drivers).last inputs cut) }
+    ensures log { (boot cap began : ℕ) (borders : Borders) (inputs : List Input)
+        → AllByRecursion AreWholeLines ((log_with_dimms boot cap began borders).texts inputs) }
+    ensures log_end { (boot cap began : ℕ) (borders : Borders) (inputs : List Input) (cut : Bool)
+        → AreWholeLines ((log_with_dimms boot cap began borders).last inputs cut) }
 {}
 
 /// A line of a trace has a text if it has an event's name behind a clock, whether the event can be

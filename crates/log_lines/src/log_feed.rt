@@ -1,19 +1,19 @@
 //! All that a kernel log has, as lines of script.
 
-ghost use Rattle.std.specs.Prelude.{◌≡◌, ◌+◌, ◌<◌, ◌≤◌, ◌++◌, OnOk};
+ghost use Rattle.std.specs.Prelude.{◌≡◌, ◌+◌, ◌<◌, ◌≤◌, ◌++◌, IfOk, OnOk};
 ghost use Rattle.bank_lines.specs.declared.log_line.TheConstants.{LAST_SECOND};
 ghost use Rattle.line_filters.specs.declared.feeding.TheConstants.{MOST_INPUTS};
 ghost use Rattle.ras_script.specs.Inputs.{line, long};
 ghost use Rattle.log_lines.specs.LogFeed.{checks_said, log_after, log_after_line, log_feed, log_feed_makes};
-ghost use Rattle.log_lines.specs.LogFeed.{log_said, log_start, log_text, reports_after_line, reports_said};
+ghost use Rattle.log_lines.specs.LogFeed.{log_last, log_said, log_start, log_text, log_waits, reports_after_line, reports_said};
 ghost use Rattle.bank_lines.specs.LogAlong.{errors_after_line};
 
 use crate::Borders;
 use crate::borders::push_check;
-use crate::comments::{push_about, push_cut_off, push_fitted, push_limited};
+use crate::comments::{MOST_LAST, push_about, push_cut_off, push_fitted, push_limited};
+use crate::waits::waits;
 use bank_lines::{LogErrors, push_found};
 use block_lines::BlockFilter;
-use line_filters::{InputFilter, InputLine};
 use ras_base::NoMemory;
 use std::alloc::Global;
 use std::marker::Model;
@@ -67,27 +67,37 @@ impl LogFeed {
         }
     }
 
-    // Takes a line, and appends what is said of what both readers find in it.
-    fn push_said(&mut self, alloc: Global, line: &[u8], said: &mut Vec<u8>) -> Result<(), NoMemory>
+    // Takes a line, and appends what is said of what both readers find in it. Returns whether its
+    // machine check waits for the name of a DIMM.
+    fn push_said(
+        &mut self,
+        alloc: Global,
+        line: &[u8],
+        said: &mut Vec<u8>,
+    ) -> Result<bool, NoMemory>
         requires { self.old.taken < MOST_INPUTS }
         ensures said { OnOk result (said.new.items ≡ said.old.items ++ log_said self.old line.now) }
+        ensures waits { IfOk result (λ waits. waits ≡ log_waits self.old line.now) }
         ensures after { OnOk result (self.new ≡ log_after_line self.old line.now) }
     {
-        self.push_check_in(line, said)?;
+        let waits = self.push_check_in(line, said)?;
         self.push_report_in(alloc, line, said)?;
         self.taken += 1;
-        Ok(())
+        Ok(waits)
     }
 
     // Takes a line as one of machine checks, and appends what is said of what is found in it.
-    fn push_check_in(&mut self, line: &[u8], said: &mut Vec<u8>) -> Result<(), NoMemory>
+    // Returns whether it waits for the name of a DIMM.
+    fn push_check_in(&mut self, line: &[u8], said: &mut Vec<u8>) -> Result<bool, NoMemory>
         requires { self.old.taken < MOST_INPUTS }
         ensures said { OnOk result (said.new.items ≡ said.old.items ++ checks_said self.old line.now) }
+        ensures waits { IfOk result (λ waits. waits ≡ log_waits self.old line.now) }
         ensures after { OnOk result (self.new
             ≡ record self.old { errors = errors_after_line self.old.errors line.now }) }
     {
         let found = self.errors.take(line)?;
-        push_check(said, &found, self.borders.checks, self.taken + 1, line)
+        push_check(said, &found, self.borders.checks, self.taken + 1, line)?;
+        Ok(waits(&found))
     }
 
     // Takes a line as one of the firmware's reports, and appends what is said of them.
@@ -107,20 +117,28 @@ impl LogFeed {
             .take_line_beside(alloc, line, self.borders.reports, said)
     }
 
-    // Takes a line, and appends its text.
-    fn take_line(&mut self, alloc: Global, bytes: &[u8], text: &mut Vec<u8>) -> Result<(), NoMemory>
+    // Takes a line, and appends its text. Returns whether its machine check waits for the name of a
+    // DIMM.
+    pub(crate) fn take_line(
+        &mut self,
+        alloc: Global,
+        bytes: &[u8],
+        text: &mut Vec<u8>,
+    ) -> Result<bool, NoMemory>
         requires { self.old.taken < MOST_INPUTS }
         ensures text { OnOk result
             (text.new.items ≡ text.old.items ++ log_text self.old (line bytes.now)) }
+        ensures waits { IfOk result (λ waits. waits ≡ log_waits self.old bytes.now) }
         ensures after { OnOk result (self.new ≡ log_after self.old (line bytes.now)) }
     {
         let mut said = Vec::new(alloc);
-        self.push_said(alloc, bytes, &mut said)?;
-        push_fitted(alloc, text, &said, self.taken, bytes)
+        let waits = self.push_said(alloc, bytes, &mut said)?;
+        push_fitted(alloc, text, &said, self.taken, bytes)?;
+        Ok(waits)
     }
 
     // Takes what stands for a line that is too long, and appends its comment.
-    fn take_long(&mut self, text: &mut Vec<u8>) -> Result<(), NoMemory>
+    pub(crate) fn take_long(&mut self, text: &mut Vec<u8>) -> Result<(), NoMemory>
         requires { self.old.taken < MOST_INPUTS }
         ensures text { OnOk result
             (text.new.items ≡ text.old.items ++ log_text self.old long) }
@@ -129,36 +147,21 @@ impl LogFeed {
         self.taken += 1;
         push_about(text, b"# too long ", self.taken)
     }
-}
 
-impl InputFilter for LogFeed {
-    ghost use Rattle.std.specs.Prelude.{refl};
-
-    ghost makes = { λ f. log_feed_makes f };
-
-    ghost taken = { λ f. f.taken };
-
-    ghost none = { λ _. refl };
-
-    #[tactic(auto, using(crate::proofs::TookLemmas::log_took))]
-    fn take(
-        &mut self,
+    // Appends the text at the end.
+    pub(crate) fn push_last(
+        &self,
         alloc: Global,
-        input: InputLine<'_>,
+        cut: bool,
         text: &mut Vec<u8>,
-    ) -> Result<(), NoMemory> {
-        match input {
-            InputLine::Line(line) => self.take_line(alloc, line, text),
-            InputLine::Long => self.take_long(text),
-        }
-    }
-
-    #[tactic(auto, using(crate::proofs::LimitLemmas::limited_short))]
-    fn push_last(&self, alloc: Global, cut: bool, text: &mut Vec<u8>) -> Result<(), NoMemory> {
+    ) -> Result<(), NoMemory>
+        requires { self.now.taken < MOST_INPUTS }
+        ensures { OnOk result (text.new.items ≡ text.old.items ++ log_last self.now cut) }
+    {
         let mut said = Vec::new(alloc);
         push_found(&mut said, &self.errors.end(), 0)?;
         self.reports.push_open(&mut said)?;
         push_cut_off(&mut said, cut, self.taken + 1)?;
-        push_limited(text, &said, self.taken + 1, &[])
+        push_limited(text, &said, MOST_LAST, self.taken + 1, &[])
     }
 }

@@ -1,19 +1,19 @@
 //! All that the kernel's trace has, as lines of script.
 
-ghost use Rattle.std.specs.Prelude.{◌≡◌, ◌+◌, ◌<◌, ◌≤◌, ◌++◌, codes, OnOk};
+ghost use Rattle.std.specs.Prelude.{◌≡◌, ◌+◌, ◌<◌, ◌≤◌, ◌++◌, codes, IfOk, OnOk};
 ghost use Rattle.bank_lines.specs.LogHeads.{after, begins};
 ghost use Rattle.bank_lines.specs.declared.log_line.TheConstants.{LAST_SECOND};
 ghost use Rattle.line_filters.specs.declared.feeding.TheConstants.{MOST_INPUTS};
 ghost use Rattle.ras_script.specs.Inputs.{line, long};
 ghost use Rattle.log_lines.specs.TraceFeed.{finding_with_cap, gap_said, tells_lost, tells_missing};
 ghost use Rattle.log_lines.specs.TraceFeed.{trace_after, trace_after_line, trace_feed, trace_feed_makes};
-ghost use Rattle.log_lines.specs.TraceFeed.{trace_begun, trace_said, trace_text};
+ghost use Rattle.log_lines.specs.TraceFeed.{trace_begun, trace_last, trace_said, trace_text, trace_waits};
 ghost use Rattle.log_lines.specs.TraceFeed.{traced_after, traced_text, with_cap};
 
-use crate::comments::{push_about, push_cut_off, push_fitted, push_limited};
+use crate::comments::{MOST_LAST, push_about, push_cut_off, push_fitted, push_limited};
+use crate::waits::waits;
 use bank_lines::{AlikeCounts, Finding, cut, push_found, trace_found, value_after};
 use event_lines::{ReportFilter, is_extlog};
-use line_filters::{InputFilter, InputLine};
 use ras_base::NoMemory;
 use ras_facts::BankReport;
 use std::alloc::Global;
@@ -70,20 +70,28 @@ impl TraceFeed {
         }
     }
 
-    // Takes a line, and appends what all readers say of it.
-    fn push_said(&mut self, alloc: Global, line: &[u8], said: &mut Vec<u8>) -> Result<(), NoMemory>
+    // Takes a line, and appends what all readers say of it. Returns whether its machine check waits
+    // for the name of a DIMM.
+    fn push_said(
+        &mut self,
+        alloc: Global,
+        line: &[u8],
+        said: &mut Vec<u8>,
+    ) -> Result<bool, NoMemory>
         requires { self.old.taken < MOST_INPUTS }
         ensures said { OnOk result
             (said.new.items ≡ said.old.items ++ trace_said self.old line.now) }
+        ensures waits { IfOk result (λ waits. waits ≡ trace_waits self.old line.now) }
         ensures after { OnOk result (self.new ≡ trace_after_line self.old line.now) }
     {
         push_gap(said, line, self.taken + 1)?;
         let mut found = finding_with_cap(self.cap, trace_found(self.boot, line));
         self.counts.name(&mut found)?;
         push_found(said, &found, self.taken + 1)?;
+        let waits = waits(&found);
         self.push_event(alloc, line, said)?;
         self.taken += 1;
-        Ok(())
+        Ok(waits)
     }
 
     // Takes a line, and appends what is said of an event other than a machine check.
@@ -101,20 +109,28 @@ impl TraceFeed {
         self.reports.take_line(alloc, line, self.drivers, said)
     }
 
-    // Takes a line, and appends its text.
-    fn take_line(&mut self, alloc: Global, bytes: &[u8], text: &mut Vec<u8>) -> Result<(), NoMemory>
+    // Takes a line, and appends its text. Returns whether its machine check waits for the name of a
+    // DIMM.
+    pub(crate) fn take_line(
+        &mut self,
+        alloc: Global,
+        bytes: &[u8],
+        text: &mut Vec<u8>,
+    ) -> Result<bool, NoMemory>
         requires { self.old.taken < MOST_INPUTS }
         ensures text { OnOk result
             (text.new.items ≡ text.old.items ++ trace_text self.old (line bytes.now)) }
+        ensures waits { IfOk result (λ waits. waits ≡ trace_waits self.old bytes.now) }
         ensures after { OnOk result (self.new ≡ trace_after self.old (line bytes.now)) }
     {
         let mut said = Vec::new(alloc);
-        self.push_said(alloc, bytes, &mut said)?;
-        push_fitted(alloc, text, &said, self.taken, bytes)
+        let waits = self.push_said(alloc, bytes, &mut said)?;
+        push_fitted(alloc, text, &said, self.taken, bytes)?;
+        Ok(waits)
     }
 
     // Takes what stands for a line that is too long, and appends its comment.
-    fn take_long(&mut self, text: &mut Vec<u8>) -> Result<(), NoMemory>
+    pub(crate) fn take_long(&mut self, text: &mut Vec<u8>) -> Result<(), NoMemory>
         requires { self.old.taken < MOST_INPUTS }
         ensures text { OnOk result
             (text.new.items ≡ text.old.items ++ trace_text self.old long) }
@@ -122,6 +138,29 @@ impl TraceFeed {
     {
         self.taken += 1;
         push_about(text, b"# too long ", self.taken)
+    }
+
+    // Appends the text at the end.
+    pub(crate) fn push_last(
+        &self,
+        alloc: Global,
+        cut: bool,
+        text: &mut Vec<u8>,
+    ) -> Result<(), NoMemory>
+        requires { self.now.taken < MOST_INPUTS }
+        ensures { OnOk result (text.new.items ≡ text.old.items ++ trace_last self.now cut) }
+    {
+        let mut said = Vec::new(alloc);
+        self.reports.push_open(&mut said)?;
+        push_cut_off(&mut said, cut, self.taken + 1)?;
+        push_limited(text, &said, MOST_LAST, self.taken + 1, &[])
+    }
+
+    // Returns whether the memory errors of all drivers are read.
+    pub(crate) fn reads_drivers(&self) -> bool
+        ensures { result ≡ self.now.drivers }
+    {
+        self.drivers
     }
 }
 
@@ -182,36 +221,5 @@ fn with_cap(cap: u64, report: BankReport) -> BankReport
         BankReport { cap, ..report }
     } else {
         report
-    }
-}
-
-impl InputFilter for TraceFeed {
-    ghost use Rattle.std.specs.Prelude.{refl};
-
-    ghost makes = { λ f. trace_feed_makes f };
-
-    ghost taken = { λ f. f.taken };
-
-    ghost none = { λ _. refl };
-
-    #[tactic(auto, using(crate::proofs::TookLemmas::trace_took))]
-    fn take(
-        &mut self,
-        alloc: Global,
-        input: InputLine<'_>,
-        text: &mut Vec<u8>,
-    ) -> Result<(), NoMemory> {
-        match input {
-            InputLine::Line(line) => self.take_line(alloc, line, text),
-            InputLine::Long => self.take_long(text),
-        }
-    }
-
-    #[tactic(auto, using(crate::proofs::LimitLemmas::limited_short))]
-    fn push_last(&self, alloc: Global, cut: bool, text: &mut Vec<u8>) -> Result<(), NoMemory> {
-        let mut said = Vec::new(alloc);
-        self.reports.push_open(&mut said)?;
-        push_cut_off(&mut said, cut, self.taken + 1)?;
-        push_limited(text, &said, self.taken + 1, &[])
     }
 }

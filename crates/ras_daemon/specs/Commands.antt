@@ -13,8 +13,8 @@ use Rattle.cper_pcie.specs.Filter.{pcie_filter}
 use Rattle.event_lines.specs.Filter.{report_filter}
 use Rattle.line_filters.specs.Feeds.{Feeds, IsFeedExit, StopsFeeding}
 use Rattle.line_filters.specs.Filters.{Filters, IsFilterExit, OfBoth, StopsFiltering}
-use Rattle.log_lines.specs.LogFeed.{log_feed}
-use Rattle.log_lines.specs.TraceFeed.{trace_feed}
+use Rattle.log_lines.specs.LogWithDimms.{log_with_dimms}
+use Rattle.log_lines.specs.TraceWithDimms.{trace_with_dimms}
 use Rattle.bank_lines.specs.Saved.Printing.{IsRecordExit, PrintsText, StopsPrinting}
 use Rattle.bank_lines.specs.Saved.Records.{record_output}
 use Rattle.ras_klog.specs.Klog.{klog_filter}
@@ -58,11 +58,11 @@ ByTask exit (Some (Klog boot cap)) script left before now old new =
     Leaves (OfBoth (Filters (klog_filter boot cap) exit) script left before now)
     (StopsFiltering (klog_filter boot cap) script before old new) before now old new
 ByTask exit (Some (TraceFeed boot cap began drivers)) script left before now old new =
-    Leaves (OfBoth (Feeds (trace_feed boot cap began drivers) exit) script left before now)
-    (StopsFeeding (trace_feed boot cap began drivers) script before old new) before now old new
+    Leaves (OfBoth (Feeds (trace_with_dimms boot cap began drivers) exit) script left before now)
+    (StopsFeeding (trace_with_dimms boot cap began drivers) script before old new) before now old new
 ByTask exit (Some (LogFeed boot cap began borders)) script left before now old new =
-    Leaves (OfBoth (Feeds (log_feed boot cap began borders) exit) script left before now)
-    (StopsFeeding (log_feed boot cap began borders) script before old new) before now old new
+    Leaves (OfBoth (Feeds (log_with_dimms boot cap began borders) exit) script left before now)
+    (StopsFeeding (log_with_dimms boot cap began borders) script before old new) before now old new
 ByTask exit (Some (TraceLines boot)) script left before now old new =
     Leaves (OfBoth (Filters (trace_filter boot) exit) script left before now)
     (StopsFiltering (trace_filter boot) script before old new) before now old new

@@ -32,7 +32,7 @@ use board_core::{Board, Source};
 use cper_pcie::PcieFilter;
 use event_lines::ReportFilter;
 use line_filters::{feed_lines, filter_lines};
-use log_lines::{LogFeed, TraceFeed};
+use log_lines::{LogWithDimms, TraceWithDimms};
 use ras_exit::{Exit, usage_line};
 use ras_klog::KlogFilter;
 use std::alloc::Global;
@@ -108,7 +108,7 @@ pub fn rasd<S: Source, B: Board>(
                 drivers,
             },
         ) => {
-            let mut filter = TraceFeed::new(alloc, boot, cap, began, drivers);
+            let mut filter = TraceWithDimms::new(alloc, boot, cap, began, drivers);
             feed_lines(alloc, &mut filter, source, board)
         }
         Some(
@@ -119,7 +119,7 @@ pub fn rasd<S: Source, B: Board>(
                 borders,
             },
         ) => {
-            let mut filter = LogFeed::new(alloc, boot, cap, began, borders);
+            let mut filter = LogWithDimms::new(alloc, boot, cap, began, borders);
             feed_lines(alloc, &mut filter, source, board)
         }
         Some(Task::TraceLines { boot }) => {

@@ -1,6 +1,7 @@
 """What `lines log` and `lines trace` with three numbers print: of all that a source has, whatever its length."""
 import re
 
+from reference.dimms import Dimms, LogDimms, is_held, told_in_trace
 from reference.events import is_of_extended_log
 from reference.firmware import Reports
 from reference.kernel import LogLines, Names, trace_text
@@ -32,15 +33,23 @@ def fitted(number, line, text):
     return full if len(full) <= MOST_AT_ONCE else limited(number, end, text)
 
 
-def fed(source, text_of, last):
-    """What a filter prints of each line of a source, and at its end, and the status."""
+def fed(source, text_of, last, told_in):
+    """What a filter prints of each line of a source, and at its end, and the status.
+
+    `text_of` gives what is said of a machine check and of all else in a line, and `told_in` the DIMM that a line names.
+    """
     *lines, cut = source.split(b"\n")
-    texts = []
+    dimms, texts = Dimms(), []
     for number, line in enumerate(lines, 1):
         is_long = len(line) > LONGEST_LINE
-        texts.append(f"# too long {number}\n" if is_long else fitted(number, line, text_of(number, line)))
+        dimms.begin_line(None if is_long else line)
+        if is_long:
+            texts.append(dimms.passed(None, f"# too long {number}\n", False))
+        else:
+            before, check, after = text_of(number, line)
+            texts.append(dimms.passed(told_in(line), fitted(number, line, before + check + after), is_held(check)))
     number = len(lines) + 1
-    texts.append(limited(number, "", last() + (f"# cut {number}\n" if cut else "")))
+    texts.append(dimms.held + limited(number, "", last() + (f"# cut {number}\n" if cut else "")))
     return "".join(texts), 0
 
 
@@ -49,8 +58,9 @@ def log_feed(boot, cap, began, checks, told, log):
     errors, reports = LogLines(boot, cap, checks), Reports(boot, began, reads_events=False, has_own_tables=True, border=told)
     return fed(
         log,
-        lambda number, line: errors.text(number, line) + reports.text(number, line),
+        lambda number, line: ("", errors.text(number, line), reports.text(number, line)),
         lambda: errors.text(None, b"") + reports.text(None, b""),
+        LogDimms().told,
     )
 
 
@@ -61,6 +71,6 @@ def trace_feed(boot, cap, began, trace, of_drivers=False):
     def text(number, line):
         gap = f"# gap {number}\n" if is_gap(line) else ""
         event = f"# extlog {number}\n" if is_of_extended_log(line) else reports.text(number, line)
-        return gap + trace_text(names, boot, number, line, cap) + event
+        return gap, trace_text(names, boot, number, line, cap), event
 
-    return fed(trace, text, lambda: reports.text(None, b""))
+    return fed(trace, text, lambda: reports.text(None, b""), (lambda line: None) if of_drivers else told_in_trace)

@@ -1,4 +1,4 @@
-use Rattle.std.proofs.Common.{◌≡◌, ℕ, ◌+◌, List, ◌++◌, ap, subst, ◌∙◌}
+use Rattle.std.proofs.Common.{◌≡◌, ◌+◌, ◌++◌, ap, subst, ◌∙◌}
 use Rattle.block_lines.specs.Filter.{BlockProgress, progress_after}
 use Rattle.block_lines.specs.LogLines.{report_log_line}
 use Rattle.block_lines.specs.Texts.{blocks_text_beside}

@@ -2,7 +2,8 @@ use Rattle.std.proofs.Common.{◌≡◌, ℕ, ◌+◌, List, ◌++◌, ap, subst
 use Rattle.bank_lines.specs.Counts.{named_found}
 use Rattle.bank_lines.specs.Texts.{found_text}
 use Rattle.bank_lines.specs.declared.found.Finding.{Finding}
-use Rattle.log_lines.specs.TraceFeed.{TraceFeedState, finding_with_cap, found_with_cap, gap_said, trace_said, traced_text}
+use Rattle.log_lines.specs.TraceFeed.{TraceFeedState, finding_with_cap, found_with_cap, gap_said, trace_said}
+use Rattle.log_lines.specs.Waits.{waits}
 use Rattle.log_lines.proofs.JoinLemmas.{joined_three}
 use Rattle.log_lines.proofs.trace_feed.TraceFeed.push_said.Goals as goal
 
@@ -21,3 +22,11 @@ returns-clause-said c =
     c.in_ok-push_gap.ensures
     (c.in_ok-push_found.ensures ∙ ap (λ (found : Finding). c.push_gap.new.said.items ++ found_text number found) is)
     c.in_ok-push_event.ensures.said)
+
+pub returns-clause-waits : goal.returns-clause-waits
+returns-clause-waits c =
+    c.waits-waits.ensures
+    ∙ ap waits (c.in_ok-name.ensures.found
+    ∙ ap (named_found c.self.inside.counts)
+    (c.finding_with_cap-found.ensures ∙ ap (finding_with_cap c.self.inside.cap) c.trace_found.ensures))
+    ∙ ap (λ (state : TraceFeedState). waits (named_found state.counts (found_with_cap state.boot state.cap c.args.line.now))) c.self.view_is

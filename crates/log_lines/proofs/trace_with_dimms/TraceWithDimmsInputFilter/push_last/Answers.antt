@@ -1,0 +1,11 @@
+use Rattle.std.proofs.Common.{arith}
+use Rattle.log_lines.specs.TraceFeed.{trace_last}
+use Rattle.log_lines.proofs.DimmLemmas.{last_short}
+use Rattle.log_lines.proofs.JoinLemmas.{if_ok}
+use Rattle.log_lines.proofs.TookLemmas.{trace_last_short}
+use Rattle.log_lines.proofs.trace_with_dimms.TraceWithDimmsInputFilter.push_last.Goals as goal
+
+pub returns-clause-short : goal.returns-clause-short
+returns-clause-short c =
+    let state = c.args.self.now in
+    if_ok _ (last_short state.dimms (trace_last state.feed c.args.cut) (omega (arith, trace_last_short state.feed c.args.cut c.requires)))
