@@ -199,28 +199,8 @@ impl Dimms {
     {
         if self.is_alone(told, said, waits) {
             text.extend_from_slice(said)?;
-            Ok(())
-        } else {
-            self.pass_beside(alloc, told, said, waits, text)
+            return Ok(());
         }
-    }
-
-    // Appends the same, if there may be a range, a text that waits, or a text that waits from now on.
-    fn pass_beside(
-        &mut self,
-        alloc: Global,
-        told: Option<(u64, &[u8])>,
-        said: &[u8],
-        waits: bool,
-        text: &mut Vec<u8>,
-    ) -> Result<(), NoMemory>
-        ensures text { OnOk result (text.new.items ≡ text.old.items
-            ++ part_text (part_passed self.old
-            (option_map (λ told. (told.0, told.1.now)) told.entry) said.now waits)) }
-        ensures after { OnOk result (self.new
-            ≡ after_part self.old (option_map (λ told. (told.0, told.1.now)) told.entry) said.now
-            waits) }
-    {
         let range = self.range_told(told);
         let held = self.stays_held(said, waits);
         let shown: &[u8] = if held { &[] } else { said };
