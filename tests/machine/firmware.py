@@ -38,7 +38,7 @@ def bert():
 
 
 def memory_section(page, node=1, card=0, module=2, kind=2):
-    """The section of a memory error, by default of several bits."""
+    """The section of a memory error, by default of one bit."""
     # Valid are its address and mask, node, card, module and kind.
     valid = 1 << 1 | 1 << 2 | 1 << 3 | 1 << 4 | 1 << 5 | 1 << 14
     place = struct.pack("<HHHHHHHH", node, card, module, 0, 0, 0, 0, 0)

@@ -33,7 +33,8 @@ class Guest:
         self.images, self.folder = pathlib.Path(images), pathlib.Path(folder)
         self.folder.mkdir(parents=True, exist_ok=True)
         self.process = self.server = self.stream = self.boot = None
-        self.count, self.rest = 0, b""
+        # More of the kernel's parameters, for the boots to come.
+        self.count, self.rest, self.more = 0, b"", ""
 
     def path(self, name):
         """A file of the guest's folder."""
@@ -75,7 +76,7 @@ class Guest:
         }
         drives = [["-drive", f"if=none,id={it},{disks[it]}", "-device", f"virtio-blk-pci,drive={it},serial={it}"] for it in disks]
         parameters = "console=ttyS0 edd=off mitigations=off root=/dev/vda rw panic=5 systemd.show_status=0"
-        parameters += f" memmap={firmware.SIZE:#x}${firmware.PLACE:#x}"
+        parameters += f" memmap={firmware.SIZE:#x}${firmware.PLACE:#x}{self.more}"
         return [
             # The guest's time goes by its instructions: by the host's, a loaded host would leave it no time but for its clock's ticks.
             *("qemu-system-x86_64", "-accel", "tcg,thread=single", "-icount", "shift=3,sleep=on", "-cpu", "Skylake-Server", "-smp", "1", "-m", "1024"),
