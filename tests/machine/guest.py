@@ -181,9 +181,10 @@ class Guest:
         return float(self.text("cut -d ' ' -f 1 /proc/uptime"))
 
     def keep_journal(self, what):
-        """Keeps the end of the guest's journal, for who looks into what failed."""
+        """Keeps the end of the guest's journal, the unit's processes and files, for who looks into what failed."""
+        unit = "systemctl status rasd -l -n 0 --no-pager; ls -l /run/rasd /run/rasd-prepare /var/lib/rasd; cd /var/lib/rasd; tail boot* saved-logs"
         with open(self.path("journal"), "a") as journal:
-            print(f"==== {what}", self.text("journalctl -b -o short-monotonic -n 150 --no-pager"), sep="\n", file=journal)
+            print(f"==== {what}", self.text("journalctl -b -o short-monotonic -n 150 --no-pager"), self.text(unit), sep="\n", file=journal)
 
     def console(self):
         """What its console printed."""
