@@ -1,16 +1,21 @@
 """A guest of QEMU: it boots, runs commands as root, gets machine checks, and loses its power."""
 import base64
 import contextlib
+import mmap
 import os
 import pathlib
+import select
 import socket
 import subprocess
 import sys
 import time
 
+import firmware
+
 HERE = pathlib.Path(__file__).resolve().parent
-# A boot takes a minute on a free machine, and many on a loaded one: TCG has no help of the processor.
-PATIENCE = 1200
+# A boot takes half a minute of the processor, since TCG has no help of it, and on a loaded host a long time. So a guest has time
+# until QEMU has spent so many of the processor's seconds, or an idle one so many of the clock's.
+PATIENCE, AT_MOST = 300, 10_000
 # What waits looks now and then, since a look costs the guest as much as what it waits for.
 PAUSE = 3
 RECORDS = 65536
@@ -27,8 +32,9 @@ class Guest:
     def __init__(self, images, folder):
         self.images, self.folder = pathlib.Path(images), pathlib.Path(folder)
         self.folder.mkdir(parents=True, exist_ok=True)
-        self.process = self.server = self.stream = self.lines = self.boot = None
-        self.count = 0
+        self.process = self.server = self.stream = self.boot = None
+        # More of the kernel's parameters, for the boots to come.
+        self.count, self.rest, self.more = 0, b"", ""
 
     def path(self, name):
         """A file of the guest's folder."""
@@ -47,6 +53,8 @@ class Guest:
         subprocess.run(["mke2fs", "-q", "-t", "ext4", "-L", "account", self.path("account")], check=True)
         names = [word for file in files for word in ("-C", os.path.dirname(file), os.path.basename(file))]
         subprocess.run(["tar", "-cf", self.path("files"), *names], check=True)
+        for name, table in (("hest", firmware.hest()), ("bert", firmware.bert())):
+            pathlib.Path(self.path(name)).write_bytes(table)
 
     def serve_account(self):
         """Serves the account's disk, which loses at a cut what had no flush."""
@@ -67,12 +75,18 @@ class Guest:
             "account": f"file=nbd+unix:///?socket={self.path('disk')},format=raw,cache=none",
         }
         drives = [["-drive", f"if=none,id={it},{disks[it]}", "-device", f"virtio-blk-pci,drive={it},serial={it}"] for it in disks]
+        parameters = "console=ttyS0 edd=off mitigations=off root=/dev/vda rw panic=5 systemd.show_status=0"
+        parameters += f" memmap={firmware.SIZE:#x}${firmware.PLACE:#x}{self.more}"
         return [
             # The guest's time goes by its instructions: by the host's, a loaded host would leave it no time but for its clock's ticks.
             *("qemu-system-x86_64", "-accel", "tcg,thread=single", "-icount", "shift=3,sleep=on", "-cpu", "Skylake-Server", "-smp", "1", "-m", "1024"),
             *("-display", "none", "-nodefaults", "-no-reboot"),
             *("-kernel", str(self.images / "kernel"), "-initrd", str(self.images / "initrd")),
-            *("-append", "console=ttyS0 edd=off mitigations=off root=/dev/vda rw panic=5 systemd.show_status=0"),
+            *("-append", parameters),
+            # The host writes into this memory too, as firmware does.
+            *("-object", "memory-backend-memfd,id=memory,size=1G,share=on", "-machine", "memory-backend=memory"),
+            *("-acpitable", f"file={self.path('hest')}", "-acpitable", f"file={self.path('bert')}"),
+            *("-device", f"loader,file={self.path('regions')},addr={firmware.PLACE:#x},force-raw=on"),
             *("-chardev", f"file,id=console,path={self.path('console')},append=on", "-serial", "chardev:console"),
             *("-monitor", f"unix:{self.path('monitor')},server=on,wait=off"),
             *[word for drive in drives for word in drive],
@@ -82,52 +96,78 @@ class Guest:
             *("-device", "acpi-erst,memdev=records"),
         ]
 
-    def start(self):
-        """Boots it, and waits for its agent."""
+    def write_regions(self, saved):
+        """Writes what the firmware's memory has at the boot: no report, and perhaps what it saved of a crash."""
+        regions = bytearray(firmware.SIZE)
+        regions[:8] = firmware.BLOCK.to_bytes(8, "little")
+        at = firmware.SAVED - firmware.PLACE
+        regions[at : at + len(saved)] = saved
+        pathlib.Path(self.path("regions")).write_bytes(regions)
+
+    def start(self, saved=b""):
+        """Boots it, perhaps with a block that the firmware saved of the crash before, and waits for its agent."""
+        self.write_regions(saved)
         self.serve_account()
         for name in ("agent", "monitor"):
             pathlib.Path(self.path(name)).unlink(missing_ok=True)
         with open(self.path("errors"), "a") as errors:
             how = {"stdin": subprocess.DEVNULL, "stdout": errors, "stderr": errors}
             self.process = subprocess.Popen(self.words(), **how)
-        end = time.monotonic() + PATIENCE
+        limit = self.limit()
         while not self.connects():
-            if self.process.poll() is not None or time.monotonic() > end:
-                raise Ended(pathlib.Path(self.path("errors")).read_text()[-500:])
+            limit()
             time.sleep(0.2)
-        while not (line := self.answer(PATIENCE)).startswith("READY"):
+        while not (line := self.answer()).startswith("READY"):
             pass
         self.boot = line.split()[1]
 
+    def spent(self):
+        """The processor's seconds that QEMU has spent."""
+        if self.process.poll() is not None:
+            return 0
+        with open(f"/proc/{self.process.pid}/stat") as file:
+            words = file.read().rpartition(")")[2].split()
+        return (int(words[11]) + int(words[12])) / os.sysconf("SC_CLK_TCK")
+
+    def limit(self):
+        """What raises an error once QEMU has ended, or the patience with it, from now on."""
+        until, end = self.spent() + PATIENCE, time.monotonic() + AT_MOST
+
+        def check():
+            if self.process.poll() is not None:
+                raise Ended(f"the guest has ended: {pathlib.Path(self.path('errors')).read_text()[-500:]}")
+            if self.spent() > until or time.monotonic() > end:
+                raise Ended("the guest doesn't answer")
+
+        return check
+
     def connects(self):
         """Whether QEMU has the agent's socket by now."""
-        self.stream = socket.socket(socket.AF_UNIX)
+        self.stream, self.rest = socket.socket(socket.AF_UNIX), b""
         with contextlib.suppress(OSError):
             self.stream.connect(self.path("agent"))
-            self.lines = self.stream.makefile("rwb")
             return True
         return False
 
-    def answer(self, seconds):
+    def answer(self):
         """A line of the agent."""
-        self.stream.settimeout(seconds)
-        try:
-            line = self.lines.readline().decode(errors="replace")
-        except OSError as error:
-            raise Ended(str(error)) from error
-        if not line:
-            raise Ended("the guest has ended")
-        return line
+        limit = self.limit()
+        while b"\n" not in self.rest:
+            if not select.select([self.stream], [], [], 5)[0]:
+                limit()
+                continue
+            data = self.stream.recv(65536)
+            if not data:
+                raise Ended("the guest has ended")
+            self.rest += data
+        line, _, self.rest = self.rest.partition(b"\n")
+        return line.decode(errors="replace")
 
-    def run(self, command, seconds=PATIENCE):
+    def run(self, command):
         """The status of a command of the guest's shell, and what it printed."""
         self.count += 1
-        try:
-            self.lines.write(b"%d %s\n" % (self.count, base64.b64encode(command.encode())))
-            self.lines.flush()
-        except OSError as error:
-            raise Ended(str(error)) from error
-        while (words := self.answer(seconds).split())[0] != str(self.count):
+        self.stream.sendall(b"%d %s\n" % (self.count, base64.b64encode(command.encode())))
+        while (words := self.answer().split())[:1] != [str(self.count)]:
             pass
         text = base64.b64decode(words[2]).decode(errors="replace") if len(words) > 2 else ""
         return int(words[1]), text
@@ -141,9 +181,10 @@ class Guest:
         return float(self.text("cut -d ' ' -f 1 /proc/uptime"))
 
     def keep_journal(self, what):
-        """Keeps the end of the guest's journal, for who looks into what failed."""
+        """Keeps the end of the guest's journal, the unit's processes and files, for who looks into what failed."""
+        unit = "systemctl status rasd -l -n 0 --no-pager; ls -l /run/rasd /run/rasd-prepare /var/lib/rasd; cd /var/lib/rasd; tail boot* saved-logs"
         with open(self.path("journal"), "a") as journal:
-            print(f"==== {what}", self.text("journalctl -b -o short-monotonic -n 150 --no-pager"), sep="\n", file=journal)
+            print(f"==== {what}", self.text("journalctl -b -o short-monotonic -n 150 --no-pager"), self.text(unit), sep="\n", file=journal)
 
     def console(self):
         """What its console printed."""
@@ -183,22 +224,55 @@ class Guest:
         numbers = f"{status:#x} {global_status:#x} {address:#x} {misc:#x}"
         return self.monitor(f"mce {'-b ' if everywhere else ''}0 {bank} {numbers}")
 
-    def ends(self, seconds=PATIENCE):
-        """Whether QEMU ends within these seconds, as it does if the guest reboots."""
+    def memory(self):
+        """The guest's memory."""
+        folder = pathlib.Path(f"/proc/{self.process.pid}/fd")
+        for descriptor in folder.iterdir():
+            if os.readlink(descriptor).startswith("/memfd:memory-backend-memfd"):
+                with open(descriptor, "r+b") as file:
+                    return mmap.mmap(file.fileno(), 0)
+        raise Ended("QEMU has no memory to write to")
+
+    def put(self, block):
+        """Has the firmware report a block, without waiting for Linux to take it."""
+        at = firmware.BLOCK
+        with self.memory() as memory:
+            memory[at + 4 : at + len(block)] = block[4:]
+            memory[at : at + 4] = block[:4]
+
+    def report(self, block, seconds=30):
+        """Has the firmware report a block; returns whether Linux took it within these seconds of the guest's."""
+        self.put(block)
+        begun = self.now()
+        with self.memory() as memory:
+            while True:
+                for _ in range(100):
+                    # Linux clears the block's first word once it has the block.
+                    if memory[firmware.BLOCK : firmware.BLOCK + 4] == bytes(4):
+                        return True
+                    time.sleep(0.02)
+                if self.now() > begun + seconds:
+                    return False
+
+    def ends(self):
+        """Whether QEMU ends, as it does if the guest reboots."""
+        limit = self.limit()
         try:
-            self.process.wait(seconds)
-        except subprocess.TimeoutExpired:
-            return False
+            while self.process.poll() is None:
+                limit()
+                time.sleep(0.2)
+        except Ended:
+            return self.process.poll() is not None
         self.stream.close()
         return True
 
-    def reboot(self):
-        """Has the guest shut down, and boots it again."""
-        with contextlib.suppress(Ended):
+    def reboot(self, saved=b""):
+        """Has the guest shut down, and boots it again, perhaps with a block that the firmware saved."""
+        with contextlib.suppress(Ended, OSError):
             self.run("systemctl --no-block reboot")
         if not self.ends():
             raise Ended("the guest doesn't shut down")
-        self.start()
+        self.start(saved)
 
     def cut(self, seed):
         """Takes its power away; says how many sectors of the account's disk had no flush, and how many lost a write."""

@@ -20,9 +20,9 @@ use Rattle.ras_script.specs.Inputs.{Input, line, long}
 use Rattle.log_lines.specs.Comments.{exceeds_call, fitted}
 use Rattle.log_lines.specs.DimmLaws.{ChangesNoError, HasNoSlot, PrintsTexts, plain_part}
 use Rattle.log_lines.specs.Dimms.{DimmsState, Saying, dimm_parts, dimms_after, dimms_begun, dimms_last, dimms_over, heard, part_text}
-use Rattle.log_lines.specs.LogDimm.{log_told_after}
+use Rattle.log_lines.specs.LogDimm.{told_if}
 use Rattle.log_lines.specs.LogFeed.{LogFeedState, log_after_line, log_last, log_over, log_text, log_texts, log_waits}
-use Rattle.log_lines.specs.LogWithDimms.{LogDimmsState, log_dimms_after, log_saying, log_sayings}
+use Rattle.log_lines.specs.LogWithDimms.{LogDimmsState, listens_to, log_dimms_after, log_saying, log_sayings}
 use Rattle.log_lines.specs.Slots.{SlotLine}
 use Rattle.log_lines.specs.TraceFeed.{TraceFeedState, before_line, found_with_cap, gap_said, trace_after_line, trace_last, trace_over, trace_text, trace_texts, trace_waits}
 use Rattle.log_lines.specs.TraceWithDimms.{TraceDimmsState, trace_dimms_after, trace_saying, trace_sayings, trace_told}
@@ -76,44 +76,44 @@ trace_end_unchanged state inputs cut none =
 
 -- ---- a log
 
-pub log_said_are : (told : ToldInLog) (state : LogFeedState) (inputs : List Input) → map (λ (s : Saying). s.said) (log_sayings told state inputs) ≡ log_texts state inputs
-log_said_are told state [] = refl
-log_said_are told state (line bytes ∷ inputs) = ap (λ (texts : List (List ℕ)). log_text state (line bytes) ∷ texts) (log_said_are (log_told_after told bytes) (log_after_line state bytes) inputs)
-log_said_are told state (long ∷ inputs) = ap (λ (texts : List (List ℕ)). log_text state long ∷ texts) (log_said_are told (record state { taken = state.taken + 1 }) inputs)
+pub log_said_are : (state : LogDimmsState) (inputs : List Input) → map (λ (s : Saying). s.said) (log_sayings state inputs) ≡ log_texts state.feed inputs
+log_said_are state [] = refl
+log_said_are state (line bytes ∷ inputs) = ap (λ (texts : List (List ℕ)). log_text state.feed (line bytes) ∷ texts) (log_said_are (log_dimms_after state (line bytes)) inputs)
+log_said_are state (long ∷ inputs) = ap (λ (texts : List (List ℕ)). log_text state.feed long ∷ texts) (log_said_are (log_dimms_after state long) inputs)
 
 log_taken : (state : LogFeedState) (inputs : List Input) → (log_over state inputs).taken ≡ state.taken + length inputs
 log_taken state [] = omega arith
 log_taken state (line bytes ∷ inputs) = omega (arith, log_taken (log_after_line state bytes) inputs)
 log_taken state (long ∷ inputs) = omega (arith, log_taken (record state { taken = state.taken + 1 }) inputs)
 
-log_no_slots : (told : ToldInLog) (state : LogFeedState) (inputs : List Input) → AllByRecursion HasNoSlot inputs → AllByRecursion (λ (s : Saying). s.slot ≡ None) (log_sayings told state inputs)
-log_no_slots told state [] none = tt
-log_no_slots told state (line bytes ∷ inputs) none = (none.0, log_no_slots (log_told_after told bytes) (log_after_line state bytes) inputs none.1)
-log_no_slots told state (long ∷ inputs) none = (refl, log_no_slots told (record state { taken = state.taken + 1 }) inputs none.1)
+log_no_slots : (state : LogDimmsState) (inputs : List Input) → AllByRecursion HasNoSlot inputs → AllByRecursion (λ (s : Saying). s.slot ≡ None) (log_sayings state inputs)
+log_no_slots state [] none = tt
+log_no_slots state (line bytes ∷ inputs) none = (none.0, log_no_slots (log_dimms_after state (line bytes)) inputs none.1)
+log_no_slots state (long ∷ inputs) none = (refl, log_no_slots (log_dimms_after state long) inputs none.1)
 
-pub log_changes : (told : ToldInLog) (state : LogFeedState) (inputs : List Input) (cut : Bool) → state.taken + length inputs < MOST_INPUTS
-    → ChangesNoError (log_texts state inputs) (log_last (log_over state inputs) cut) (dimm_parts dimms_begun (log_sayings told state inputs))
-    (map part_text (dimm_parts dimms_begun (log_sayings told state inputs))) (dimms_last (dimms_over dimms_begun (log_sayings told state inputs)) (log_last (log_over state inputs) cut))
-log_changes told state inputs cut few =
-    let sayings : List Saying = log_sayings told state inputs in
+pub log_changes : (state : LogDimmsState) (inputs : List Input) (cut : Bool) → state.feed.taken + length inputs < MOST_INPUTS
+    → ChangesNoError (log_texts state.feed inputs) (log_last (log_over state.feed inputs) cut) (dimm_parts dimms_begun (log_sayings state inputs))
+    (map part_text (dimm_parts dimms_begun (log_sayings state inputs))) (dimms_last (dimms_over dimms_begun (log_sayings state inputs)) (log_last (log_over state.feed inputs) cut))
+log_changes state inputs cut few =
+    let sayings : List Saying = log_sayings state inputs in
     record {
       rest = (dimms_over dimms_begun sayings).held;
       parts_are = refl;
-      each = subst (λ (texts : List (List ℕ)). PrintsTexts [] texts (map plain_part (dimm_parts dimms_begun sayings)) (dimms_over dimms_begun sayings).held) (log_said_are told state inputs) (prints_each sayings dimms_begun);
-      end_is = last_is (dimms_over dimms_begun sayings) (log_last (log_over state inputs) cut) (held_short sayings dimms_begun (omega arith))
-          (log_last_short (log_over state inputs) cut (omega (arith, log_taken state inputs, few)));
+      each = subst (λ (texts : List (List ℕ)). PrintsTexts [] texts (map plain_part (dimm_parts dimms_begun sayings)) (dimms_over dimms_begun sayings).held) (log_said_are state inputs) (prints_each sayings dimms_begun);
+      end_is = last_is (dimms_over dimms_begun sayings) (log_last (log_over state.feed inputs) cut) (held_short sayings dimms_begun (omega arith))
+          (log_last_short (log_over state.feed inputs) cut (omega (arith, log_taken state.feed inputs, few)));
     }
 
-pub log_unchanged : (told : ToldInLog) (state : LogFeedState) (inputs : List Input) → AllByRecursion HasNoSlot inputs
-    → map part_text (dimm_parts dimms_begun (log_sayings told state inputs)) ≡ log_texts state inputs
-log_unchanged told state inputs none =
-    (quiet_from_start (log_sayings told state inputs) (log_no_slots told state inputs none)).texts ∙ log_said_are told state inputs
+pub log_unchanged : (state : LogDimmsState) (inputs : List Input) → AllByRecursion HasNoSlot inputs
+    → map part_text (dimm_parts dimms_begun (log_sayings state inputs)) ≡ log_texts state.feed inputs
+log_unchanged state inputs none =
+    (quiet_from_start (log_sayings state inputs) (log_no_slots state inputs none)).texts ∙ log_said_are state inputs
 
-pub log_end_unchanged : (told : ToldInLog) (state : LogFeedState) (inputs : List Input) (cut : Bool) → AllByRecursion HasNoSlot inputs
-    → dimms_last (dimms_over dimms_begun (log_sayings told state inputs)) (log_last (log_over state inputs) cut) ≡ log_last (log_over state inputs) cut
-log_end_unchanged told state inputs cut none =
-    last_alone (dimms_over dimms_begun (log_sayings told state inputs)) (log_last (log_over state inputs) cut)
-    (quiet_from_start (log_sayings told state inputs) (log_no_slots told state inputs none)).held
+pub log_end_unchanged : (state : LogDimmsState) (inputs : List Input) (cut : Bool) → AllByRecursion HasNoSlot inputs
+    → dimms_last (dimms_over dimms_begun (log_sayings state inputs)) (log_last (log_over state.feed inputs) cut) ≡ log_last (log_over state.feed inputs) cut
+log_end_unchanged state inputs cut none =
+    last_alone (dimms_over dimms_begun (log_sayings state inputs)) (log_last (log_over state.feed inputs) cut)
+    (quiet_from_start (log_sayings state inputs) (log_no_slots state inputs none)).held
 
 -- ---- short, and whole lines
 
@@ -132,20 +132,20 @@ pub trace_dimms_end_whole : (state : TraceFeedState) (inputs : List Input) (cut 
 trace_dimms_end_whole state inputs cut =
     end_whole (trace_sayings state inputs) dimms_begun (trace_last (trace_over state inputs) cut) (inl refl) (trace_said_whole state inputs) (trace_end_whole (trace_over state inputs) cut)
 
-pub log_dimms_short : (told : ToldInLog) (state : LogFeedState) (inputs : List Input) → state.taken + length inputs < 2 ^ 64 → AreShort (map part_text (dimm_parts dimms_begun (log_sayings told state inputs)))
-log_dimms_short told state inputs few =
-    parts_short (log_sayings told state inputs) dimms_begun (subst (λ (texts : List (List ℕ)). AreShort texts) (sym (log_said_are told state inputs)) (log_short state inputs few))
+pub log_dimms_short : (state : LogDimmsState) (inputs : List Input) → state.feed.taken + length inputs < 2 ^ 64 → AreShort (map part_text (dimm_parts dimms_begun (log_sayings state inputs)))
+log_dimms_short state inputs few =
+    parts_short (log_sayings state inputs) dimms_begun (subst (λ (texts : List (List ℕ)). AreShort texts) (sym (log_said_are state inputs)) (log_short state.feed inputs few))
 
-log_said_whole : (told : ToldInLog) (state : LogFeedState) (inputs : List Input) → AllByRecursion AreWholeLines (map (λ (s : Saying). s.said) (log_sayings told state inputs))
-log_said_whole told state inputs = subst (λ (texts : List (List ℕ)). AllByRecursion AreWholeLines texts) (sym (log_said_are told state inputs)) (log_whole state inputs)
+log_said_whole : (state : LogDimmsState) (inputs : List Input) → AllByRecursion AreWholeLines (map (λ (s : Saying). s.said) (log_sayings state inputs))
+log_said_whole state inputs = subst (λ (texts : List (List ℕ)). AllByRecursion AreWholeLines texts) (sym (log_said_are state inputs)) (log_whole state.feed inputs)
 
-pub log_dimms_whole : (told : ToldInLog) (state : LogFeedState) (inputs : List Input) → AllByRecursion AreWholeLines (map part_text (dimm_parts dimms_begun (log_sayings told state inputs)))
-log_dimms_whole told state inputs = parts_whole (log_sayings told state inputs) dimms_begun (inl refl) (log_said_whole told state inputs)
+pub log_dimms_whole : (state : LogDimmsState) (inputs : List Input) → AllByRecursion AreWholeLines (map part_text (dimm_parts dimms_begun (log_sayings state inputs)))
+log_dimms_whole state inputs = parts_whole (log_sayings state inputs) dimms_begun (inl refl) (log_said_whole state inputs)
 
-pub log_dimms_end_whole : (told : ToldInLog) (state : LogFeedState) (inputs : List Input) (cut : Bool)
-    → AreWholeLines (dimms_last (dimms_over dimms_begun (log_sayings told state inputs)) (log_last (log_over state inputs) cut))
-log_dimms_end_whole told state inputs cut =
-    end_whole (log_sayings told state inputs) dimms_begun (log_last (log_over state inputs) cut) (inl refl) (log_said_whole told state inputs) (log_end_whole (log_over state inputs) cut)
+pub log_dimms_end_whole : (state : LogDimmsState) (inputs : List Input) (cut : Bool)
+    → AreWholeLines (dimms_last (dimms_over dimms_begun (log_sayings state inputs)) (log_last (log_over state.feed inputs) cut))
+log_dimms_end_whole state inputs cut =
+    end_whole (log_sayings state inputs) dimms_begun (log_last (log_over state.feed inputs) cut) (inl refl) (log_said_whole state inputs) (log_end_whole (log_over state.feed inputs) cut)
 
 -- ---- an empty line
 
@@ -174,6 +174,10 @@ empty_told state = by state.drivers
     by : (drivers : Bool) → (if drivers then None else traced_dimm_of []) ≡ None
     by true = refl
     by false = refl
+
+empty_log_told : (listening : Bool) (told : ToldInLog) → told_if listening told [] ≡ None
+empty_log_told true told = refl
+empty_log_told false told = refl
 
 -- an empty line ends no report
 no_end : (work : Option OpenReport) → option_map_or (λ report. is_ended_by report (report_log_line []).stamp (report_log_line []).marking) work false ≡ false
@@ -216,4 +220,4 @@ trace_released state few =
 
 pub log_released : (state : LogDimmsState) → length state.dimms.held ≤ MOST_HELD → (log_dimms_after state (line [])).dimms.held ≡ []
 log_released state few =
-    released_by state.dimms (log_saying state.told state.feed (line [])) refl (empty_log_text state.feed) (empty_log_waits state.feed) few
+    released_by state.dimms (log_saying state (line [])) (empty_log_told (listens_to state.dimms []) state.told) (empty_log_text state.feed) (empty_log_waits state.feed) few

@@ -8,9 +8,9 @@ use Rattle.bank_lines.specs.Texts.{found_text}
 use Rattle.block_lines.specs.Texts.{rest_text}
 use Rattle.log_lines.specs.Comments.{cut_said}
 use Rattle.log_lines.specs.Dimms.{heard, part_at, part_text, slot_line}
+use Rattle.log_lines.specs.LogDimm.{told_if}
 use Rattle.log_lines.specs.LogFeed.{LogFeedState, log_last, log_said, log_text, log_waits}
-use Rattle.log_lines.specs.LogDimm.{dimm_in_log}
-use Rattle.log_lines.specs.LogWithDimms.{LogDimmsState, log_dimms_after, log_dimms_makes, log_saying}
+use Rattle.log_lines.specs.LogWithDimms.{LogDimmsState, listens_to, log_dimms_after, log_dimms_makes, log_saying}
 use Rattle.log_lines.specs.TraceFeed.{TraceFeedState, trace_last, trace_said, trace_text, trace_waits}
 use Rattle.log_lines.specs.TraceWithDimms.{TraceDimmsState, trace_dimms_after, trace_dimms_makes, trace_saying, trace_told}
 use Rattle.log_lines.specs.declared.comments.TheConstants.{MOST_LAST}
@@ -34,9 +34,9 @@ trace_part_short state (line bytes) few =
 trace_part_short state long few = part_short (heard state.dimms None) None (trace_text state.feed long) false (trace_text_short state.feed long few)
 
 log_part_short : (state : LogDimmsState) (input : Input) → state.feed.taken < MOST_INPUTS
-    → length (part_text (part_at state.dimms (log_saying state.told state.feed input))) ≤ MOST_AT_ONCE
+    → length (part_text (part_at state.dimms (log_saying state input))) ≤ MOST_AT_ONCE
 log_part_short state (line bytes) few =
-    part_short (heard state.dimms (slot_line bytes)) (dimm_in_log state.told bytes) (log_text state.feed (line bytes)) (log_waits state.feed bytes) (log_text_short state.feed (line bytes) few)
+    part_short (heard state.dimms (slot_line bytes)) (told_if (listens_to state.dimms bytes) state.told bytes) (log_text state.feed (line bytes)) (log_waits state.feed bytes) (log_text_short state.feed (line bytes) few)
 log_part_short state long few = part_short (heard state.dimms None) None (log_text state.feed long) false (log_text_short state.feed long few)
 
 -- ---- one call can print the text at the end
@@ -64,10 +64,10 @@ trace_took state input old new few out = record {
 }
 
 pub log_took : (state : LogDimmsState) (input : Input) (old new : List ℕ) → state.feed.taken < MOST_INPUTS
-    → new ≡ old ++ part_text (part_at state.dimms (log_saying state.told state.feed input))
+    → new ≡ old ++ part_text (part_at state.dimms (log_saying state input))
     → TookInput input (log_dimms_makes state) (log_dimms_makes (log_dimms_after state input)) old new
 log_took state input old new few out = record {
-  text = part_text (part_at state.dimms (log_saying state.told state.feed input));
+  text = part_text (part_at state.dimms (log_saying state input));
   out = out;
   short = log_part_short state input few;
   texts = λ inputs. refl;

@@ -4,8 +4,7 @@ use Rattle.std.specs.List.{AllByRecursion}
 use Rattle.ras_script.specs.Inputs.{Input, line, long}
 use Rattle.line_filters.specs.declared.feeding.TheConstants.{MOST_AT_ONCE}
 use Rattle.log_lines.specs.Dimms.{Part, Saying, block_at, dimm_parts, dimms_begun, part_text, range_text, slot_line}
-use Rattle.log_lines.specs.LogFeed.{log_start}
-use Rattle.log_lines.specs.LogWithDimms.{log_sayings}
+use Rattle.log_lines.specs.LogWithDimms.{log_dimms_begun, log_sayings}
 use Rattle.log_lines.specs.TraceFeed.{trace_begun}
 use Rattle.log_lines.specs.TraceWithDimms.{trace_sayings}
 use Rattle.log_lines.specs.declared.borders.Borders.{Borders}
@@ -18,7 +17,7 @@ said_in_trace boot cap began drivers inputs = trace_sayings (trace_begun boot ca
 
 abbrev pub said_in_log : ℕ → ℕ → ℕ → Borders → List Input → List Saying
 said_in_log boot cap began borders inputs =
-    log_sayings (record { place = None }) (log_start boot cap began borders) inputs
+    log_sayings (log_dimms_begun boot cap began borders) inputs
 
 -- the parts that are printed at the inputs of a trace, and of a log
 abbrev pub trace_parts : ℕ → ℕ → ℕ → Bool → List Input → List Part

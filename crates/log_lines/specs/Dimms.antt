@@ -1,5 +1,5 @@
 -- Which DIMM the kernel names, and what is printed for it: a line `range` before the error that waits for the name.
-use Rattle.std.specs.Prelude.{ℕ, ◌+◌, ◌*◌, ◌/◌, ◌==◌, ◌&&◌, Bool, true, false, not, List, [], ◌∷◌, ◌++◌, codes, drop, length, nat_lt, Option, None, Some, if◌then◌else◌}
+use Rattle.std.specs.Prelude.{ℕ, ◌+◌, ◌*◌, ◌/◌, ◌==◌, ◌&&◌, Bool, true, false, not, List, [], ◌∷◌, ◌++◌, codes, drop, is_none, length, nat_lt, Option, None, Some, if◌then◌else◌}
 use Rattle.std.specs.List.{find, list_any}
 use Rattle.std.specs.Option.{option_map}
 use Rattle.std.specs.Str.{bytes_eq}
@@ -104,6 +104,10 @@ part_text part = range_text part.range ++ part.released ++ part.said
 -- whether a text waits: its machine check may get a range, and it isn't too long
 abbrev pub stays_held : DimmsState → List ℕ → Bool → Bool
 stays_held dimms said waits = waits && listens dimms && not (nat_lt MOST_HELD (length said))
+
+-- whether a text is printed alone: no text waits, no line told a DIMM, and the text doesn't wait
+abbrev pub is_alone : DimmsState → Option (ℕ × List ℕ) → List ℕ → Bool → Bool
+is_alone dimms told said waits = length dimms.held == 0 && (is_none told && not (stays_held dimms said waits))
 
 abbrev pub whole_part : DimmsState → Option (ℕ × List ℕ) → List ℕ → Bool → Part
 whole_part dimms told said waits = record {

@@ -139,3 +139,10 @@ dimm_in_log told line = whole_dimm told (without_return line)
 
 abbrev pub log_told_after : ToldInLog → List ℕ → ToldInLog
 log_told_after told line = record { place = whole_after told (without_return line) }
+
+-- what a line tells, if somebody listens, and what is told after it
+abbrev pub told_if : Bool → ToldInLog → List ℕ → Option (ℕ × List ℕ)
+told_if listening told bytes = if listening then dimm_in_log told bytes else None
+
+abbrev pub told_after_if : Bool → ToldInLog → List ℕ → ToldInLog
+told_after_if listening told bytes = if listening then log_told_after told bytes else told

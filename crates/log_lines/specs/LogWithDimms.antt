@@ -2,8 +2,8 @@
 use Rattle.std.specs.Prelude.{ℕ, Bool, false, List, [], ◌∷◌, map, None}
 use Rattle.ras_script.specs.Inputs.{Input, line, long}
 use Rattle.line_filters.specs.Feed.{Feed}
-use Rattle.log_lines.specs.Dimms.{DimmsState, Saying, dimm_parts, dimms_after, dimms_begun, dimms_last, dimms_over, part_text, slot_line}
-use Rattle.log_lines.specs.LogDimm.{dimm_in_log, log_told_after}
+use Rattle.log_lines.specs.Dimms.{DimmsState, Saying, dimm_parts, dimms_after, dimms_begun, dimms_last, dimms_over, heard, listens, part_text, slot_line}
+use Rattle.log_lines.specs.LogDimm.{told_after_if, told_if}
 use Rattle.log_lines.specs.LogFeed.{LogFeedState, log_after, log_last, log_over, log_start, log_text, log_waits}
 use Rattle.log_lines.specs.declared.borders.Borders.{Borders}
 use Rattle.log_lines.specs.declared.log_dimm.ToldInLog.{ToldInLog}
@@ -14,40 +14,42 @@ pub record LogDimmsState : Type 0 where
   pub told : ToldInLog
   pub dimms : DimmsState
 
+-- whether somebody listens to a line: what the kernel calls its DIMMs matters only behind a heading with slots
+abbrev pub listens_to : DimmsState → List ℕ → Bool
+listens_to dimms bytes = listens (heard dimms (slot_line bytes))
+
 -- an input as the DIMMs see it
-abbrev pub log_saying : ToldInLog → LogFeedState → Input → Saying
-log_saying told state (line bytes) = record {
+abbrev pub log_saying : LogDimmsState → Input → Saying
+log_saying state (line bytes) = record {
   slot = slot_line bytes;
-  told = dimm_in_log told bytes;
-  said = log_text state (line bytes);
-  waits = log_waits state bytes;
+  told = told_if (listens_to state.dimms bytes) state.told bytes;
+  said = log_text state.feed (line bytes);
+  waits = log_waits state.feed bytes;
 }
-log_saying told state long = record { slot = None; told = None; said = log_text state long; waits = false }
+log_saying state long = record { slot = None; told = None; said = log_text state.feed long; waits = false }
 
-abbrev pub told_after_input : ToldInLog → Input → ToldInLog
-told_after_input told (line bytes) = log_told_after told bytes
-told_after_input told long = told
-
-abbrev pub log_sayings : ToldInLog → LogFeedState → List Input → List Saying
-log_sayings told state [] = []
-log_sayings told state (input ∷ inputs) =
-    log_saying told state input ∷ log_sayings (told_after_input told input) (log_after state input) inputs
+abbrev pub told_after_input : LogDimmsState → Input → ToldInLog
+told_after_input state (line bytes) = told_after_if (listens_to state.dimms bytes) state.told bytes
+told_after_input state long = state.told
 
 abbrev pub log_dimms_after : LogDimmsState → Input → LogDimmsState
 log_dimms_after state input = record {
   feed = log_after state.feed input;
-  told = told_after_input state.told input;
-  dimms = dimms_after state.dimms (log_saying state.told state.feed input);
+  told = told_after_input state input;
+  dimms = dimms_after state.dimms (log_saying state input);
 }
+
+abbrev pub log_sayings : LogDimmsState → List Input → List Saying
+log_sayings state [] = []
+log_sayings state (input ∷ inputs) = log_saying state input ∷ log_sayings (log_dimms_after state input) inputs
 
 abbrev pub log_dimms_last : LogDimmsState → List Input → Bool → List ℕ
 log_dimms_last state inputs cut =
-    dimms_last (dimms_over state.dimms (log_sayings state.told state.feed inputs))
-    (log_last (log_over state.feed inputs) cut)
+    dimms_last (dimms_over state.dimms (log_sayings state inputs)) (log_last (log_over state.feed inputs) cut)
 
 abbrev pub log_dimms_makes : LogDimmsState → Feed
 log_dimms_makes state = record {
-  texts = λ inputs. map part_text (dimm_parts state.dimms (log_sayings state.told state.feed inputs));
+  texts = λ inputs. map part_text (dimm_parts state.dimms (log_sayings state inputs));
   last = log_dimms_last state;
 }
 

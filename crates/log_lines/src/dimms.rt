@@ -3,9 +3,9 @@
 ghost use Rattle.std.specs.Prelude.{◌≡◌, ◌++◌, ◌∷◌, [], IfOk, OnOk, length, nat_lt};
 ghost use Rattle.std.specs.Option.{option_copied, option_map};
 ghost use Rattle.std.specs.Str.{bytes_eq};
-ghost use Rattle.log_lines.specs.Dimms.{after_part, block_at, dimms_begun, dimms_last, heard, in_heading, stays_held, listens};
+ghost use Rattle.log_lines.specs.Dimms.{after_part, block_at, dimms_begun, dimms_last, heard, in_heading, is_alone, listens};
 ghost use Rattle.log_lines.specs.Dimms.{part_passed, part_text, range_line, range_text, range_told, ranged_with, slot_called};
-ghost use Rattle.log_lines.specs.Dimms.{slot_in, slot_line, takes_range, whole_part, with_whole, with_slot};
+ghost use Rattle.log_lines.specs.Dimms.{slot_in, slot_line, stays_held, takes_range, whole_part, with_whole, with_slot};
 ghost use Rattle.log_lines.specs.Slots.{SlotLine};
 
 use crate::comments::exceeds_call;
@@ -171,6 +171,15 @@ impl Dimms {
         waits && self.listens() && said.len() <= MOST_HELD
     }
 
+    // Returns whether a line's text is printed alone: no text waits, no line told a DIMM, and the text
+    // doesn't wait.
+    fn is_alone(&self, told: Option<(u64, &[u8])>, said: &[u8], waits: bool) -> bool
+        ensures { result ≡ is_alone self.now
+            (option_map (λ told. (told.0, told.1.now)) told.entry) said.now waits }
+    {
+        self.held.is_empty() && told.is_none() && !self.stays_held(said, waits)
+    }
+
     // Appends the range of what a line told, the text that waits, and the text of the line, unless it
     // waits from now on.
     pub(crate) fn pass(
@@ -188,6 +197,10 @@ impl Dimms {
             ≡ after_part self.old (option_map (λ told. (told.0, told.1.now)) told.entry) said.now
             waits) }
     {
+        if self.is_alone(told, said, waits) {
+            text.extend_from_slice(said)?;
+            return Ok(());
+        }
         let range = self.range_told(told);
         let held = self.stays_held(said, waits);
         let shown: &[u8] = if held { &[] } else { said };

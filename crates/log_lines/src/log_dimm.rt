@@ -6,7 +6,8 @@ ghost use Rattle.block_lines.specs.LogLines.{without_return};
 ghost use Rattle.log_lines.specs.LogDimm.{address_at, some_address, said_dimm, begins_error, counted_text, dimm_in_log, edac_dimm};
 ghost use Rattle.log_lines.specs.LogDimm.{kept_address, last_place, page_address, paged_dimm};
 ghost use Rattle.log_lines.specs.LogDimm.{place_after, report_dimm, own_words, slot_named};
-ghost use Rattle.log_lines.specs.LogDimm.{log_told_after, placed, trimmed, unless_over, whole_after, whole_dimm, words_after, words_dimm};
+ghost use Rattle.log_lines.specs.LogDimm.{log_told_after, placed, told_after_if, told_if, trimmed, unless_over, whole_after, whole_dimm};
+ghost use Rattle.log_lines.specs.LogDimm.{words_after, words_dimm};
 
 use bank_lines::{cut, is_own, mark_place, value_after, without_spaces};
 use event_lines::label_told;
@@ -35,12 +36,21 @@ impl ToldInLog {
 
     // Takes a line, and returns the address of an error and what the kernel calls the DIMM, if the
     // line says both, or ends what a report says of both.
-    pub(crate) fn take<'a>(&mut self, line: &'a [u8]) -> Option<(u64, &'a [u8])>
+    fn take<'a>(&mut self, line: &'a [u8]) -> Option<(u64, &'a [u8])>
         ensures told { option_map (λ told. (told.0, told.1.now)) result
             ≡ dimm_in_log self.old line.now }
         ensures after { self.new ≡ log_told_after self.old line.now }
     {
         self.take_whole(whole_line(line))
+    }
+
+    // Takes a line as `take` does if somebody listens, and otherwise returns `None`.
+    pub(crate) fn take_if<'a>(&mut self, listening: bool, line: &'a [u8]) -> Option<(u64, &'a [u8])>
+        ensures told { option_map (λ told. (told.0, told.1.now)) result
+            ≡ told_if listening self.old line.now }
+        ensures after { self.new ≡ told_after_if listening self.old line.now }
+    {
+        if listening { self.take(line) } else { None }
     }
 
     // Takes a line without its carriage return.

@@ -58,11 +58,12 @@ impl LogWithDimms {
     fn take_line(&mut self, alloc: Global, bytes: &[u8], text: &mut Vec<u8>) -> Result<(), NoMemory>
         requires { self.old.feed.taken < MOST_INPUTS }
         ensures text { OnOk result (text.new.items ≡ text.old.items
-            ++ part_text (part_at self.old.dimms (log_saying self.old.told self.old.feed (line bytes.now)))) }
+            ++ part_text (part_at self.old.dimms (log_saying self.old (line bytes.now)))) }
         ensures after { OnOk result (self.new ≡ log_dimms_after self.old (line bytes.now)) }
     {
         self.dimms.hear(alloc, bytes)?;
-        let told = self.told.take(bytes);
+        let listening = self.dimms.listens();
+        let told = self.told.take_if(listening, bytes);
         let mut said = Vec::new(alloc);
         let waits = self.feed.take_line(alloc, bytes, &mut said)?;
         self.dimms.pass(alloc, told, &said, waits, text)
@@ -72,7 +73,7 @@ impl LogWithDimms {
     fn take_long(&mut self, alloc: Global, text: &mut Vec<u8>) -> Result<(), NoMemory>
         requires { self.old.feed.taken < MOST_INPUTS }
         ensures text { OnOk result (text.new.items ≡ text.old.items
-            ++ part_text (part_at self.old.dimms (log_saying self.old.told self.old.feed long))) }
+            ++ part_text (part_at self.old.dimms (log_saying self.old long))) }
         ensures after { OnOk result (self.new ≡ log_dimms_after self.old long) }
     {
         self.dimms.end_heading();

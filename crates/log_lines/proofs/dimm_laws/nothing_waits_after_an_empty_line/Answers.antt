@@ -14,4 +14,4 @@ pub returns-clause-log : goal.returns-clause-log
 returns-clause-log c = λ state few. log_released state few
 
 pub returns-clause-log_keeps : goal.returns-clause-log_keeps
-returns-clause-log_keeps c = λ state input few. held_after state.dimms (log_saying state.told state.feed input) few
+returns-clause-log_keeps c = λ state input few. held_after state.dimms (log_saying state input) few
