@@ -210,7 +210,7 @@ def crash(it, left, journal, start, nth):
     if left == "bert":
         # Its name is the boot that finds it.
         it.wanted[boot + 1, "bert"] += 1
-    more = [now - then for now, then in zip(saved_files(it), before)]
+    more = [max(now - then, 0) for now, then in zip(saved_files(it), before)]
     is_so = (more[0] > 0, more[1] > 0) == (left == "saved", left == "record")
     yield f"systemd-pstore keeps {more[0]} logs and {more[1]} records", is_so
     yield it.agrees(f"{left}-{journal}-{start}: what the machine died of is counted once, under its boot")
